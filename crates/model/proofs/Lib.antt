@@ -1,0 +1,9 @@
+pub mod Bools
+pub mod Fill
+pub mod Octa
+pub mod Memory
+pub mod Plan
+pub mod Runs
+pub mod Lists
+pub mod Numbers
+pub mod Good

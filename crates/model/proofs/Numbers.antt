@@ -1,0 +1,42 @@
+-- The numbers of the replies.
+use Prim.Native.Nat.{ℕ, _≤_}
+use mathlib.Core.Path.{_≡_, refl}
+use mathlib.Core.Bool.{Bool, true}
+use native.Mathlib.Omega.{arith}
+use lib.Dec.{eqb}
+use borrow.Author.Tests.{eqb-true}
+use Rattle.model.specs.Numbers.{numberOf, replyOf, Numbered}
+use Rattle.model.specs.declared.Reply.{Reply}
+use Rattle.model.specs.declared.Reply.the-variants.{Done, NotAdmissible, WindowRule, NoArm, NamedTrap, NoSpecial, Missing, PutUnknown, PutPrivileged, PutIllegal, PutThreshold, PutStatus, Misplaced, SaveLocal, SavedThreshold, SavedStatus, SavedCount, SyncPrivileged, SyncIllegal, NotLoaded, Trapped}
+use Rattle.model.proofs.Bools.{each, at-each}
+
+there : (r : Reply) → replyOf (numberOf r) ≡ r
+unfolding numberOf replyOf
+there Done = refl
+there NotAdmissible = refl
+there WindowRule = refl
+there NoArm = refl
+there NamedTrap = refl
+there NoSpecial = refl
+there Missing = refl
+there PutUnknown = refl
+there PutPrivileged = refl
+there PutIllegal = refl
+there PutThreshold = refl
+there PutStatus = refl
+there Misplaced = refl
+there SaveLocal = refl
+there SavedThreshold = refl
+there SavedStatus = refl
+there SavedCount = refl
+there SyncPrivileged = refl
+there SyncIllegal = refl
+there NotLoaded = refl
+there Trapped = refl
+
+all : each 21 (λ n. eqb (numberOf (replyOf n)) n) ≡ true
+unfolding each numberOf replyOf
+all = refl
+
+pub numbered : Numbered
+numbered = record { there = there; below = λ n l. eqb-true (numberOf (replyOf n)) n (at-each 21 (λ k. eqb (numberOf (replyOf k)) k) all n (omega arith)) }

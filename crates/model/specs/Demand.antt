@@ -1,0 +1,103 @@
+-- Theorem 5, demand 3: what a caller keeps below the hole is private to it and comes back, whatever the list after the call does
+-- that needs no octabyte of the call's frame. One theorem about the whole list, over `stepOf` and `exceptionOf`.
+use Prim.Native.Nat.{ℕ, _+_, _*_, _%_, _^_, _≤_, _<_}
+use mathlib.Core.Path.{_≡_}
+use mathlib.Core.List.{List}
+use lib.ListN.{length, getD}
+use Rattle.model.specs.Octa.{octa}
+use Rattle.model.specs.Memory.{Window, one}
+use Rattle.model.specs.Plan.{Outcome, All, Off}
+use Rattle.model.specs.Lists.{Ran, runs, runNeeds, runWiderNeeds}
+use Rattle.model.specs.Registers.{rO, rG, stackStart, sp, reg, Sized, Words}
+use Rattle.model.specs.Frames.{hole}
+use Rattle.model.specs.Step.{Item, stepOf, mmix}
+use Rattle.model.specs.declared.State.{State}
+
+-- the octabytes of a run of n from address a
+pub record Within (a n : ℕ) (o : ℕ) : Type 0 where
+  pub place : ℕ
+  pub place-below : place < n
+  pub named-by : o ≡ octa (a + 8 * place)
+
+-- "a call by PUSHJ, PUSHJB, PUSHGO or PUSHGOI"
+pub data Call : Type 0 where
+  PUSHJ : Call
+  PUSHJB : Call
+  PUSHGO : Call
+  PUSHGOI : Call
+
+abbrev pub opcodeOf : Call → ℕ
+opcodeOf PUSHJ = 0xF2
+opcodeOf PUSHJB = 0xF3
+opcodeOf PUSHGO = 0xBE
+opcodeOf PUSHGOI = 0xBF
+
+-- "states equal outside $0 to $(H−1)"
+pub record Alike (h : ℕ) (s t : State) : Type 0 where
+  pub special-same : s .special ≡ t .special
+  pub pc-same : s .pc ≡ t .pc
+  pub halt-same : s .halt ≡ t .halt
+  pub marks-same : s .marks ≡ t .marks
+  pub rest-same : (i : ℕ) → h ≤ i → reg s i ≡ reg t i
+
+-- equal byte by byte outside the octabytes of F
+pub record SameOutside (F : ℕ → Type 0) (v w : Window) : Type 0 where
+  pub base-same : v .base ≡ w .base
+  pub length-same : length (v .bytes) ≡ length (w .bytes)
+  pub byte-same : (i : ℕ) → Off F (v .base + i) → getD (v .bytes) i 0 ≡ getD (w .bytes) i 0
+
+-- "If rO is then back at its value after the call, a multiple of 8 above 0x6000000000000000 and below 0x8000000000000000, and rG is
+-- at least the hole's number"
+pub record AtPop (h ro : ℕ) (s : State) : Type 0 where
+  pub back : sp s rO ≡ ro
+  pub aligned : ro % 8 ≡ 0
+  pub above : stackStart < ro
+  pub below : ro < 0x8000000000000000
+  pub reach : h ≤ sp s rG
+
+-- "a POP as the next step, whatever its X and YZ, succeeds, and those locals hold exactly what they held before the call"
+pub record GivesBack (h : ℕ) (s : State) (o : Outcome State Window) : Type 0 where
+  pub done : o .reply ≡ 0
+  pub locals : (i : ℕ) → i < h → reg (o .state) i ≡ reg s i
+
+-- the list after a call, its needs, and the POP after it
+abbrev pub after : Outcome State Window → List Item → Ran State Window
+after o is = runs one mmix (o .state) (o .memory) is
+
+abbrev pub afterNeeds : Outcome State Window → List Item → List ℕ
+afterNeeds o is = runNeeds one mmix (o .state) (o .memory) is
+
+abbrev pub afterWiderNeeds : Outcome State Window → List Item → List ℕ
+afterWiderNeeds o is = runWiderNeeds one mmix (o .state) (o .memory) is
+
+abbrev pub popAfter : Ran State Window → ℕ → ℕ → ℕ → Outcome State Window
+popAfter r x y z = stepOf (r .memory) (r .state) 0xF8 x y z
+
+-- what holds of the two runs, a and b their outcomes of the call: "the same answers in the same order, the same registers, PC, halt
+-- code and marks, and the same memory outside those locals"; and the POP in each
+pub record Private (h : ℕ) (s t : State) (a b : Outcome State Window) (is : List Item) : Type 0 where
+  pub call-same : b .reply ≡ a .reply
+  pub answers-same : after a is .answers ≡ after b is .answers
+  pub state-same : after a is .state ≡ after b is .state
+  pub window-same : SameOutside (Within (sp s rO) h) (after a is .memory) (after b is .memory)
+  pub first-back : AtPop h (sp (a .state) rO) (after a is .state) → (x y z : ℕ) → GivesBack h s (popAfter (after a is) x y z)
+  pub second-back : AtPop h (sp (a .state) rO) (after a is .state) → (x y z : ℕ) → GivesBack h t (popAfter (after b is) x y z)
+
+-- the claim, for a reading of the needs: "take every list of steps and exceptions on the same window, refused ones included, that
+-- needs no octabyte of the call's frame"; "two runs that began alike in all but the locals pushed below the hole, with equal call
+-- targets"; "It is enough that the first run's needs keep off the frame"
+abbrev pub Claim : (Outcome State Window → List Item → List ℕ) → Type 0
+Claim needed = (w : Window) (s t : State) (c : Call) (x y z : ℕ) (is : List Item)
+  → Sized s → Sized t → Words s → Words t
+  → Alike (hole s x) s t
+  → stepOf w s (opcodeOf c) x y z .reply ≡ 0
+  → stepOf w s (opcodeOf c) x y z .state .pc ≡ stepOf w t (opcodeOf c) x y z .state .pc
+  → All (Off (Within (sp s rO) (hole s x + 1))) (needed (stepOf w s (opcodeOf c) x y z) is)
+  → Private (hole s x) s t (stepOf w s (opcodeOf c) x y z) (stepOf w t (opcodeOf c) x y z) is
+
+abbrev pub Demand3 : Type 0
+Demand3 = Claim afterNeeds
+
+-- the corollary: needs in the wider reading, all that a refused PUSH or SAVE would store, suffice too
+abbrev pub Demand3Wider : Type 0
+Demand3Wider = Claim afterWiderNeeds

@@ -1,0 +1,26 @@
+-- What must be believed, in the order in which to read it: 01's machine, then what is claimed of it.
+pub mod Fill
+pub mod Octa
+pub mod Registers
+pub mod Memory
+pub mod Plan
+pub mod Opcodes
+pub mod Said
+pub mod Control
+pub mod Frames
+pub mod Contexts
+pub mod System
+pub mod Trips
+pub mod Lists
+pub mod Step
+pub mod Reader
+pub mod Numbers
+-- theorems: statements; proofs/ has the proofs
+pub mod Leaves
+pub mod Keeps
+pub mod Locality
+pub mod Needs
+pub mod Demand
+pub mod Points
+pub mod Parked
+pub mod Departures

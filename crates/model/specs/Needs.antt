@@ -1,0 +1,88 @@
+-- Theorem 4. What a step needs, arm by arm, as 01 says it; and that bytes which an arm does not use are not looked at.
+use Prim.Native.Nat.{ℕ, _+_, _-_, _*_, _/_, _%_, _^_, min}
+use mathlib.Core.Path.{_≡_}
+use mathlib.Core.Bool.{Bool, cond, _&&_}
+use mathlib.Core.List.{List, [], _++_}
+use lib.Dec.{leb, ltb, eqb}
+use Rattle.model.specs.Memory.{Window, Shape, shapeOf, one}
+use Rattle.model.specs.Plan.{ups, clear, missing, look, needs}
+use Rattle.model.specs.Lists.{needsOf}
+use Rattle.model.specs.Registers.{rO, rG, rL, sp, reg}
+use Rattle.model.specs.Opcodes.{Arm, branch, jump, getAddress, go, pushJump, pushGo, pop, put, get, save, unsave, sync, swym, trip, trap, none, armOf}
+use Rattle.model.specs.Frames.{hole, noFrame, misplaced}
+use Rattle.model.specs.Contexts.{extent, below}
+use Rattle.model.specs.Step.{judged, refusing, stepOf, stepNeeds, exception, mmix}
+use Rattle.model.specs.declared.State.{State}
+
+-- a run of n octabytes from a: where all lie inside, these and then what follows; else those that do not
+abbrev pub run : Window → ℕ → ℕ → List ℕ → List ℕ
+run w a n rest = cond (clear (refusing (shapeOf w)) a n) (ups a n ++ rest) (missing (refusing (shapeOf w)) a n)
+
+-- H, as POP reads it
+abbrev pub holeBelow : Window → State → ℕ
+holeBelow w s = look one w (sp s rO - 8) % 256
+
+-- "POP needs the one below rO, then $i for each i below both H and rG; with no frame, none"
+unfoldable pub popNeeds : Window → State → List ℕ
+popNeeds w s =
+    cond (noFrame s) []
+    (cond (misplaced s) []
+    (run w (sp s rO - 8) 1 (run w (sp s rO - 8 * (holeBelow w s + 1)) (min (holeBelow w s) (sp s rG)) [])))
+
+-- "UNSAVE needs the packed one; if that passes, the local count; if that passes, the rest"
+unfoldable pub unsaveNeedsRest : Window → ℕ → ℕ → ℕ → List ℕ
+unsaveNeedsRest w p g l = cond (leb l g) (run w (below p (l + 269 - g)) (l + 270 - g) []) []
+
+unfoldable pub unsaveNeedsCount : Window → ℕ → ℕ → ℕ → List ℕ
+unsaveNeedsCount w p g a =
+    cond (leb 32 g && leb g 255)
+      (cond (leb a 0x3FFFF) (run w (below p (269 - g)) 1 (unsaveNeedsRest w p g (look one w (below p (269 - g))))) [])
+      []
+
+unfoldable pub unsaveNeeds : Window → ℕ → List ℕ
+unsaveNeeds w p = run w p 1 (unsaveNeedsCount w p (look one w p / 2 ^ 56) (look one w p % 2 ^ 56))
+
+-- "PUSH needs its frame, SAVE all that it stores. .. Other steps and exceptions need none."
+unfoldable pub armNeeds : Window → State → Arm → ℕ → ℕ → ℕ → List ℕ
+armNeeds w s (branch c d) x y z = []
+armNeeds w s (jump d) x y z = []
+armNeeds w s (getAddress d) x y z = []
+armNeeds w s (go o) x y z = []
+armNeeds w s (pushJump d) x y z = run w (sp s rO) (hole s x + 1) []
+armNeeds w s (pushGo o) x y z = run w (sp s rO) (hole s x + 1) []
+armNeeds w s pop x y z = popNeeds w s
+armNeeds w s (put o) x y z = []
+armNeeds w s get x y z = []
+armNeeds w s save x y z = cond (ltb x (sp s rG)) [] (run w (sp s rO) (extent s) [])
+armNeeds w s unsave x y z = unsaveNeeds w (reg s z)
+armNeeds w s sync x y z = []
+armNeeds w s swym x y z = []
+armNeeds w s trip x y z = []
+armNeeds w s trap x y z = []
+armNeeds w s none x y z = []
+
+-- two ways to write an instruction that come to the same
+pub record SameWritten (w : Window) (s : State) (op x y z x' y' z' : ℕ) : Type 0 where
+  pub outcome-same : stepOf w s op x y z ≡ stepOf w s op x' y' z'
+  pub needs-same : stepNeeds w s op x y z ≡ stepNeeds w s op x' y' z'
+
+pub record NeedsAre : Type 0 where
+  -- what 1 to 5 refuse needs nothing
+  pub by-step : (w : Window) (s : State) (op x y z : ℕ)
+    → stepNeeds w s op x y z ≡ cond (eqb (judged s (shapeOf w) (armOf op) x y z) 0) (armNeeds w s (armOf op) x y z) []
+  pub by-exception : (w : Window) (s : State) (f op x y z u v : ℕ) → needsOf one mmix s w (exception f op x y z u v) ≡ []
+  -- a PUSH that is done: rO + 8i for i ≤ H; a SAVE that is done: all rL + 270 − rG
+  pub push-done : (w : Window) (s : State) (x y z : ℕ) → stepOf w s 0xF2 x y z .reply ≡ 0 → stepNeeds w s 0xF2 x y z ≡ ups (sp s rO) (hole s x + 1)
+  pub push-back-done : (w : Window) (s : State) (x y z : ℕ) → stepOf w s 0xF3 x y z .reply ≡ 0 → stepNeeds w s 0xF3 x y z ≡ ups (sp s rO) (hole s x + 1)
+  pub push-go-done : (w : Window) (s : State) (x y z : ℕ) → stepOf w s 0xBE x y z .reply ≡ 0 → stepNeeds w s 0xBE x y z ≡ ups (sp s rO) (hole s x + 1)
+  pub push-go-immediate-done : (w : Window) (s : State) (x y z : ℕ) → stepOf w s 0xBF x y z .reply ≡ 0 → stepNeeds w s 0xBF x y z ≡ ups (sp s rO) (hole s x + 1)
+  pub save-done : (w : Window) (s : State) (x y z : ℕ) → stepOf w s 0xFA x y z .reply ≡ 0 → stepNeeds w s 0xFA x y z ≡ ups (sp s rO) (sp s rL + 270 - sp s rG)
+
+-- "Bytes that an arm doesn't use are not looked at"
+pub record BytesUnused : Type 0 where
+  pub save-yz : (w : Window) (s : State) (x y z y' z' : ℕ) → SameWritten w s 0xFA x y z x y' z'
+  pub unsave-xy : (w : Window) (s : State) (x y z x' y' : ℕ) → SameWritten w s 0xFB x y z x' y' z
+  pub put-y : (w : Window) (s : State) (x y z y' : ℕ) → SameWritten w s 0xF6 x y z x y' z
+  pub puti-y : (w : Window) (s : State) (x y z y' : ℕ) → SameWritten w s 0xF7 x y z x y' z
+  pub get-y : (w : Window) (s : State) (x y z y' : ℕ) → SameWritten w s 0xFE x y z x y' z
+  pub swym-xyz : (w : Window) (s : State) (x y z x' y' z' : ℕ) → SameWritten w s 0xFD x y z x' y' z'

@@ -1,0 +1,40 @@
+-- 01, 'Replies': "For each answer that is an enum, a definition gives this paper's number and values for every case of that enum."
+use Prim.Native.Nat.{ℕ, _≤_}
+use mathlib.Core.Path.{_≡_}
+use mathlib.Core.List.{List, [], _∷_}
+use lib.ListN.{getD}
+use Rattle.model.specs.declared.Reply.{Reply}
+use Rattle.model.specs.declared.Reply.the-variants.{Done, NotAdmissible, WindowRule, NoArm, NamedTrap, NoSpecial, Missing, PutUnknown, PutPrivileged, PutIllegal, PutThreshold, PutStatus, Misplaced, SaveLocal, SavedThreshold, SavedStatus, SavedCount, SyncPrivileged, SyncIllegal, NotLoaded, Trapped}
+
+unfoldable pub numberOf : Reply → ℕ
+numberOf Done = 0
+numberOf NotAdmissible = 1
+numberOf WindowRule = 2
+numberOf NoArm = 3
+numberOf NamedTrap = 4
+numberOf NoSpecial = 5
+numberOf Missing = 6
+numberOf PutUnknown = 7
+numberOf PutPrivileged = 8
+numberOf PutIllegal = 9
+numberOf PutThreshold = 10
+numberOf PutStatus = 11
+numberOf Misplaced = 12
+numberOf SaveLocal = 13
+numberOf SavedThreshold = 14
+numberOf SavedStatus = 15
+numberOf SavedCount = 16
+numberOf SyncPrivileged = 17
+numberOf SyncIllegal = 18
+numberOf NotLoaded = 19
+numberOf Trapped = 20
+
+unfoldable pub replyOf : ℕ → Reply
+replyOf n = getD (Done ∷ NotAdmissible ∷ WindowRule ∷ NoArm ∷ NamedTrap ∷ NoSpecial ∷ Missing
+    ∷ PutUnknown ∷ PutPrivileged ∷ PutIllegal ∷ PutThreshold ∷ PutStatus ∷ Misplaced
+    ∷ SaveLocal ∷ SavedThreshold ∷ SavedStatus ∷ SavedCount ∷ SyncPrivileged ∷ SyncIllegal ∷ NotLoaded ∷ Trapped ∷ []) n Done
+
+-- the two are inverse on 0 to 20
+pub record Numbered : Type 0 where
+  pub reply-number : (r : Reply) → replyOf (numberOf r) ≡ r
+  pub number-reply : (n : ℕ) → n ≤ 20 → numberOf (replyOf n) ≡ n

@@ -1,0 +1,180 @@
+-- 01, 'State and window': the state, its registers by name, what is admissible, the fresh state; and the writes that steps are made of.
+-- Each write leaves what it does not name as it was.
+use Prim.Native.Nat.{ℕ, _+_, _%_, _^_, min, max, _<_, _≤_}
+use mathlib.Core.Path.{_≡_}
+use mathlib.Core.Bool.{Bool, cond, _&&_}
+use mathlib.Core.List.{List}
+use lib.Dec.{leb, ltb}
+use lib.ListN.{length, getD, set, replicate}
+use Rattle.model.specs.Fill.{over}
+use Rattle.model.specs.declared.State.{State}
+
+-- ---- the special registers' numbers (Fascicle 1, table 2; registers.rs, `SpecialReg`)
+
+abbrev pub rB : ℕ
+rB = 0
+abbrev pub rD : ℕ
+rD = 1
+abbrev pub rE : ℕ
+rE = 2
+abbrev pub rH : ℕ
+rH = 3
+abbrev pub rJ : ℕ
+rJ = 4
+abbrev pub rM : ℕ
+rM = 5
+abbrev pub rR : ℕ
+rR = 6
+abbrev pub rBB : ℕ
+rBB = 7
+abbrev pub rC : ℕ
+rC = 8
+abbrev pub rN : ℕ
+rN = 9
+abbrev pub rO : ℕ
+rO = 10
+abbrev pub rS : ℕ
+rS = 11
+abbrev pub rI : ℕ
+rI = 12
+abbrev pub rT : ℕ
+rT = 13
+abbrev pub rTT : ℕ
+rTT = 14
+abbrev pub rK : ℕ
+rK = 15
+abbrev pub rQ : ℕ
+rQ = 16
+abbrev pub rU : ℕ
+rU = 17
+abbrev pub rV : ℕ
+rV = 18
+abbrev pub rG : ℕ
+rG = 19
+abbrev pub rL : ℕ
+rL = 20
+abbrev pub rA : ℕ
+rA = 21
+abbrev pub rF : ℕ
+rF = 22
+abbrev pub rP : ℕ
+rP = 23
+abbrev pub rW : ℕ
+rW = 24
+abbrev pub rX : ℕ
+rX = 25
+abbrev pub rY : ℕ
+rY = 26
+abbrev pub rZ : ℕ
+rZ = 27
+abbrev pub rWW : ℕ
+rWW = 28
+abbrev pub rXX : ℕ
+rXX = 29
+abbrev pub rYY : ℕ
+rYY = 30
+abbrev pub rZZ : ℕ
+rZZ = 31
+
+-- where the register stack starts
+abbrev pub stackStart : ℕ
+stackStart = 0x6000000000000000
+
+-- ---- reading a state
+
+-- special register k
+abbrev pub sp : State → ℕ → ℕ
+sp s k = getD (s .special) k 0
+
+-- $k
+abbrev pub reg : State → ℕ → ℕ
+reg s k = getD (s .general) k 0
+
+-- @ + 4
+abbrev pub following : State → ℕ
+following s = (s .pc + 4) % 2 ^ 64
+
+-- ---- what a state is
+
+-- "A state has 256 general registers, 32 special ones"
+pub record Sized (s : State) : Type 0 where
+  pub generals : length (s .general) ≡ 256
+  pub specials : length (s .special) ≡ 32
+
+-- each register, PC, halt code and marks is an octabyte
+pub record Words (s : State) : Type 0 where
+  pub general-word : (k : ℕ) → reg s k < 2 ^ 64
+  pub special-word : (k : ℕ) → sp s k < 2 ^ 64
+  pub pc-word : s .pc < 2 ^ 64
+  pub halt-word : s .halt < 2 ^ 64
+  pub marks-word : s .marks < 2 ^ 64
+
+-- "It is admissible when 32 ≤ rG ≤ 255, rL ≤ rG, rA ≤ 0x3FFFF and no mark bit above 8 is set"
+unfoldable pub admissible : State → Bool
+admissible s = leb 32 (sp s rG) && (leb (sp s rG) 255 && (leb (sp s rL) (sp s rG) && (leb (sp s rA) 0x3FFFF && ltb (s .marks) (2 ^ 9))))
+
+-- "Registers from rL to rG − 1 are marginal": the state in which they are all zero
+pub record MarginalZero (s : State) : Type 0 where
+  pub zero-at : (i : ℕ) → sp s rL ≤ i → i < sp s rG → reg s i ≡ 0
+
+-- "The fresh state is that of `initialize`: rG 32, rL 0, rO and rS 0x6000000000000000, rN 2009, rK, rT, rTT, rV as written there,
+-- all else 0"
+unfoldable pub fresh : State
+fresh = record {
+    general = replicate 256 0;
+    special = set (set (set (set (set (set (set (set (replicate 32 0)
+      rN 2009) rG 32) rO stackStart) rS stackStart) rK 0xFFFFFFFFFFFFFFFF) rT 0x8000000500000000) rTT 0x8000000600000000) rV 0x369C200400000000;
+    pc = 0;
+    halt = 0;
+    marks = 0 }
+
+-- ---- writes
+
+-- PC becomes a
+unfoldable pub goes : State → ℕ → State
+goes s a = record { general = s .general; special = s .special; pc = a; halt = s .halt; marks = s .marks }
+
+-- "any step not said to go elsewhere, goes to @ + 4"
+abbrev pub next : State → State
+next s = goes s (following s)
+
+-- the halt code becomes 1
+unfoldable pub halted : State → State
+halted s = record { general = s .general; special = s .special; pc = s .pc; halt = 1; marks = s .marks }
+
+-- special register k becomes v
+unfoldable pub withSpecial : State → ℕ → ℕ → State
+withSpecial s k v = record { general = s .general; special = set (s .special) k v; pc = s .pc; halt = s .halt; marks = s .marks }
+
+-- $x becomes v, and nothing is claimed
+unfoldable pub stored : State → ℕ → ℕ → State
+stored s x v = record { general = set (s .general) x v; special = s .special; pc = s .pc; halt = s .halt; marks = s .marks }
+
+-- $a to $(b − 1) become 0
+unfoldable pub cleared : State → ℕ → ℕ → State
+cleared s a b = record { general = over (λ k. 0) a b (s .general); special = s .special; pc = s .pc; halt = s .halt; marks = s .marks }
+
+-- rL ≤ x < rG
+abbrev pub isMarginal : State → ℕ → Bool
+isMarginal s x = leb (sp s rL) x && ltb x (sp s rG)
+
+-- "Writing $X with rL ≤ X < rG clears $rL to $X and makes rL X + 1 .."
+unfoldable pub claimLocal : State → ℕ → State
+claimLocal s x = cond (isMarginal s x) (withSpecial (cleared s (sp s rL) (x + 1)) rL (x + 1)) s
+
+-- ".. then stores"
+unfoldable pub setRegister : State → ℕ → ℕ → State
+setRegister s x v = stored (claimLocal s x) x v
+
+-- "PUT rL sets min(value, rL) and clears what is dropped"
+unfoldable pub putLocals : State → ℕ → State
+putLocals s v = withSpecial (cleared s (min v (sp s rL)) (sp s rL)) rL (min v (sp s rL))
+
+-- "PUT rG clears every register from the lower threshold to the higher − 1"
+unfoldable pub putGlobals : State → ℕ → State
+putGlobals s v = withSpecial (cleared s (min v (sp s rG)) (max v (sp s rG))) rG v
+
+-- Departure from Knuth: whatever is pushed is in memory at once, so that rS, the end of what is in memory, is rO.
+-- (Fascicle 1 keeps the topmost registers in the processor and lets rS lag behind.)
+unfoldable pub spilled : State → State
+spilled s = withSpecial s rS (sp s rO)

@@ -1,0 +1,108 @@
+-- The entries' own definitions, `stepOf` and `exceptionOf`: 01's steps under 01's order of judging; and lists of them.
+use Prim.Native.Nat.{ℕ, _+_, _*_, _%_, _^_}
+use mathlib.Core.Bool.{Bool, cond, _&&_, _||_}
+use mathlib.Core.List.{List, [], _∷_}
+use lib.Dec.{leb, ltb, eqb}
+use Rattle.model.specs.Memory.{Window, Shape, shapeOf, ruled, has, one}
+use Rattle.model.specs.Plan.{Plan, Outcome, perform, needs}
+use Rattle.model.specs.Lists.{Machine}
+use Rattle.model.specs.Registers.{rJ, sp, reg, admissible, goes, following, next, setRegister}
+use Rattle.model.specs.Opcodes.{Arm, branch, jump, getAddress, go, pushJump, pushGo, pop, put, get, save, unsave, sync, swym, trip, trap, none, armOf}
+use Rattle.model.specs.Said.{Said, say, tell}
+use Rattle.model.specs.Control.{near, far, yzOf, xyzOf, sumOf, operandOf, holds}
+use Rattle.model.specs.Frames.{hole, pushFrame, popFrame}
+use Rattle.model.specs.Contexts.{saveContext, unsaveContext}
+use Rattle.model.specs.System.{putSpecial, got, syncOf}
+use Rattle.model.specs.Trips.{wordOf, tripTo, trapOf, raised}
+use Rattle.model.specs.declared.State.{State}
+
+-- ---- judging
+
+-- the Y that `TrapCode::from_u8` names
+abbrev pub isNamed : ℕ → Bool
+isNamed y = leb y 10 || (leb 0x80 y && leb y 0x82)
+
+-- 3: "opcode with no arm in the two dispatch files, or RESUME (0xF9)". 4: "TRAP with X = 0 and a Y that `from_u8` names".
+-- 5: "GET with Z above 31"
+unfoldable pub refusalOf : Arm → ℕ → ℕ → ℕ → ℕ
+refusalOf none x y z = 3
+refusalOf trap x y z = cond (eqb x 0 && isNamed y) 4 0
+refusalOf get x y z = cond (ltb 31 z) 5 0
+refusalOf (branch c w) x y z = 0
+refusalOf (jump w) x y z = 0
+refusalOf (getAddress w) x y z = 0
+refusalOf (go o) x y z = 0
+refusalOf (pushJump w) x y z = 0
+refusalOf (pushGo o) x y z = 0
+refusalOf pop x y z = 0
+refusalOf (put o) x y z = 0
+refusalOf save x y z = 0
+refusalOf unsave x y z = 0
+refusalOf sync x y z = 0
+refusalOf swym x y z = 0
+refusalOf trip x y z = 0
+
+-- "Order: 1, 2, then 3 to 5, then the instruction's own"
+unfoldable pub judged : State → Shape → Arm → ℕ → ℕ → ℕ → ℕ
+judged s w a x y z = cond (admissible s) (cond (ruled w) (refusalOf a x y z) 2) 1
+
+-- 6: "a needed octabyte lies outside the window"
+unfoldable pub refusing : Shape → ℕ → ℕ
+refusing w a = cond (has w a) 0 6
+
+-- ---- one step
+
+-- the instruction's own, arm by arm
+unfoldable pub planOf : State → Arm → ℕ → ℕ → ℕ → ℕ → Plan State
+planOf s (branch c w) op x y z = tell (say 0 (cond (holds c (reg s x)) (goes s (near s w y z)) (next s)))
+planOf s (jump w) op x y z = tell (say 0 (goes s (far s w x y z)))
+-- "GETA puts such a target in $X; GO puts @ + 4 there and goes to $Y + $Z or $Y + Z, read first"
+planOf s (getAddress w) op x y z = tell (say 0 (next (setRegister s x (near s w y z))))
+planOf s (go o) op x y z = tell (say 0 (goes (setRegister s x (following s)) (sumOf s o y z)))
+-- "PUSHGO takes its target before the push"
+planOf s (pushJump w) op x y z = pushFrame s (hole s x) (near s w y z)
+planOf s (pushGo o) op x y z = pushFrame s (hole s x) (sumOf s o y z)
+-- "PC is rJ + 4 × YZ"
+planOf s pop op x y z = popFrame s x ((sp s rJ + 4 * yzOf y z) % 2 ^ 64)
+-- "PUT's value is $Z, PUTI's Z"
+planOf s (put o) op x y z = tell (putSpecial s x (operandOf s o z))
+planOf s get op x y z = tell (say 0 (next (got s x z)))
+planOf s save op x y z = saveContext s x
+planOf s unsave op x y z = unsaveContext s (reg s z)
+planOf s sync op x y z = tell (syncOf s (xyzOf x y z))
+planOf s swym op x y z = tell (say 0 (next s))
+-- "TRIP's vector is 0; the operands of TRIP and TRAP are $Y and $Z from before"
+planOf s trip op x y z = tell (tripTo s 0 (wordOf op x y z) (reg s y) (reg s z))
+planOf s trap op x y z = tell (trapOf s (wordOf op x y z) (reg s y) (reg s z))
+planOf s none op x y z = tell (say 3 s)
+
+unfoldable pub stepPlan : State → Shape → ℕ → ℕ → ℕ → ℕ → Plan State
+stepPlan s w op x y z = cond (eqb (judged s w (armOf op) x y z) 0) (planOf s (armOf op) op x y z) (tell (say (judged s w (armOf op) x y z) s))
+
+-- THE step: reply, state and window after it
+unfoldable pub stepOf : Window → State → ℕ → ℕ → ℕ → ℕ → Outcome State Window
+stepOf w s op x y z = perform one (refusing (shapeOf w)) s (stepPlan s (shapeOf w) op x y z) w
+
+-- the octabytes that it needs
+unfoldable pub stepNeeds : Window → State → ℕ → ℕ → ℕ → ℕ → List ℕ
+stepNeeds w s op x y z = needs one (refusing (shapeOf w)) (stepPlan s (shapeOf w) op x y z) w
+
+-- ---- one exception
+
+-- THE exception: "a byte of flags, op, X, Y, Z and two operands come in; this entry judges 1, then 19"
+unfoldable pub exceptionOf : State → ℕ → ℕ → ℕ → ℕ → ℕ → ℕ → ℕ → Said
+exceptionOf s f op x y z u v = cond (admissible s) (raised s f (wordOf op x y z) u v) (say 1 s)
+
+-- ---- lists
+
+-- "The list may hold steps with any opcode, X, Y and Z, and exceptions with any arguments"
+pub data Item : Type 0 where
+  step : ℕ → ℕ → ℕ → ℕ → Item
+  exception : ℕ → ℕ → ℕ → ℕ → ℕ → ℕ → ℕ → Item
+
+unfoldable pub itemPlan : State → Shape → Item → Plan State
+itemPlan s w (step op x y z) = stepPlan s w op x y z
+itemPlan s w (exception f op x y z u v) = tell (exceptionOf s f op x y z u v)
+
+unfoldable pub mmix : Machine State Item Shape
+mmix = record { judge = λ s w i. refusing w; plan = itemPlan }

@@ -1,0 +1,49 @@
+-- 01, 'Steps', PUT, GET and SYNC (registers.rs, `put_special`; system.rs).
+use Prim.Native.Nat.{ℕ}
+use mathlib.Core.Bool.{Bool, false, cond, _||_}
+use mathlib.Core.List.{List, [], _∷_}
+use lib.Dec.{leb, ltb, eqb}
+use Rattle.model.specs.Said.{Said, say, refuse}
+use Rattle.model.specs.Registers.{rC, rN, rO, rS, rI, rT, rTT, rK, rQ, rU, rV, rG, rL, rA, sp, next, withSpecial, claimLocal, setRegister, putLocals, putGlobals}
+use Rattle.model.specs.declared.State.{State}
+
+abbrev isOneOf : List ℕ → ℕ → Bool
+isOneOf [] k = false
+isOneOf (x ∷ xs) k = eqb k x || isOneOf xs k
+
+-- 8: "PUT rC, rI, rK, rQ, rT, rU, rV, rTT"
+abbrev pub isPrivileged : ℕ → Bool
+isPrivileged x = isOneOf (rC ∷ rI ∷ rK ∷ rQ ∷ rT ∷ rU ∷ rV ∷ rTT ∷ []) x
+
+-- 9: "PUT rN, rO, rS"
+abbrev pub isIllegal : ℕ → Bool
+isIllegal x = isOneOf (rN ∷ rO ∷ rS ∷ []) x
+
+-- 7: "PUT above 31". 10: "PUT rG below 32, below rL or above 255". 11: "PUT rA above 0x3FFFF"
+unfoldable pub putRefusal : State → ℕ → ℕ → ℕ
+putRefusal s x v =
+    cond (ltb 31 x) 7
+    (cond (isPrivileged x) 8
+    (cond (isIllegal x) 9
+    (cond (eqb x rG) (cond (ltb v 32 || (ltb v (sp s rL) || ltb 255 v)) 10 0)
+    (cond (eqb x rA) (cond (ltb 0x3FFFF v) 11 0) 0))))
+
+-- "other specials are just set"
+unfoldable pub putState : State → ℕ → ℕ → State
+putState s x v = cond (eqb x rL) (putLocals s v) (cond (eqb x rG) (putGlobals s v) (withSpecial s x v))
+
+unfoldable pub putSpecial : State → ℕ → ℕ → Said
+putSpecial s x v = cond (eqb (putRefusal s x v) 0) (say 0 (next (putState s x v))) (refuse (putRefusal s x v) s)
+
+-- "GET puts special Z in $X"
+unfoldable pub got : State → ℕ → ℕ → State
+got s x z = setRegister s x (sp s z)
+
+-- Knuth's GET: mmix-sim makes $X a local before it reads special Z.
+-- Departure: `got` reads first; they differ only for Z = rL and a marginal X.
+unfoldable pub gotRule : State → ℕ → ℕ → State
+gotRule s x z = setRegister s x (sp (claimLocal s x) z)
+
+-- 17, 18: "SYNC 4 to 7; above 7"
+unfoldable pub syncOf : State → ℕ → Said
+syncOf s n = cond (ltb 7 n) (refuse 18 s) (cond (leb 4 n) (refuse 17 s) (say 0 (next s)))

@@ -1,0 +1,98 @@
+//! What MMIX is: the state of the machine and the reply of a step. specs/ defines the rest.
+
+ghost use mathlib.Core.Path.{_≡_};
+ghost use Rattle.model.specs.Registers.{fresh, stackStart};
+
+/// 256 general registers, 32 special ones, PC, halt code (the Rust's `exit_code`) and vector marks:
+/// bit k of the marks says that all four bytes at 16 × k were loaded.
+#[repr(C)]
+pub struct State {
+    pub general: [u64; 256],
+    pub special: [u64; 32],
+    pub pc: u64,
+    pub halt: u64,
+    pub marks: u64,
+}
+
+/// The reply of a step: done, or one of the twenty refusals in the order of their numbers.
+pub enum Reply {
+    Done,
+    // 1 to 6 leave everything as it was.
+    NotAdmissible,
+    WindowRule,
+    NoArm,
+    NamedTrap,
+    NoSpecial,
+    Missing,
+    // 7 to 18 set the halt code to 1.
+    PutUnknown,
+    PutPrivileged,
+    PutIllegal,
+    PutThreshold,
+    PutStatus,
+    Misplaced,
+    SaveLocal,
+    SavedThreshold,
+    SavedStatus,
+    SavedCount,
+    SyncPrivileged,
+    SyncIllegal,
+    // 19 and 20 also leave the trip or trap registers.
+    NotLoaded,
+    Trapped,
+}
+
+impl State {
+    // Special register numbers, as indices into `special`.
+    pub const RB: usize = 0;
+    pub const RD: usize = 1;
+    pub const RE: usize = 2;
+    pub const RH: usize = 3;
+    pub const RJ: usize = 4;
+    pub const RM: usize = 5;
+    pub const RR: usize = 6;
+    pub const RBB: usize = 7;
+    pub const RC: usize = 8;
+    pub const RN: usize = 9;
+    pub const RO: usize = 10;
+    pub const RS: usize = 11;
+    pub const RI: usize = 12;
+    pub const RT: usize = 13;
+    pub const RTT: usize = 14;
+    pub const RK: usize = 15;
+    pub const RQ: usize = 16;
+    pub const RU: usize = 17;
+    pub const RV: usize = 18;
+    pub const RG: usize = 19;
+    pub const RL: usize = 20;
+    pub const RA: usize = 21;
+    pub const RF: usize = 22;
+    pub const RP: usize = 23;
+    pub const RW: usize = 24;
+    pub const RX: usize = 25;
+    pub const RY: usize = 26;
+    pub const RZ: usize = 27;
+    pub const RWW: usize = 28;
+    pub const RXX: usize = 29;
+    pub const RYY: usize = 30;
+    pub const RZZ: usize = 31;
+
+    /// Where the register stack starts.
+    pub const STACK_START: u64 = 0x6000000000000000;
+
+    /// The state in which the machine starts.
+    pub fn initialize() -> State
+        ensures { λ r. ⌜ r ≡ fresh ⌝ }
+    {
+        let mut special = [0u64; 32];
+        special[State::RN] = 2009;
+        special[State::RG] = 32;
+        special[State::RO] = State::STACK_START;
+        special[State::RS] = State::STACK_START;
+        special[State::RK] = 0xFFFFFFFFFFFFFFFF;
+        special[State::RT] = 0x8000000500000000;
+        special[State::RTT] = 0x8000000600000000;
+        special[State::RV] = 0x369C200400000000;
+        State { general: [0; 256], special: special, pc: 0, halt: 0, marks: 0 }
+    }
+}
