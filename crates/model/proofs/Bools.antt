@@ -1,6 +1,6 @@
 -- Laws of tests and of numbers compared by tests, where lib.Dec and borrow.Author.Tests have none.
 use mathlib.Core.Path.{_≡_, refl, sym}
-use mathlib.Core.Bool.{Bool, true, false, _&&_, _||_}
+use mathlib.Core.Bool.{Bool, true, false, cond, _&&_, _||_}
 use Prim.Native.Nat.{ℕ, zero, suc, _<_, _≤_}
 use native.Mathlib.Omega.{arith}
 use native.Mathlib.Decide.{ℕ-discrete}
@@ -41,3 +41,12 @@ at-each (suc k) f e n l = go (ℕ-discrete n k) (at-each k f (and-right (f k) _ 
     go : Dec (n ≡ k) → (n < k → f n ≡ true) → f n ≡ true
     go (yes q) r = rw q (and-left (f k) _ e)
     go (no q) r = r (omega arith)
+
+-- what holds of both branches, each under its own outcome of the test, holds of a `cond`; and of two by one test
+pub on : {A : Type 0} (P : A → Type 0) {x y : A} (b : Bool) → (b ≡ true → P x) → (b ≡ false → P y) → P (cond b x y)
+on P true f g = f refl
+on P false f g = g refl
+
+pub on-both : {A B : Type 0} (R : A → B → Type 0) {x y : A} {u v : B} (b : Bool) → (b ≡ true → R x u) → (b ≡ false → R y v) → R (cond b x y) (cond b u v)
+on-both R true f g = f refl
+on-both R false f g = g refl

@@ -12,7 +12,7 @@ use borrow.Author.Tests.{leb-true, leb-false, ltb-true, ltb-false, eqb-true, eqb
 use Rattle.model.specs.Fill.{over}
 use Rattle.model.specs.Registers.{rJ, rO, rS, rG, rL, rA, sp, reg, following, Sized, admissible, goes, halted, withSpecial, cleared, claimLocal, stored, setRegister, putLocals, putGlobals, spilled}
 use Rattle.model.specs.Frames.{slid, slide, pushedRule, pushed, countOf, restored, unslide, popped}
-use Rattle.model.specs.Contexts.{savedState, unsavedSpecial, unsavedGeneral, unsaved}
+use Rattle.model.specs.Contexts.{savedRule, savedState, unsavedSpecial, unsavedGeneral, unsavedRule, unsaved}
 use Rattle.model.specs.Trips.{interrupted, tripped, trapped, enables, added, withAdded}
 use Rattle.model.specs.declared.State.{State}
 use Rattle.model.proofs.Fill.{length-over, over-in}
@@ -145,32 +145,43 @@ unfolding pushed pushedRule
 pushed-good s h t g =
     spilled-good _ (goes-good _ t (withSpecial-good (slide s _) rJ (following s) refl refl refl (slide-good s _ g)))
 
+pub unslide-good : (s : State) (x h : ℕ) (ls : List ℕ) → Good s → Good (unslide s x h ls)
+unfolding unslide
+unslide-good s x h ls g = let m : length (s .special) ≡ 32 = g .size .specials in
+    good-l s (unslide s x h ls) (length-over (restored s x h ls) 0 (sp s rG) (s .general)) (simp length-set) (min (h + countOf s x) (sp s rG))
+      (simp spec-other) (simp (spec-other, spec-same, length-set, m)) (simp spec-other) refl (omega arith) g
+
 pub popped-good : (s : State) (x t h : ℕ) (ls : List ℕ) → Good s → Good (popped s x t h ls)
 unfolding popped
-popped-good s x t h ls g = spilled-good _ (goes-good _ t (moved g))
-  where
-    moved : Good s → Good (unslide s x h ls)
-    moved g = unfold unslide in (let m : length (s .special) ≡ 32 = g .size .specials in
-      good-l s (unslide s x h ls) (length-over (restored s x h ls) 0 (sp s rG) (s .general)) (simp length-set) (min (h + countOf s x) (sp s rG))
-        (simp spec-other) (simp (spec-other, spec-same, length-set, m)) (simp spec-other) refl (omega arith) g)
+popped-good s x t h ls g = spilled-good _ (goes-good _ t (unslide-good s x h ls g))
+
+-- SAVE's state but for rS
+pub savedRule-good : (s : State) (x : ℕ) → Good s → Good (savedRule s x)
+unfolding savedRule
+savedRule-good s x g = let m : length (s .special) ≡ 32 = g .size .specials in
+    good-l s _ (simp (length-set, length-over)) (simp length-set) 0 (simp spec-other) (simp (spec-other, spec-same, length-set, m)) (simp spec-other) refl (omega arith) g
 
 pub saved-good : (s : State) (x : ℕ) → Good s → Good (savedState s x)
 unfolding savedState
-saved-good s x g = let m : length (s .special) ≡ 32 = g .size .specials in
-    spilled-good _ (good-l s _ (simp (length-set, length-over)) (simp length-set) 0 (simp spec-other) (simp (spec-other, spec-same, length-set, m)) (simp spec-other) refl (omega arith) g)
+saved-good s x g = spilled-good _ (savedRule-good s x g)
 
 pub unsaved-special : (s : State) (o g a l : ℕ) (vs : List ℕ) (k : ℕ) → length (s .special) ≡ 32 → k < 32
   → getD (over (unsavedSpecial s o g a l vs) 0 32 (s .special)) k 0 ≡ unsavedSpecial s o g a l vs k
 unsaved-special s o g a l vs k n b = over-in (unsavedSpecial s o g a l vs) 0 32 (s .special) k (omega arith) b (omega arith)
 
-pub unsaved-good : (s : State) (o g a l : ℕ) (vs : List ℕ) → 32 ≤ g → g ≤ 255 → a ≤ 0x3FFFF → l ≤ g → Good s → Good (unsaved s o g a l vs)
-unfolding unsaved
-unsaved-good s o g a l vs p q r u h =
+-- UNSAVE's state but for rS
+pub unsavedRule-good : (s : State) (o g a l : ℕ) (vs : List ℕ) → 32 ≤ g → g ≤ 255 → a ≤ 0x3FFFF → l ≤ g → Good s → Good (unsavedRule s o g a l vs)
+unfolding unsavedRule
+unsavedRule-good s o g a l vs p q r u h =
     let n : length (s .special) ≡ 32 = h .size .specials in
-    spilled-good _ (good-by s _ (length-over (unsavedGeneral g l vs) 0 256 (s .general)) (length-over (unsavedSpecial s o g a l vs) 0 32 (s .special)) g l a
+    good-by s _ (length-over (unsavedGeneral g l vs) 0 256 (s .general)) (length-over (unsavedSpecial s o g a l vs) 0 32 (s .special)) g l a
       (unsaved-special s o g a l vs rG n (omega arith) ∙ (unfold unsavedSpecial in refl))
       (unsaved-special s o g a l vs rL n (omega arith) ∙ (unfold unsavedSpecial in refl))
-      (unsaved-special s o g a l vs rA n (omega arith) ∙ (unfold unsavedSpecial in refl)) refl p q u r h)
+      (unsaved-special s o g a l vs rA n (omega arith) ∙ (unfold unsavedSpecial in refl)) refl p q u r h
+
+pub unsaved-good : (s : State) (o g a l : ℕ) (vs : List ℕ) → 32 ≤ g → g ≤ 255 → a ≤ 0x3FFFF → l ≤ g → Good s → Good (unsaved s o g a l vs)
+unfolding unsaved
+unsaved-good s o g a l vs p q r u h = spilled-good _ (unsavedRule-good s o g a l vs p q r u h)
 
 pub tripped-good : (s : State) (word u v : ℕ) → Good s → Good (tripped s word u v)
 unfolding interrupted

@@ -7,3 +7,6 @@ pub mod Runs
 pub mod Lists
 pub mod Numbers
 pub mod Good
+pub mod Meets
+pub mod Keeps
+pub mod Calm

@@ -39,4 +39,4 @@ unfolding each numberOf replyOf
 all = refl
 
 pub numbered : Numbered
-numbered = record { there = there; below = λ n l. eqb-true (numberOf (replyOf n)) n (at-each 21 (λ k. eqb (numberOf (replyOf k)) k) all n (omega arith)) }
+numbered = record { reply-number = there; number-reply = λ n l. eqb-true (numberOf (replyOf n)) n (at-each 21 (λ k. eqb (numberOf (replyOf k)) k) all n (omega arith)) }

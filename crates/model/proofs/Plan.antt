@@ -1,18 +1,22 @@
--- Laws of plans, by induction over plans: for every step that will ever valueOf added.
+-- Laws of plans, by induction over plans: for every step that will ever be added, over any lawful store.
+-- In order: lists of addresses; properties of answers; what a plan touches; equal memories; kept octabytes; the needs.
 use mathlib.Core.Path.{_≡_, refl, sym, ap, _∙_, subst}
 use mathlib.Core.Logic.{_≢_}
-use mathlib.Core.Bool.{Bool, true, false, cond, _&&_}
+use mathlib.Core.Bool.{Bool, true, false, cond}
 use mathlib.Core.List.{List, [], _∷_, _++_}
-use Prim.Native.Nat.{ℕ, zero, suc, _+_, _-_, _*_, _/_, _%_, _≤_, _<_, max}
+use Prim.Native.Nat.{ℕ, zero, suc, _+_, _-_, _*_, _≤_, _<_, max}
 use native.Mathlib.Omega.{arith}
 use native.Mathlib.Decide.{ℕ-discrete}
-use lib.ListN.{length, getD}
+use lib.ListN.{length}
 use lib.Dec.{eqb}
-use borrow.Author.Tests.{eqb-true, eq-eqb}
-use Rattle.model.specs.Octa.{octa, valueOf, bytesOf}
+use borrow.Author.Tests.{eqb-true}
+use Rattle.model.specs.Octa.{octa}
 use Rattle.model.specs.Memory.{Store}
-use Rattle.model.specs.Plan.{Plan, answer, read, Outcome, ups, worst, named, missing, clear, All, Off, look, looks, puts, needs, widerNeeds, perform, Agree}
+use Rattle.model.specs.Plan.{Plan, answer, read, Outcome, ups, worst, missing, clear, All, Off, look, looks, puts, needs, widerNeeds, perform, Agree}
+use Rattle.model.proofs.Bools.{on, on-both}
 use Rattle.model.proofs.Memory.{Lawful}
+
+-- ---- lists of addresses
 
 pub All-left : (P : ℕ → Type 0) (xs ys : List ℕ) → All P (xs ++ ys) → All P xs
 unfolding All
@@ -28,6 +32,16 @@ pub All-both : (P : ℕ → Type 0) (xs ys : List ℕ) → All P xs → All P ys
 unfolding All
 All-both P [] ys h k = k
 All-both P (x ∷ xs) ys h k = (h .0, All-both P xs ys (h .1) k)
+
+pub All-map : (P Q : ℕ → Type 0) (xs : List ℕ) → ((a : ℕ) → P a → Q a) → All P xs → All Q xs
+unfolding All
+All-map P Q [] f h = tt
+All-map P Q (x ∷ xs) f h = (f x (h .0), All-map P Q xs f (h .1))
+
+pub All-of : (P : ℕ → Type 0) (xs : List ℕ) → ((a : ℕ) → P a) → All P xs
+unfolding All
+All-of P [] f = tt
+All-of P (x ∷ xs) f = (f x, All-of P xs f)
 
 -- a shorter run
 pub All-ups : (P : ℕ → Type 0) (a n k : ℕ) → k ≤ n → All P (ups a n) → All P (ups a k)
@@ -46,21 +60,7 @@ passed-off P a n k xs false h l = tt
 missing-off : (P : ℕ → Type 0) (j : ℕ → ℕ) (n a : ℕ) → All P (ups a n) → All P (missing j a n)
 unfolding missing All ups
 missing-off P j zero a h = tt
-missing-off P j (suc n) a h = go (eqb (j a) 0) (missing-off P j n (a + 8) (h .1))
-  where
-    go : (b : Bool) → All P (missing j (a + 8) n) → All P (cond b (missing j (a + 8) n) (a ∷ missing j (a + 8) n))
-    go true r = r
-    go false r = (h .0, r)
-
--- a property of every state that a plan may answer with, whatever it reads
-unfoldable pub Always : {S : Type 0} → (S → Type 0) → Plan S → Type 0
-Always P (answer r t a vs) = P t
-Always P (read q a n k) = (vs : List ℕ) → Always P (k vs)
-
--- the same accesses with another answer: a task's step inside all tasks, a run's claim taken below
-unfoldable pub mapPlan : {S T : Type 0} → (ℕ → S → T) → Plan S → Plan T
-mapPlan f (answer r t a vs) = answer r (f r t) a vs
-mapPlan f (read q a n k) = read q a n (λ vs. mapPlan f (k vs))
+missing-off P j (suc n) a h = on (All P) (eqb (j a) 0) (λ e. missing-off P j n (a + 8) (h .1)) (λ e. (h .0, missing-off P j n (a + 8) (h .1)))
 
 pub worst-head : (j : ℕ → ℕ) (a n : ℕ) → worst j a (suc n) ≡ 0 → j a ≡ 0
 unfolding worst
@@ -75,12 +75,25 @@ unfolding All ups
 ups-judged j zero a e = tt
 ups-judged j (suc n) a e = (worst-head j a n e, ups-judged j n (a + 8) (worst-tail j a n e))
 
+-- ---- properties of answers
+
+-- of every state that a plan may answer with, whatever it reads
+unfoldable pub Always : {S : Type 0} → (S → Type 0) → Plan S → Type 0
+Always P (answer r t a vs) = P t
+Always P (read q a n k) = (vs : List ℕ) → Always P (k vs)
+
+pub Always-map : {S : Type 0} (P Q : S → Type 0) → ((t : S) → P t → Q t) → (p : Plan S) → Always P p → Always Q p
+unfolding Always
+Always-map P Q f (answer r t a vs) h = f t h
+Always-map P Q f (read q a n k) h = λ vs. Always-map P Q f (k vs) (h vs)
+
 module _ {M Sh : Type 0} (st : Store M Sh) where
-  -- what it comes to read or write: its needs without the missing ones
+  -- what a plan comes to read or write: its needs without the missing ones
   unfoldable pub touches : {S : Type 0} → (ℕ → ℕ) → Plan S → M → List ℕ
   touches j (answer r t a vs) m = cond (clear j a (length vs)) (ups a (length vs)) []
   touches j (read q a n k) m = cond (clear j a n) (ups a n ++ touches j (k (looks st m a n)) m) []
 
+  -- the octabytes of F are as they were
   pub record Kept (F : ℕ → Type 0) (m n : M) : Type 0 where
     pub shape-kept : st .shape n ≡ st .shape m
     pub octa-kept : (a : ℕ) → F (octa a) → st .raw n a ≡ st .raw m a
@@ -94,33 +107,34 @@ module _ {M Sh : Type 0} (st : Store M Sh) where
   abbrev pub Sound : (ℕ → ℕ) → Sh → Type 0
   Sound j s = (a : ℕ) → j a ≡ 0 → st .inside s a ≡ true
 
-
 module _ {M Sh : Type 0} (st : Store M Sh) (law : Lawful st) where
+  pub perform-always : {S : Type 0} (P : S → Type 0) (j : ℕ → ℕ) (s : S) (p : Plan S) (m : M) → P s → Always P p → P (perform st j s p m .state)
+  unfolding perform Always
+  perform-always {S} P j s (answer r t a vs) m h q = on {A = Outcome S M} (λ o. P (o .state)) (clear j a (length vs)) (λ e. q) (λ e. h)
+  perform-always {S} P j s (read q a n k) m h x =
+      on {A = Outcome S M} (λ o. P (o .state)) (clear j a n) (λ e. perform-always P j s (k (looks st m a n)) m h (x (looks st m a n))) (λ e. h)
+
+  -- ---- readings of the needs
+
   -- what holds of the needs holds of what is touched
   pub touches-off : {S : Type 0} (P : ℕ → Type 0) (j : ℕ → ℕ) (p : Plan S) (m : M) → All P (needs st j p m) → All P (touches st j p m)
-  unfolding needs touches All
+  unfolding needs touches
   touches-off P j (answer r t a vs) m h = passed-off P a _ (length vs) _ (clear j a (length vs)) h (omega arith)
-  touches-off P j (read q a n k) m h = go (clear j a n) (touches-off P j (k (looks st m a n)) m) h
-    where
-      go : (b : Bool) → (All P (needs st j (k (looks st m a n)) m) → All P (touches st j (k (looks st m a n)) m))
-        → All P (cond b (ups a n ++ needs st j (k (looks st m a n)) m) (missing j a n)) → All P (cond b (ups a n ++ touches st j (k (looks st m a n)) m) [])
-      go true f h = All-both P (ups a n) _ (All-left P (ups a n) _ h) (f (All-right P (ups a n) _ h))
-      go false f h = tt
+  touches-off P j (read q a n k) m h =
+      on-both (λ xs ys. All P xs → All P ys) (clear j a n)
+        (λ e f. All-both P (ups a n) _ (All-left P (ups a n) _ f) (touches-off P j (k (looks st m a n)) m (All-right P (ups a n) _ f)))
+        (λ e f. unfold All in tt) h
 
   -- and what holds of the wider needs holds of the needs
   pub wider-off : {S : Type 0} (P : ℕ → Type 0) (j : ℕ → ℕ) (p : Plan S) (m : M) → All P (widerNeeds st j p m) → All P (needs st j p m)
-  unfolding needs widerNeeds All
-  wider-off P j (answer r t a vs) m h = go (clear j a (length vs))
-    where
-      go : (b : Bool) → All P (cond b (ups a (length vs)) (missing j a (length vs)))
-      go true = h
-      go false = missing-off P j (length vs) a h
-  wider-off P j (read q a n k) m h = go (clear j a n) (wider-off P j (k (looks st m a n)) m) h
-    where
-      go : (b : Bool) → (All P (widerNeeds st j (k (looks st m a n)) m) → All P (needs st j (k (looks st m a n)) m))
-        → All P (cond b (ups a n ++ widerNeeds st j (k (looks st m a n)) m) (ups a n)) → All P (cond b (ups a n ++ needs st j (k (looks st m a n)) m) (missing j a n))
-      go true f h = All-both P (ups a n) _ (All-left P (ups a n) _ h) (f (All-right P (ups a n) _ h))
-      go false f h = missing-off P j n a h
+  unfolding needs widerNeeds
+  wider-off P j (answer r t a vs) m h = on (All P) (clear j a (length vs)) (λ e. h) (λ e. missing-off P j (length vs) a h)
+  wider-off P j (read q a n k) m h =
+      on-both (λ xs ys. All P xs → All P ys) (clear j a n)
+        (λ e f. All-both P (ups a n) _ (All-left P (ups a n) _ f) (wider-off P j (k (looks st m a n)) m (All-right P (ups a n) _ f)))
+        (λ e f. missing-off P j n a f) h
+
+  -- ---- two memories that agree outside F, and a plan that touches nothing of F
 
   module _ (F : ℕ → Type 0) where
     pub looks-agree : (n : ℕ) (v w : M) (a : ℕ) → Agree st F v w → All (Off F) (ups a n) → looks st v a n ≡ looks st w a n
@@ -144,6 +158,39 @@ module _ {M Sh : Type 0} (st : Store M Sh) (law : Lawful st) where
         puts-agree j vs (st .put v a x) (st .put w a x) (a + 8) (λ b q. rw (law .put-shape v a x) (snd b q))
           (put-agree v w a x g (snd a (worst-head j a (length vs) h))) (worst-tail j a (length vs) h)
 
+    module _ {S : Type 0} (j : ℕ → ℕ) (s : S) where
+      pub perform-agree : (p : Plan S) (v w : M) → Sound st j (st .shape v) → Agree st F v w → All (Off F) (touches st j p v) → Same st F (perform st j s p v) (perform st j s p w)
+      unfolding perform touches
+      perform-agree (answer r t a vs) v w snd g f =
+          on-both (Same st F) (clear j a (length vs))
+            (λ e. record { reply-same = refl; state-same = refl; memory-same = puts-agree j vs v w a snd g (eqb-true _ _ e) })
+            (λ e. record { reply-same = refl; state-same = refl; memory-same = g })
+      perform-agree (read q a n k) v w snd g f =
+          on-both (Same st F) (clear j a n)
+            (λ e. rw (← (looks-agree n v w a g (All-left (Off F) (ups a n) _ (rw e at f))))
+              (perform-agree (k (looks st v a n)) v w snd g (All-right (Off F) (ups a n) _ (rw e at f))))
+            (λ e. record { reply-same = refl; state-same = refl; memory-same = g })
+
+      pub touches-agree : (p : Plan S) (v w : M) → Agree st F v w → All (Off F) (touches st j p v) → touches st j p v ≡ touches st j p w
+      unfolding touches
+      touches-agree (answer r t a vs) v w g f = refl
+      touches-agree (read q a n k) v w g f =
+          on-both (λ (xs ys : List ℕ). xs ≡ ys) (clear j a n)
+            (λ e. rw (← (looks-agree n v w a g (All-left (Off F) (ups a n) _ (rw e at f))))
+              (ap (λ (l : List ℕ). ups a n ++ l) (touches-agree (k (looks st v a n)) v w g (All-right (Off F) (ups a n) _ (rw e at f)))))
+            (λ e. refl)
+
+      pub needs-agree : (p : Plan S) (v w : M) → Agree st F v w → All (Off F) (touches st j p v) → needs st j p v ≡ needs st j p w
+      unfolding touches needs
+      needs-agree (answer r t a vs) v w g f = refl
+      needs-agree (read q a n k) v w g f =
+          on-both (λ (xs ys : List ℕ). xs ≡ ys) (clear j a n)
+            (λ e. rw (← (looks-agree n v w a g (All-left (Off F) (ups a n) _ (rw e at f))))
+              (ap (λ (l : List ℕ). ups a n ++ l) (needs-agree (k (looks st v a n)) v w g (All-right (Off F) (ups a n) _ (rw e at f)))))
+            (λ e. refl)
+
+    -- ---- what is not touched is kept
+
     pub Kept·refl : (v : M) → Kept st F v v
     Kept·refl v = record { shape-kept = refl; octa-kept = λ a f. refl }
 
@@ -157,93 +204,16 @@ module _ {M Sh : Type 0} (st : Store M Sh) (law : Lawful st) where
         (record { shape-kept = law .put-shape v a x; octa-kept = λ b g. law .put-other v a b x (λ e. f .0 (subst F (sym e) g)) })
         (puts-kept vs (st .put v a x) (a + 8) (f .1))
 
-    module _ {S : Type 0} (j : ℕ → ℕ) (s : S) where
-      pub perform-agree : (p : Plan S) (v w : M) → Sound st j (st .shape v) → Agree st F v w → All (Off F) (touches st j p v) → Same st F (perform st j s p v) (perform st j s p w)
-      unfolding perform touches
-      perform-agree (answer r t a vs) v w snd g f = go (clear j a (length vs)) refl
-        where
-          go : (b : Bool) → clear j a (length vs) ≡ b
-            → Same st F (cond b (record { reply = r; state = t; memory = puts st v a vs }) (record { reply = worst j a (length vs); state = s; memory = v }))
-                     (cond b (record { reply = r; state = t; memory = puts st w a vs }) (record { reply = worst j a (length vs); state = s; memory = w }))
-          go true e = record { reply-same = refl; state-same = refl; memory-same = puts-agree j vs v w a snd g (eqb-true _ _ e) }
-          go false e = record { reply-same = refl; state-same = refl; memory-same = g }
-      perform-agree (read q a n k) v w snd g f = go (clear j a n) refl (λ e. perform-agree (k (looks st v a n)) v w snd g (All-right (Off F) (ups a n) _ (rw e at f)))
-        where
-          go : (b : Bool) → clear j a n ≡ b → (clear j a n ≡ true → Same st F (perform st j s (k (looks st v a n)) v) (perform st j s (k (looks st v a n)) w))
-            → Same st F (cond b (perform st j s (k (looks st v a n)) v) (record { reply = named q (worst j a n); state = s; memory = v }))
-                     (cond b (perform st j s (k (looks st w a n)) w) (record { reply = named q (worst j a n); state = s; memory = w }))
-          go true e h = rw (← (looks-agree n v w a g (All-left (Off F) (ups a n) _ (rw e at f)))) (h e)
-          go false e h = record { reply-same = refl; state-same = refl; memory-same = g }
+    pub perform-kept : {S : Type 0} (j : ℕ → ℕ) (s : S) (p : Plan S) (v : M) → All (Off F) (touches st j p v) → Kept st F v (perform st j s p v .memory)
+    unfolding perform touches
+    perform-kept {S} j s (answer r t a vs) v f =
+        on {A = Outcome S M} (λ o. Kept st F v (o .memory)) (clear j a (length vs)) (λ e. puts-kept vs v a (rw e at f)) (λ e. Kept·refl v)
+    perform-kept {S} j s (read q a n k) v f =
+        on {A = Outcome S M} (λ o. Kept st F v (o .memory)) (clear j a n)
+          (λ e. perform-kept j s (k (looks st v a n)) v (All-right (Off F) (ups a n) _ (rw e at f))) (λ e. Kept·refl v)
 
-      pub touches-agree : (p : Plan S) (v w : M) → Agree st F v w → All (Off F) (touches st j p v) → touches st j p v ≡ touches st j p w
-      unfolding touches
-      touches-agree (answer r t a vs) v w g f = refl
-      touches-agree (read q a n k) v w g f = go (clear j a n) refl (λ e. touches-agree (k (looks st v a n)) v w g (All-right (Off F) (ups a n) _ (rw e at f)))
-        where
-          go : (b : Bool) → clear j a n ≡ b → (clear j a n ≡ true → touches st j (k (looks st v a n)) v ≡ touches st j (k (looks st v a n)) w)
-            → cond b (ups a n ++ touches st j (k (looks st v a n)) v) [] ≡ cond b (ups a n ++ touches st j (k (looks st w a n)) w) []
-          go true e h = rw (← (looks-agree n v w a g (All-left (Off F) (ups a n) _ (rw e at f)))) (ap (λ (l : List ℕ). ups a n ++ l) (h e))
-          go false e h = refl
+  pub puts-shape : (vs : List ℕ) (v : M) (a : ℕ) → st .shape (puts st v a vs) ≡ st .shape v
+  puts-shape vs v a = puts-kept (λ o. ⊥) vs v a (All-of _ (ups a (length vs)) (λ b x. x)) .shape-kept
 
-      pub perform-kept : (p : Plan S) (v : M) → All (Off F) (touches st j p v) → Kept st F v (perform st j s p v .memory)
-      unfolding perform touches
-      perform-kept (answer r t a vs) v f = go (clear j a (length vs)) refl
-        where
-          go : (b : Bool) → clear j a (length vs) ≡ b
-            → Kept st F v ((cond {A = Outcome S M} b (record { reply = r; state = t; memory = puts st v a vs }) (record { reply = worst j a (length vs); state = s; memory = v })) .memory)
-          go true e = puts-kept vs v a (rw e at f)
-          go false e = Kept·refl v
-      perform-kept (read q a n k) v f = go (clear j a n) refl (λ e. perform-kept (k (looks st v a n)) v (All-right (Off F) (ups a n) _ (rw e at f)))
-        where
-          go : (b : Bool) → clear j a n ≡ b → (clear j a n ≡ true → Kept st F v (perform st j s (k (looks st v a n)) v .memory))
-            → Kept st F v ((cond {A = Outcome S M} b (perform st j s (k (looks st v a n)) v) (record { reply = named q (worst j a n); state = s; memory = v })) .memory)
-          go true e h = h e
-          go false e h = Kept·refl v
-
-  pub perform-always : {S : Type 0} (P : S → Type 0) (j : ℕ → ℕ) (s : S) (p : Plan S) (m : M) → P s → Always P p → P (perform st j s p m .state)
-  unfolding perform Always
-  perform-always {S} P j s (answer r t a vs) m h q = go (clear j a (length vs))
-    where
-      go : (b : Bool) → P ((cond {A = Outcome S M} b (record { reply = r; state = t; memory = puts st m a vs }) (record { reply = worst j a (length vs); state = s; memory = m })) .state)
-      go true = q
-      go false = h
-  perform-always {S} P j s (read q a n k) m h x = go (clear j a n) (perform-always P j s (k (looks st m a n)) m h (x (looks st m a n)))
-    where
-      go : (b : Bool) → P (perform st j s (k (looks st m a n)) m .state) → P ((cond {A = Outcome S M} b (perform st j s (k (looks st m a n)) m) (record { reply = named q (worst j a n); state = s; memory = m })) .state)
-      go true y = y
-      go false y = h
-
-  pub needs-map : {S T : Type 0} (f : ℕ → S → T) (j : ℕ → ℕ) (p : Plan S) (m : M) → needs st j (mapPlan f p) m ≡ needs st j p m
-  unfolding needs mapPlan
-  needs-map f j (answer r t a vs) m = refl
-  needs-map f j (read q a n k) m = rw (needs-map f j (k (looks st m a n)) m)
-
-  pub memory-map : {S T : Type 0} (f : ℕ → S → T) (j : ℕ → ℕ) (s : S) (t : T) (p : Plan S) (m : M) → perform st j t (mapPlan f p) m .memory ≡ perform st j s p m .memory
-  unfolding perform mapPlan
-  memory-map {S} {T} f j s t (answer r u a vs) m = go (clear j a (length vs))
-    where
-      go : (b : Bool) → (cond {A = Outcome T M} b (record { reply = r; state = f r u; memory = puts st m a vs }) (record { reply = worst j a (length vs); state = t; memory = m })) .memory
-        ≡ (cond {A = Outcome S M} b (record { reply = r; state = u; memory = puts st m a vs }) (record { reply = worst j a (length vs); state = s; memory = m })) .memory
-      go true = refl
-      go false = refl
-  memory-map {S} {T} f j s t (read q a n k) m = go (clear j a n) (memory-map f j s t (k (looks st m a n)) m)
-    where
-      go : (b : Bool) → perform st j t (mapPlan f (k (looks st m a n))) m .memory ≡ perform st j s (k (looks st m a n)) m .memory
-        → (cond {A = Outcome T M} b (perform st j t (mapPlan f (k (looks st m a n))) m) (record { reply = named q (worst j a n); state = t; memory = m })) .memory
-        ≡ (cond {A = Outcome S M} b (perform st j s (k (looks st m a n)) m) (record { reply = named q (worst j a n); state = s; memory = m })) .memory
-      go true h = h
-      go false h = refl
-
-  -- a plan touches st only what its judge passes: another task's steps keep off a frame by their parts alone
-  pub touches-judged : {S : Type 0} (j : ℕ → ℕ) (p : Plan S) (m : M) → All (λ a. j a ≡ 0) (touches st j p m)
-  unfolding touches All
-  touches-judged j (answer r t a vs) m = go (clear j a (length vs)) refl
-    where
-      go : (b : Bool) → clear j a (length vs) ≡ b → All (λ c. j c ≡ 0) (cond b (ups a (length vs)) [])
-      go true e = ups-judged j (length vs) a (eqb-true _ _ e)
-      go false e = tt
-  touches-judged j (read q a n k) m = go (clear j a n) refl (touches-judged j (k (looks st m a n)) m)
-    where
-      go : (b : Bool) → clear j a n ≡ b → All (λ c. j c ≡ 0) (touches st j (k (looks st m a n)) m) → All (λ c. j c ≡ 0) (cond b (ups a n ++ touches st j (k (looks st m a n)) m) [])
-      go true e h = All-both _ (ups a n) _ (ups-judged j n a (eqb-true _ _ e)) h
-      go false e h = tt
+  pub perform-shape : {S : Type 0} (j : ℕ → ℕ) (s : S) (p : Plan S) (v : M) → st .shape (perform st j s p v .memory) ≡ st .shape v
+  perform-shape j s p v = perform-kept (λ o. ⊥) j s p v (All-of _ (touches st j p v) (λ b x. x)) .shape-kept

@@ -1,0 +1,83 @@
+-- A property of states that every state builder keeps is kept by every step and every exception.
+use mathlib.Core.Path.{_≡_, refl}
+use mathlib.Core.Bool.{true, false}
+use mathlib.Core.List.{List, []}
+use Prim.Native.Nat.{ℕ, _+_, _*_, _≤_}
+use lib.Dec.{eqb}
+use Rattle.model.specs.Registers.{rG, rL, rA, sp, reg, admissible, goes, halted, withSpecial, setRegister, putLocals, putGlobals}
+use Rattle.model.specs.Memory.{Window, Shape, one}
+use Rattle.model.specs.Plan.{Plan, answer, read}
+use Rattle.model.specs.Opcodes.{armOf}
+use Rattle.model.specs.Said.{tell}
+use Rattle.model.specs.Frames.{hole, pushed, popped}
+use Rattle.model.specs.Contexts.{savedState, unsaved}
+use Rattle.model.specs.Trips.{wordOf, tripped, trapped, withAdded}
+use Rattle.model.specs.Lists.{stepOn}
+use Rattle.model.specs.Step.{planOf, stepPlan, exceptionOf, Item, step, exception, itemPlan, mmix}
+use Rattle.model.specs.declared.State.{State}
+use Rattle.model.proofs.Memory.{one-lawful}
+use Rattle.model.proofs.Plan.{Always, Always-map, perform-always}
+use Rattle.model.proofs.Meets.{Answers, Meets, MeetsTrip, plan-meets, step-meets, exception-meets}
+
+pub record Keeps (P : State → Type 0) : Type 0 where
+  pub at-pc : (s : State) (a : ℕ) → P s → P (goes s a)
+  pub at-halt : (s : State) → P s → P (halted s)
+  pub write : (s : State) (x v : ℕ) → P s → P (setRegister s x v)
+  pub locals : (s : State) (v : ℕ) → P s → P (putLocals s v)
+  pub globals : (s : State) (v : ℕ) → 32 ≤ v → v ≤ 255 → sp s rL ≤ v → P s → P (putGlobals s v)
+  pub status : (s : State) (v : ℕ) → v ≤ 0x3FFFF → P s → P (withSpecial s rA v)
+  pub other : (s : State) (k v : ℕ) → eqb rG k ≡ false → eqb rL k ≡ false → eqb rA k ≡ false → P s → P (withSpecial s k v)
+  pub pushes : (s : State) (h t : ℕ) → P s → P (pushed s h t)
+  pub pops : (s : State) (x t h : ℕ) (ls : List ℕ) → P s → P (popped s x t h ls)
+  pub saves : (s : State) (x : ℕ) → sp s rG ≤ x → P s → P (savedState s x)
+  pub unsaves : (s : State) (o g a l : ℕ) (vs : List ℕ) → 32 ≤ g → g ≤ 255 → a ≤ 0x3FFFF → l ≤ g → P s → P (unsaved s o g a l vs)
+  pub trips : (s : State) (word u v : ℕ) → P s → P (tripped s word u v)
+  pub traps : (s : State) (word u v : ℕ) → P s → P (trapped s word u v)
+  pub adds : (s : State) (f : ℕ) → P s → P (withAdded s f)
+
+abbrev pub Any : {A : Type 0} → A → Type 0
+Any a = Unit {0}
+
+answers-always : (P : State → Type 0) (p : Plan State) → Answers Any (λ r t vs. P t) p → Always P p
+unfolding Answers Always
+answers-always P (answer r t a vs) h = h
+answers-always P (read q a n k) h = λ vs. answers-always P (k vs) (h .1 vs tt)
+
+answers-map : (P Q : State → Type 0) → ((t : State) → Q t → P t) → (p : Plan State) → Answers Any (λ r t vs. Q t) p → Answers Any (λ r t vs. P t) p
+unfolding Answers
+answers-map P Q f (answer r t a vs) h = f t h
+answers-map P Q f (read q a n k) h = (h .0, λ vs u. answers-map P Q f (k vs) (h .1 vs u))
+
+module _ (P : State → Type 0) (k : Keeps P) where
+  meets : (s : State) → P s → Meets s Any Any (λ r t vs. P t)
+  meets s h = record {
+      word = λ n b. tt; general-is = λ i. tt; special-is = λ i. tt;
+      refuses = λ n a b. h; halts = λ n a b. k .at-halt s h; moves = λ a w. k .at-pc s a h;
+      writes = λ x v a w u. k .at-pc _ a (k .write s x v h);
+      locals = λ v a w u. k .at-pc _ a (k .locals s v h);
+      globals = λ v a b c d w. k .at-pc _ a (k .globals s v b c d h);
+      status = λ v a b w. k .at-pc _ a (k .status s v b h);
+      other = λ i v a b c d w u. k .at-pc _ a (k .other s i v b c d h);
+      pushes = λ x t w. k .pushes s (hole s x) t h;
+      pops = λ x t i ls w r. k .pops s x t i ls h;
+      saves = λ x b. k .saves s x b h;
+      unsaves = λ o g a l vs w b c d e r. k .unsaves s o g a l vs b c d e h }
+
+  meets-trip : (s : State) (n u v : ℕ) → P s → MeetsTrip s Any (λ r t vs. P t) n u v
+  meets-trip s n u v h = record { trips = λ a w. k .at-pc _ a (k .trips s n u v h); trips-not = k .at-halt _ (k .trips s n u v h) }
+
+-- what Q gives, where Q is kept and an admissible state has it, every state keeps: one that is not admissible is refused by 1
+pub item-keeps : (P Q : State → Type 0) → Keeps Q → ((t : State) → Q t → P t)
+  → (s : State) (w : Shape) (i : Item) → (admissible s ≡ true → Q s) → P s → Always P (itemPlan s w i)
+unfolding itemPlan tell Always
+item-keeps P Q k f s w (step op x y z) q h =
+    answers-always P (stepPlan s w op x y z) (step-meets s w Any (λ r t vs. P t) (λ n a b. h) op x y z (λ e. answers-map P Q f (planOf s (armOf op) op x y z)
+      (plan-meets s Any Any (λ r t vs. Q t) (meets Q k s (q e)) (armOf op) op x y z tt (meets-trip Q k s _ _ _ (q e)) (k .at-halt _ (k .traps s _ _ _ (q e))))))
+item-keeps P Q k f s w (exception g op x y z u v) q h =
+    exception-meets s Any (λ r t vs. P t) g op x y z u v (λ n b. tt) h
+      (λ e. (λ a b. f _ (k .at-pc _ a (k .adds s g (q e))),
+        record { trips = λ a b. f _ (k .at-pc _ a (k .trips _ _ u v (k .adds s g (q e)))); trips-not = f _ (k .at-halt _ (k .trips _ _ u v (k .adds s g (q e)))) }))
+
+pub item-always : (P : State → Type 0) (w : Window) (s : State) (i : Item) → P s → Always P (itemPlan s (one .shape w) i) → P (stepOn one mmix s w i .state)
+unfolding stepOn mmix
+item-always P w s i h a = perform-always one one-lawful P _ s (itemPlan s (one .shape w) i) w h a

@@ -1,0 +1,290 @@
+-- A property R of every answer that a step or an exception may give: its reply, its state, the octabytes that it stores.
+-- The one place that goes by arms: `Meets` asks R of each state builder, `step-meets` gives it of every step.
+-- W is a property of the numbers that a state comes to hold, Read of the octabytes that are read: both may say nothing.
+use mathlib.Core.Path.{_≡_, refl, sym, ap, _∙_}
+use mathlib.Core.Logic.{_⊎_, inl, inr}
+use mathlib.Core.Bool.{Bool, true, false, cond, not, _&&_, _||_}
+use mathlib.Core.List.{List, [], _∷_}
+use Prim.Native.Nat.{ℕ, zero, suc, _+_, _-_, _*_, _/_, _%_, _^_, _≤_, _<_, max}
+use native.Mathlib.Omega.{arith}
+use lib.Dec.{leb, ltb, eqb}
+use lib.ListN.{length, getD}
+use lib.Count.{leadingZeros, leading-le}
+use borrow.Author.Tests.{leb-true, ltb-false, eqb-true, eqb-false}
+use Rattle.model.specs.Fill.{tab}
+use Rattle.model.specs.Registers.{rO, rG, rL, rA, rJ, sp, reg, admissible, goes, following, next, halted, withSpecial, setRegister, putLocals, putGlobals}
+use Rattle.model.specs.Memory.{Window, Shape, shapeOf, ruled, has, one}
+use Rattle.model.specs.Plan.{Plan, answer, read, Outcome, perform, worst, clear, looks, puts, named}
+use Rattle.model.specs.Opcodes.{Arm, Way, forward, backward, Operand, register, immediate, branch, jump, getAddress, go, pushJump, pushGo, pop, put, get, save, unsave, sync, swym, trip, trap, none, armOf}
+use Rattle.model.specs.Said.{Said, say, refuse, tell}
+use Rattle.model.specs.Control.{targetOf, near, far, yzOf, xyzOf, sumOf, operandOf, holds}
+use Rattle.model.specs.Frames.{hole, framed, pushed, pushFrame, popped, popTo, popRule, noFrame, misplaced, popFrame}
+use Rattle.model.specs.Contexts.{extent, saved, savedState, saveContext, below, unsaved, contextRest, contextCount, contextAt, unsaveContext}
+use Rattle.model.specs.System.{isPrivileged, isIllegal, putRefusal, putState, putSpecial, got, syncOf}
+use Rattle.model.specs.Trips.{wordOf, tripped, trapped, isLoaded, tripRule, tripTo, trapOf, enabled, withAdded, raised}
+use Rattle.model.specs.Step.{isNamed, refusalOf, judged, refusing, planOf, stepPlan, stepOf, exceptionOf}
+use Rattle.model.specs.declared.State.{State}
+use Rattle.model.proofs.Bools.{and-left, and-right, or-left, or-right, eqb-swap, on}
+
+unfoldable pub Answers : {S : Type 0} → (List ℕ → Type 0) → (ℕ → S → List ℕ → Type 0) → Plan S → Type 0
+Answers Read R (answer r t a vs) = R r t vs
+Answers Read R (read q a n k) = (q ≡ 6) × ((vs : List ℕ) → Read vs → Answers Read R (k vs))
+
+pub record Meets (s : State) (W : ℕ → Type 0) (Read : List ℕ → Type 0) (R : ℕ → State → List ℕ → Type 0) : Type 0 where
+  pub word : (n : ℕ) → n < 2 ^ 64 → W n
+  pub general-is : (i : ℕ) → W (reg s i)
+  pub special-is : (k : ℕ) → W (sp s k)
+  pub refuses : (n : ℕ) → 1 ≤ n → n ≤ 5 → R n s []
+  pub halts : (n : ℕ) → 7 ≤ n → n ≤ 18 → R n (halted s) []
+  pub moves : (a : ℕ) → W a → R 0 (goes s a) []
+  pub writes : (x v a : ℕ) → W v → W a → R 0 (goes (setRegister s x v) a) []
+  pub locals : (v a : ℕ) → W v → W a → R 0 (goes (putLocals s v) a) []
+  pub globals : (v a : ℕ) → 32 ≤ v → v ≤ 255 → sp s rL ≤ v → W a → R 0 (goes (putGlobals s v) a) []
+  pub status : (v a : ℕ) → v ≤ 0x3FFFF → W a → R 0 (goes (withSpecial s rA v) a) []
+  pub other : (k v a : ℕ) → eqb rG k ≡ false → eqb rL k ≡ false → eqb rA k ≡ false → W v → W a → R 0 (goes (withSpecial s k v) a) []
+  pub pushes : (x t : ℕ) → W t → R 0 (pushed s (hole s x) t) (tab 0 (hole s x + 1) (framed s (hole s x)))
+  pub pops : (x t h : ℕ) (ls : List ℕ) → W t → Read ls → R 0 (popped s x t h ls) []
+  pub saves : (x : ℕ) → sp s rG ≤ x → R 0 (savedState s x) (tab 0 (extent s) (saved s))
+  pub unsaves : (o g a l : ℕ) (vs : List ℕ) → W o → 32 ≤ g → g ≤ 255 → a ≤ 0x3FFFF → l ≤ g → Read vs → R 0 (unsaved s o g a l vs) []
+
+-- of an instruction op x y z whose operands are u and v: the trip, the trip that finds no vector, the trap
+pub record MeetsTrip (s : State) (W : ℕ → Type 0) (R : ℕ → State → List ℕ → Type 0) (n u v : ℕ) : Type 0 where
+  pub trips : (a : ℕ) → W a → R 0 (goes (tripped s n u v) a) []
+  pub trips-not : R 19 (halted (tripped s n u v)) []
+
+small : (n : ℕ) → n % 2 ^ 64 < 2 ^ 64
+small n = omega arith
+
+target-small : (a : ℕ) (d : Way) (size f : ℕ) → targetOf a d size f < 2 ^ 64
+unfolding targetOf
+target-small a forward size f = small _
+target-small a backward size f = small _
+
+-- ---- what PUT has judged
+
+pub put-global : (s : State) (v : ℕ) → putRefusal s rG v ≡ 0 → (32 ≤ v) × (sp s rL ≤ v) × (v ≤ 255)
+unfolding putRefusal
+put-global s v =
+    on (λ (n : ℕ). n ≡ 0 → (32 ≤ v) × (sp s rL ≤ v) × (v ≤ 255)) (ltb v 32 || (ltb v (sp s rL) || ltb 255 v)) (λ e f. absurd (omega arith))
+      (λ e f.
+        let r : (ltb v (sp s rL) || ltb 255 v) ≡ false = or-right (ltb v 32) _ e in
+        (ltb-false _ _ (or-left (ltb v 32) _ e), ltb-false _ _ (or-left (ltb v (sp s rL)) _ r), ltb-false _ _ (or-right (ltb v (sp s rL)) _ r)))
+
+pub put-status : (s : State) (v : ℕ) → putRefusal s rA v ≡ 0 → v ≤ 0x3FFFF
+unfolding putRefusal
+put-status s v = on (λ (n : ℕ). n ≡ 0 → v ≤ 0x3FFFF) (ltb 0x3FFFF v) (λ e f. absurd (omega arith)) (λ e f. ltb-false _ _ e)
+
+Range : ℕ → Type 0
+Range n = (n ≡ 0) ⊎ ((7 ≤ n) × (n ≤ 11))
+
+put-bound : (s : State) (x v : ℕ) → Range (putRefusal s x v)
+unfolding putRefusal Range
+put-bound s x v =
+    on Range (ltb 31 x) (λ e. inr (omega arith, omega arith)) (λ e.
+    on Range (isPrivileged x) (λ e. inr (omega arith, omega arith)) (λ e.
+    on Range (isIllegal x) (λ e. inr (omega arith, omega arith)) (λ e.
+    on Range (eqb x rG) (λ e. on Range (ltb v 32 || (ltb v (sp s rL) || ltb 255 v)) (λ e. inr (omega arith, omega arith)) (λ e. inl refl)) (λ e.
+    on Range (eqb x rA) (λ e. on Range (ltb 0x3FFFF v) (λ e. inr (omega arith, omega arith)) (λ e. inl refl)) (λ e. inl refl)))))
+
+put-range : (s : State) (x v : ℕ) → eqb (putRefusal s x v) 0 ≡ false → (7 ≤ putRefusal s x v) × (putRefusal s x v ≤ 18)
+unfolding Range
+put-range s x v e = pick (putRefusal s x v) (eqb-false _ _ e) (put-bound s x v)
+  where
+    pick : (n : ℕ) → (n ≡ 0 → ⊥) → (n ≡ 0) ⊎ ((7 ≤ n) × (n ≤ 11)) → (7 ≤ n) × (n ≤ 18)
+    pick n f (inl g) = absurd (f g)
+    pick n f (inr g) = let a : 7 ≤ n = g .0 in let b : n ≤ 11 = g .1 in (a, omega arith)
+
+-- ---- the arms
+
+module _ (s : State) (W : ℕ → Type 0) (R : ℕ → State → List ℕ → Type 0) where
+  abbrev Tells : Said → Type 0
+  Tells d = R (d .reply) (d .state) []
+
+  -- a trip through vector k, for TRIP and for exceptions
+  pub trip-meets : (k n u v : ℕ) → W (16 * k) → MeetsTrip s W R n u v → Tells (tripTo s k n u v)
+  unfolding tripTo tripRule
+  trip-meets k n u v b m = on {A = Said} Tells (isLoaded s k) (λ e. m .trips (16 * k) b) (λ e. m .trips-not)
+
+module _ (s : State) (W : ℕ → Type 0) (Read : List ℕ → Type 0) (R : ℕ → State → List ℕ → Type 0) (m : Meets s W Read R) where
+  onward : (t : State) → W (following t)
+  onward t = m .word (following t) (small (t .pc + 4))
+
+  operand-is : (o : Operand) (z : ℕ) → W z → W (operandOf s o z)
+  operand-is register z w = m .general-is z
+  operand-is immediate z w = w
+
+  putState-meets : (x v : ℕ) → W v → putRefusal s x v ≡ 0 → R 0 (next (putState s x v)) []
+  unfolding putState
+  putState-meets x v w p =
+      on (λ (t : State). R 0 (next t) []) (eqb x rL) (λ el. m .locals v _ w (onward (putLocals s v)))
+      (λ el. on (λ (t : State). R 0 (next t) []) (eqb x rG)
+        (λ eg. let b : (32 ≤ v) × (sp s rL ≤ v) × (v ≤ 255) = put-global s v (rw (eqb-true x rG eg) at p) in m .globals v _ (b .0) (b .2) (b .1) (onward (putGlobals s v)))
+        (λ eg. last el eg (eqb x rA) refl))
+    where
+      last : eqb x rL ≡ false → eqb x rG ≡ false → (b : Bool) → eqb x rA ≡ b → R 0 (next (withSpecial s x v)) []
+      last el eg true ea = rw (eqb-true x rA ea) (m .status v _ (put-status s v (rw (eqb-true x rA ea) at p)) (onward (withSpecial s rA v)))
+      last el eg false ea = m .other x v _ (eqb-swap x rG eg) (eqb-swap x rL el) (eqb-swap x rA ea) w (onward (withSpecial s x v))
+
+  put-meets : (x v : ℕ) → W v → Tells s W R (putSpecial s x v)
+  unfolding putSpecial
+  put-meets x v w =
+      on {A = Said} (Tells s W R) (eqb (putRefusal s x v) 0) (λ e. putState-meets x v w (eqb-true _ _ e))
+        (λ e. let r : (7 ≤ putRefusal s x v) × (putRefusal s x v ≤ 18) = put-range s x v e in m .halts (putRefusal s x v) (r .0) (r .1))
+
+  sync-meets : (n : ℕ) → Tells s W R (syncOf s n)
+  unfolding syncOf
+  sync-meets n =
+      on {A = Said} (Tells s W R) (ltb 7 n) (λ e. m .halts 18 (omega arith) (omega arith))
+      (λ e. on {A = Said} (Tells s W R) (leb 4 n) (λ e. m .halts 17 (omega arith) (omega arith)) (λ e. m .moves _ (onward s)))
+
+  pop-meets : (x t : ℕ) → W t → Answers Read R (popFrame s x t)
+  unfolding popFrame popRule popTo tell Answers
+  pop-meets x t w =
+      on (Answers Read R) (noFrame s) (λ e. m .moves t w)
+      (λ e. on (Answers Read R) (misplaced s) (λ e. m .halts 12 (omega arith) (omega arith)) (λ e. (refl, λ vs i. (refl, λ ls j. m .pops x t _ ls w j))))
+
+  save-meets : (x : ℕ) → Answers Read R (saveContext s x)
+  unfolding saveContext tell Answers
+  save-meets x = on (Answers Read R) (ltb x (sp s rG)) (λ e. m .halts 13 (omega arith) (omega arith)) (λ e. m .saves x (ltb-false _ _ e))
+
+-- a context, for UNSAVE and for the reader
+module _ {S : Type 0} (bad : S) (found : ℕ → ℕ → ℕ → ℕ → List ℕ → S) (p : ℕ) (Read : List ℕ → Type 0) (R : ℕ → S → List ℕ → Type 0)
+    (refuses : (n : ℕ) → 14 ≤ n → n ≤ 16 → R n bad [])
+    (finds : (o g a l : ℕ) (vs : List ℕ) → o < 2 ^ 64 → 32 ≤ g → g ≤ 255 → a ≤ 0x3FFFF → l ≤ g → Read vs → R 0 (found o g a l vs) []) where
+  rest-meets : (g a l : ℕ) → 32 ≤ g → g ≤ 255 → a ≤ 0x3FFFF → Answers Read R (contextRest bad found p g a l)
+  unfolding contextRest Answers
+  rest-meets g a l b c d =
+      on (Answers Read R) (leb l g) (λ e. (refl, λ vs j. finds _ g a l vs (small _) b c d (leb-true _ _ e) j)) (λ e. refuses 16 (omega arith) (omega arith))
+
+  count-meets : (g a : ℕ) → Answers Read R (contextCount bad found p g a)
+  unfolding contextCount Answers
+  count-meets g a =
+      on (Answers Read R) (leb 32 g && leb g 255)
+        (λ e. on (Answers Read R) (leb a 0x3FFFF)
+          (λ f. (refl, λ v j. rest-meets g a (getD v 0 0) (leb-true _ _ (and-left (leb 32 g) _ e)) (leb-true _ _ (and-right (leb 32 g) _ e)) (leb-true _ _ f)))
+          (λ f. refuses 15 (omega arith) (omega arith)))
+        (λ e. refuses 14 (omega arith) (omega arith))
+
+  pub context-meets : Answers Read R (contextAt bad found p)
+  unfolding contextAt Answers
+  context-meets = (refl, λ v j. count-meets _ _)
+
+module _ (s : State) (W : ℕ → Type 0) (Read : List ℕ → Type 0) (R : ℕ → State → List ℕ → Type 0) (m : Meets s W Read R) where
+  -- the sixteen arms
+  pub plan-meets : (a : Arm) (op x y z : ℕ) → W z → MeetsTrip s W R (wordOf op x y z) (reg s y) (reg s z) → R 20 (halted (trapped s (wordOf op x y z) (reg s y) (reg s z))) []
+    → Answers Read R (planOf s a op x y z)
+  unfolding planOf tell Answers pushFrame trapOf got unsaveContext
+  plan-meets (branch c d) op x y z wz mt mr =
+      on (λ (t : State). R 0 t []) (holds c (reg s x)) (λ e. m .moves (near s d y z) (m .word _ (target-small (s .pc) d 65536 (yzOf y z))))
+        (λ e. m .moves (following s) (onward s W Read R m s))
+  plan-meets (jump d) op x y z wz mt mr = m .moves (far s d x y z) (m .word _ (target-small (s .pc) d 16777216 (xyzOf x y z)))
+  plan-meets (getAddress d) op x y z wz mt mr =
+      m .writes x (near s d y z) _ (m .word _ (target-small (s .pc) d 65536 (yzOf y z))) (onward s W Read R m (setRegister s x (near s d y z)))
+  plan-meets (go o) op x y z wz mt mr = m .writes x (following s) (sumOf s o y z) (onward s W Read R m s) (m .word _ (small (reg s y + operandOf s o z)))
+  plan-meets (pushJump d) op x y z wz mt mr = m .pushes x (near s d y z) (m .word _ (target-small (s .pc) d 65536 (yzOf y z)))
+  plan-meets (pushGo o) op x y z wz mt mr = m .pushes x (sumOf s o y z) (m .word _ (small (reg s y + operandOf s o z)))
+  plan-meets pop op x y z wz mt mr = pop-meets s W Read R m x _ (m .word _ (small (sp s rJ + 4 * yzOf y z)))
+  plan-meets (put o) op x y z wz mt mr = put-meets s W Read R m x (operandOf s o z) (operand-is s W Read R m o z wz)
+  plan-meets get op x y z wz mt mr = m .writes x (sp s z) _ (m .special-is z) (onward s W Read R m (setRegister s x (sp s z)))
+  plan-meets save op x y z wz mt mr = save-meets s W Read R m x
+  plan-meets unsave op x y z wz mt mr =
+      context-meets (halted s) (unsaved s) (reg s z) Read R (λ n a b. m .halts n (omega arith) (omega arith)) (λ o g a l vs c. m .unsaves o g a l vs (m .word o c))
+  plan-meets sync op x y z wz mt mr = sync-meets s W Read R m (xyzOf x y z)
+  plan-meets swym op x y z wz mt mr = m .moves (following s) (onward s W Read R m s)
+  plan-meets trip op x y z wz mt mr = trip-meets s W R 0 (wordOf op x y z) (reg s y) (reg s z) (m .word _ (omega arith)) mt
+  plan-meets trap op x y z wz mt mr = mr
+  plan-meets none op x y z wz mt mr = m .refuses 3 (omega arith) (omega arith)
+
+refusal-most : (a : Arm) (x y z : ℕ) → refusalOf a x y z ≤ 5
+unfolding refusalOf
+refusal-most none x y z = omega arith
+refusal-most trap x y z = on (λ (n : ℕ). n ≤ 5) (eqb x 0 && isNamed y) (λ e. omega arith) (λ e. omega arith)
+refusal-most get x y z = on (λ (n : ℕ). n ≤ 5) (ltb 31 z) (λ e. omega arith) (λ e. omega arith)
+refusal-most (branch c d) x y z = omega arith
+refusal-most (jump d) x y z = omega arith
+refusal-most (getAddress d) x y z = omega arith
+refusal-most (go o) x y z = omega arith
+refusal-most (pushJump d) x y z = omega arith
+refusal-most (pushGo o) x y z = omega arith
+refusal-most pop x y z = omega arith
+refusal-most (put o) x y z = omega arith
+refusal-most save x y z = omega arith
+refusal-most unsave x y z = omega arith
+refusal-most sync x y z = omega arith
+refusal-most swym x y z = omega arith
+refusal-most trip x y z = omega arith
+
+pub judged-most : (s : State) (w : Shape) (a : Arm) (x y z : ℕ) → judged s w a x y z ≤ 5
+unfolding judged
+judged-most s w a x y z =
+    on (λ (n : ℕ). n ≤ 5) (admissible s) (λ e. on (λ (n : ℕ). n ≤ 5) (ruled w) (λ f. refusal-most a x y z) (λ f. omega arith)) (λ e. omega arith)
+
+-- 1 to 5 in order, then the arm; the arm is met only where the state was admissible
+pub step-meets : (s : State) (w : Shape) (Read : List ℕ → Type 0) (R : ℕ → State → List ℕ → Type 0) → ((n : ℕ) → 1 ≤ n → n ≤ 5 → R n s [])
+  → (op x y z : ℕ) → (admissible s ≡ true → Answers Read R (planOf s (armOf op) op x y z)) → Answers Read R (stepPlan s w op x y z)
+unfolding stepPlan tell Answers
+step-meets s w Read R refuses op x y z met =
+    on (Answers Read R) (eqb (judged s w (armOf op) x y z) 0) (λ e. met (passed (eqb-true _ _ e)))
+      (λ e. refuses _ (nonzero (judged s w (armOf op) x y z) (eqb-false _ _ e)) (judged-most s w (armOf op) x y z))
+  where
+    nonzero : (n : ℕ) → (n ≡ 0 → ⊥) → 1 ≤ n
+    nonzero n f = omega arith
+    passed : judged s w (armOf op) x y z ≡ 0 → admissible s ≡ true
+    passed = unfold judged in (go (admissible s))
+      where
+        go : (b : Bool) → cond b (cond (ruled w) (refusalOf (armOf op) x y z) 2) 1 ≡ 0 → b ≡ true
+        go true e = refl
+        go false e = absurd (omega arith)
+
+-- an exception: 1, or what is added to rA and then the trip or @ + 4
+pub exception-meets : (s : State) (W : ℕ → Type 0) (R : ℕ → State → List ℕ → Type 0) (f op x y z u v : ℕ) → ((n : ℕ) → n < 2 ^ 64 → W n) → R 1 s []
+  → (admissible s ≡ true → ((a : ℕ) → W a → R 0 (goes (withAdded s f) a) []) × MeetsTrip (withAdded s f) W R (wordOf op x y z) u v)
+  → R (exceptionOf s f op x y z u v .reply) (exceptionOf s f op x y z u v .state) []
+unfolding exceptionOf raised
+exception-meets s W R f op x y z u v word refused met =
+    on {A = Said} (λ d. R (d .reply) (d .state) []) (admissible s)
+      (λ e. on {A = Said} (λ d. R (d .reply) (d .state) []) (eqb (enabled s f) 0)
+        (λ g. met e .0 _ (word _ (small _)))
+        (λ g. let l : leadingZeros 8 (enabled s f) ≤ 8 = leading-le 8 (enabled s f) in
+          trip-meets (withAdded s f) W R (leadingZeros 8 (enabled s f) + 1) (wordOf op x y z) u v (word _ (omega arith)) (met e .1)))
+      (λ e. refused)
+
+-- ---- what a plan comes to
+
+six-head : (w : Shape) (a : ℕ) → (refusing w a ≡ 0) ⊎ (refusing w a ≡ 6)
+unfolding refusing
+six-head w a = on (λ (n : ℕ). (n ≡ 0) ⊎ (n ≡ 6)) (has w a) (λ e. inl refl) (λ e. inr refl)
+
+six-both : (p q : ℕ) → (p ≡ 0) ⊎ (p ≡ 6) → (q ≡ 0) ⊎ (q ≡ 6) → (max p q ≡ 0) ⊎ (max p q ≡ 6)
+six-both p q (inl f) (inl g) = inl (omega arith)
+six-both p q (inl f) (inr g) = inr (omega arith)
+six-both p q (inr f) (inl g) = inr (omega arith)
+six-both p q (inr f) (inr g) = inr (omega arith)
+
+six-run : (w : Shape) (n a : ℕ) → (worst (refusing w) a n ≡ 0) ⊎ (worst (refusing w) a n ≡ 6)
+unfolding worst
+six-run w zero a = inl refl
+six-run w (suc n) a = six-both (refusing w a) (worst (refusing w) (a + 8) n) (six-head w a) (six-run w n (a + 8))
+
+-- a run that does not pass is refused by 6
+pub worst-six : (w : Shape) (n a : ℕ) → eqb (worst (refusing w) a n) 0 ≡ false → worst (refusing w) a n ≡ 6
+worst-six w n a e = pick (worst (refusing w) a n) (eqb-false _ _ e) (six-run w n a)
+  where
+    pick : (r : ℕ) → (r ≡ 0 → ⊥) → (r ≡ 0) ⊎ (r ≡ 6) → r ≡ 6
+    pick r f (inl g) = absurd (f g)
+    pick r f (inr g) = g
+
+-- an outcome is 6 with nothing changed, or an answer that was met
+module _ {S : Type 0} (w : Window) (s : S) (Read : List ℕ → Type 0) (R : ℕ → S → List ℕ → Type 0) (Q : Outcome S Window → Type 0)
+    (six : Q (record { reply = 6; state = s; memory = w })) (met : (r : ℕ) (t : S) (a : ℕ) (vs : List ℕ) → R r t vs → Q (record { reply = r; state = t; memory = puts one w a vs }))
+    (reads : (a n : ℕ) → Read (looks one w a n)) where
+  missed : (r : ℕ) → r ≡ 6 → Q (record { reply = r; state = s; memory = w })
+  missed r e = rw e six
+
+  pub perform-meets : (p : Plan S) → Answers Read R p → Q (perform one (refusing (shapeOf w)) s p w)
+  unfolding perform Answers
+  perform-meets (answer r t a vs) h =
+      on Q (clear (refusing (shapeOf w)) a (length vs)) (λ e. met r t a vs h) (λ e. missed (worst (refusing (shapeOf w)) a (length vs)) (worst-six (shapeOf w) (length vs) a e))
+  perform-meets (read q a n k) h =
+      on Q (clear (refusing (shapeOf w)) a n) (λ e. perform-meets (k (looks one w a n)) (h .1 (looks one w a n) (reads a n)))
+        (λ e. missed (named q (worst (refusing (shapeOf w)) a n)) (ap (λ (c : ℕ). named q c) (worst-six (shapeOf w) n a e) ∙ (unfold named in (h .0))))
