@@ -10,3 +10,7 @@ pub mod Good
 pub mod Meets
 pub mod Keeps
 pub mod Calm
+pub mod Kept
+pub mod Entry
+pub mod Frame
+pub mod Demand

@@ -1,0 +1,119 @@
+-- The entries once 1 to 5 have passed; the window's judge; and windows equal octabyte by octabyte, which are equal byte by byte.
+use mathlib.Core.Path.{_≡_, refl, sym, ap, _∙_, subst}
+use mathlib.Core.Logic.{_⊎_, inl, inr}
+use mathlib.Core.Bool.{Bool, true, false, cond, _&&_}
+use mathlib.Core.List.{List, [], _∷_}
+use Prim.Native.Nat.{ℕ, zero, suc, _+_, _-_, _*_, _/_, _%_, _^_, _≤_, _<_}
+use native.Mathlib.Omega.{arith}
+use native.Mathlib.Decide.{decLt}
+use lib.ListN.{length, getD, List·getD-eq-default}
+use lib.Dec.{leb, ltb, eqb}
+use borrow.Author.Tests.{eqb-true, ltb-true, leb-true}
+use Rattle.model.specs.Octa.{octa, part}
+use Rattle.model.specs.Memory.{Window, Shape, shapeOf, ruled, offset, has, octaBytes, one}
+use Rattle.model.specs.Plan.{Plan, Outcome, perform, worst, Off, Agree}
+use Rattle.model.specs.Registers.{admissible}
+use Rattle.model.specs.Opcodes.{armOf}
+use Rattle.model.specs.Said.{say, tell}
+use Rattle.model.specs.Step.{refusalOf, judged, refusing, planOf, stepPlan, stepOf, Item, itemPlan, mmix}
+use Rattle.model.specs.Demand.{SameOutside}
+use Rattle.model.specs.declared.State.{State}
+use Rattle.model.proofs.Bools.{and-left, and-right, on}
+use Rattle.model.proofs.Fill.{lt-or-le}
+use Rattle.model.proofs.Plan.{Sound}
+
+-- ---- judging
+
+pub step-open : (w : Window) (s : State) (op x y z : ℕ) → admissible s ≡ true → ruled (shapeOf w) ≡ true → refusalOf (armOf op) x y z ≡ 0
+  → stepOf w s op x y z ≡ perform one (refusing (shapeOf w)) s (planOf s (armOf op) op x y z) w
+unfolding stepOf stepPlan judged
+step-open w s op x y z a r e = rw (a, r, e)
+
+-- a step that is done was refused by neither 1 nor 2
+pub step-done : (w : Window) (s : State) (op x y z : ℕ) → stepOf w s op x y z .reply ≡ 0 → (admissible s ≡ true) × (ruled (shapeOf w) ≡ true)
+unfolding stepOf stepPlan judged tell perform worst
+step-done w s op x y z = go (admissible s) (ruled (shapeOf w)) refl refl
+  where
+    go : (a r : Bool) → admissible s ≡ a → ruled (shapeOf w) ≡ r
+      → perform one (refusing (shapeOf w)) s (cond (eqb (cond a (cond r (refusalOf (armOf op) x y z) 2) 1) 0) (planOf s (armOf op) op x y z) (tell (say (cond a (cond r (refusalOf (armOf op) x y z) 2) 1) s))) w .reply ≡ 0
+      → (admissible s ≡ true) × (ruled (shapeOf w) ≡ true)
+    go true true ea er d = (ea, er)
+    go true false ea er d = let k : _≡_ {A = ℕ} 2 0 = d in absurd (omega arith)
+    go false r ea er d = let k : _≡_ {A = ℕ} 1 0 = d in absurd (omega arith)
+
+-- the judge passes just what lies in the window
+pub sound : (w : Shape) → Sound one (refusing w) w
+unfolding refusing one
+sound w a = on (λ (n : ℕ). n ≡ 0 → has w a ≡ true) (has w a) (λ e f. e) (λ e f. absurd (omega arith))
+
+pub sound-at : (w : Window) → Sound one (refusing (shapeOf w)) (one .shape w)
+unfolding one
+sound-at w = sound (shapeOf w)
+
+pub inside-judged : (w : Shape) (a : ℕ) → has w a ≡ true → refusing w a ≡ 0
+unfolding refusing
+inside-judged w a e = rw e
+
+pub mmix-sound : (s : State) (w : Shape) (i : Item) → Sound one (mmix .judge s w i) w
+unfolding mmix
+mmix-sound s w i = sound w
+
+-- ---- a ruled window
+
+pub record Ruled (w : Shape) : Type 0 where
+  pub base-aligned : w .from % 8 ≡ 0
+  pub base-word : w .from < 2 ^ 64
+  pub size-octas : w .size % 8 ≡ 0
+  pub size-most : w .size ≤ 65536
+
+pub ruled-facts : (w : Shape) → ruled w ≡ true → Ruled w
+unfolding ruled
+ruled-facts w e =
+    let e1 : (ltb (w .from) (2 ^ 64) && (eqb (w .size % 8) 0 && leb (w .size) 65536)) ≡ true = and-right (eqb (w .from % 8) 0) _ e in
+    let e2 : (eqb (w .size % 8) 0 && leb (w .size) 65536) ≡ true = and-right (ltb (w .from) (2 ^ 64)) _ e1 in
+    record {
+      base-aligned = eqb-true _ _ (and-left (eqb (w .from % 8) 0) _ e);
+      base-word = ltb-true _ _ (and-left (ltb (w .from) (2 ^ 64)) _ e1);
+      size-octas = eqb-true _ _ (and-left (eqb (w .size % 8) 0) _ e2);
+      size-most = leb-true _ _ (and-right (eqb (w .size % 8) 0) _ e2) }
+
+getD-part : (n : ℕ) (l : List ℕ) (o k : ℕ) → k < n → getD (part l o n) k 0 ≡ getD l (o + k) 0
+unfolding part
+getD-part zero l o k h = absurd (omega arith)
+getD-part (suc n) l o zero h = ap (λ (i : ℕ). getD l i 0) (omega arith)
+getD-part (suc n) l o (suc k) h = getD-part n l (suc o) k (omega arith) ∙ ap (λ (i : ℕ). getD l i 0) (omega arith)
+
+-- the distance back from an octabyte d places past the base, in octabytes; the sum may pass 2^61
+distance : (c d : ℕ) → c < 2 ^ 61 → d < 8192 → Dec (c + d < 2 ^ 61) → (8 * ((c + d) % 2 ^ 61) + (2 ^ 64 - 8 * c)) % 2 ^ 64 ≡ 8 * d
+distance c d p q (yes l) = let e : (c + d) % 2 ^ 61 ≡ c + d = omega arith in rw e (omega arith)
+distance c d p q (no l) = let e : (c + d) % 2 ^ 61 ≡ c + d - 2 ^ 61 = omega arith in rw e (omega arith)
+
+offset-byte : (b i : ℕ) → b % 8 ≡ 0 → b < 2 ^ 64 → i < 65536 → offset b (b + i) ≡ 8 * (i / 8)
+unfolding offset octa
+offset-byte b i al wo l =
+    let e : (b + i) / 8 ≡ b / 8 + i / 8 = omega arith in
+    let m : b % 2 ^ 64 ≡ 8 * (b / 8) = omega arith in
+    rw (e, m) (distance (b / 8) (i / 8) (omega arith) (omega arith) (decLt (b / 8 + i / 8) (2 ^ 61)))
+
+-- byte i of a window is byte i % 8 of the octabyte that its address names
+pub byte-of : (w : Window) (i : ℕ) → Ruled (shapeOf w) → i < length (w .bytes) → getD (w .bytes) i 0 ≡ getD (octaBytes w (w .base + i)) (i % 8) 0
+unfolding octaBytes shapeOf
+byte-of w i r l =
+    let n : length (w .bytes) ≤ 65536 = r .size-most in
+    let e : offset (w .base) (w .base + i) ≡ 8 * (i / 8) = offset-byte (w .base) i (r .base-aligned) (r .base-word) (omega arith) in
+    ap (λ (k : ℕ). getD (w .bytes) k 0) (omega arith) ∙ sym (getD-part 8 (w .bytes) (offset (w .base) (w .base + i)) (i % 8) (omega arith))
+
+pub bytes-agree : (F : ℕ → Type 0) (v w : Window) → Ruled (shapeOf v) → Agree one F v w → SameOutside F v w
+unfolding one
+bytes-agree F v w r g = record { base-same = bs; length-same = ls; byte-same = λ i off. byte i off (lt-or-le i (length (v .bytes))) }
+  where
+    bs : v .base ≡ w .base
+    bs = unfold shapeOf in (ap (λ (s : Shape). s .from) (g .shape-same))
+    ls : length (v .bytes) ≡ length (w .bytes)
+    ls = unfold shapeOf in (ap (λ (s : Shape). s .size) (g .shape-same))
+    byte : (i : ℕ) → Off F (v .base + i) → (i < length (v .bytes)) ⊎ (length (v .bytes) ≤ i) → getD (v .bytes) i 0 ≡ getD (w .bytes) i 0
+    byte i off (inl l) =
+      let rw' : Ruled (shapeOf w) = subst Ruled (g .shape-same) r in
+      byte-of v i r l ∙ ap (λ (bs : List ℕ). getD bs (i % 8) 0) (g .rest-same (v .base + i) off)
+      ∙ ap (λ (b : ℕ). getD (octaBytes w (b + i)) (i % 8) 0) bs ∙ sym (byte-of w i rw' (omega (arith, ls)))
+    byte i off (inr l) = List·getD-eq-default (v .bytes) 0 l ∙ sym (List·getD-eq-default (w .bytes) 0 (omega (arith, ls)))

@@ -1,0 +1,17 @@
+-- Theorem 2: what every step and every exception keeps.
+use mathlib.Core.Path.{_≡_, refl}
+use mathlib.Core.Bool.{true}
+use Prim.Native.Nat.{ℕ}
+use Rattle.model.specs.Registers.{Sized, admissible, MarginalZero}
+use Rattle.model.specs.Memory.{Window, one}
+use Rattle.model.specs.Step.{Item, itemPlan}
+use Rattle.model.specs.Keeps.{ItemsKeep}
+use Rattle.model.specs.declared.State.{State}
+use Rattle.model.proofs.Keeps.{Keeps, item-keeps, item-always}
+use Rattle.model.proofs.Calm.{Calm, calm-keeps}
+use Rattle.model.proofs.Good.{Good, adm, adm-of, goes-good, halted-good, set-good, putLocals-good, putGlobals-good, withStatus-good, withSpecial-good, pushed-good, popped-good, saved-good, unsaved-good, tripped-good, trapped-good, added-good}
+
+pub good-keeps : Keeps Good
+good-keeps = record {
+    at-pc = goes-good; at-halt = halted-good; write = set-good; locals = putLocals-good; globals = putGlobals-good; status = withStatus-good; other = withSpecial-good;
+    pushes = pushed-good; pops = popped-good; saves = λ s x e h. saved-good s x h; unsaves = unsaved-good; trips = tripped-good; traps = trapped-good; adds = added-good }
