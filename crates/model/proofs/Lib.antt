@@ -14,3 +14,4 @@ pub mod Kept
 pub mod Entry
 pub mod Frame
 pub mod Demand
+pub mod Points

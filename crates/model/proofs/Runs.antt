@@ -3,7 +3,7 @@ use mathlib.Core.Path.{_≡_, refl, sym, ap, _∙_, subst}
 use mathlib.Core.Logic.{_≢_}
 use mathlib.Core.Bool.{Bool, true, false, cond}
 use mathlib.Core.List.{List, [], _∷_, _++_}
-use Prim.Native.Nat.{ℕ, zero, suc, _+_, _-_, _*_, _/_, _%_, _≤_, _<_, max}
+use Prim.Native.Nat.{ℕ, zero, suc, _+_, _-_, _*_, _/_, _%_, _^_, _≤_, _<_, max}
 use native.Mathlib.Omega.{arith}
 use native.Mathlib.Nat.{zero-add}
 use native.Mathlib.Decide.{ℕ-discrete, decLe}
@@ -15,7 +15,7 @@ use Rattle.model.specs.Octa.{octa, valueOf, bytesOf}
 use Rattle.model.specs.Memory.{Store}
 use Rattle.model.specs.Plan.{Plan, answer, read, Outcome, perform, ups, All, Off, worst, clear, named, look, looks, puts}
 use Rattle.model.specs.Demand.{Within}
-use Rattle.model.proofs.Octa.{be-enc}
+use Rattle.model.proofs.Octa.{value-bytes}
 use Rattle.model.proofs.Plan.{worst-head, worst-tail, Kept, Sound, puts-kept}
 use Rattle.model.proofs.Memory.{Lawful}
 
@@ -38,20 +38,20 @@ unfolding octa
 octa-next a j k p q e =
     let f : (a + 8 * j) / 8 ≡ a / 8 + j = up a j in
     let g : (a + 8 * k) / 8 ≡ a / 8 + k = up a k in
-    wraps (a / 8) j k p q (rw (f, g) at e) (decLe ((a / 8 + k) / 2305843009213693952) ((a / 8 + j) / 2305843009213693952))
+    wraps (a / 8) j k p q (rw (f, g) at e) (decLe ((a / 8 + k) / 2 ^ 61) ((a / 8 + j) / 2 ^ 61))
   where
     up : (b i : ℕ) → (b + 8 * i) / 8 ≡ b / 8 + i
     up b i = omega arith
-    wraps : (b i l : ℕ) → i < l → l ≤ i + 1000 → 8 * ((b + i) % 2305843009213693952) ≡ 8 * ((b + l) % 2305843009213693952)
-      → Dec ((b + l) / 2305843009213693952 ≤ (b + i) / 2305843009213693952) → ⊥
+    wraps : (b i l : ℕ) → i < l → l ≤ i + 1000 → 8 * ((b + i) % 2 ^ 61) ≡ 8 * ((b + l) % 2 ^ 61)
+      → Dec ((b + l) / 2 ^ 61 ≤ (b + i) / 2 ^ 61) → ⊥
     wraps b i l u v x (yes c) = omega arith
     wraps b i l u v x (no c) = omega arith
 
 -- addresses are taken modulo 2^64
-pub octa-mod : (a b : ℕ) → a % 18446744073709551616 ≡ b % 18446744073709551616 → octa a ≡ octa b
+pub octa-mod : (a b : ℕ) → a % 2 ^ 64 ≡ b % 2 ^ 64 → octa a ≡ octa b
 octa-mod a b e = by a ∙ ap octa e ∙ sym (by b)
   where
-    by : (c : ℕ) → octa c ≡ octa (c % 18446744073709551616)
+    by : (c : ℕ) → octa c ≡ octa (c % 2 ^ 64)
     by c = unfold octa in omega arith
 
 ups-off : (n : ℕ) (a b k : ℕ) → b ≡ a + 8 * k → 1 ≤ k → k + n ≤ 1000 → All (λ c. octa c ≡ octa a → ⊥) (ups b n)
@@ -90,7 +90,7 @@ module _ {M Sh : Type 0} (st : Store M Sh) (law : Lawful st) where
   getD-looks (suc n) m a zero l = ap (look st m) (omega arith)
   getD-looks (suc n) m a (suc i) l = getD-looks n m (a + 8) i (omega arith) ∙ ap (look st m) (omega arith)
 
-  pub look-mod : (m : M) (a b : ℕ) → a % 18446744073709551616 ≡ b % 18446744073709551616 → look st m a ≡ look st m b
+  pub look-mod : (m : M) (a b : ℕ) → a % 2 ^ 64 ≡ b % 2 ^ 64 → look st m a ≡ look st m b
   unfolding look
   look-mod m a b e = rw (law .raw-octa m a b (octa-mod a b e))
 
@@ -108,8 +108,8 @@ module _ {M Sh : Type 0} (st : Store M Sh) (law : Lawful st) where
 
   -- THE fact: n octabytes f 0 .. f (n - 1) stored from a, then kept, are what is read there, at any address that names the place
   pub stands : (j : ℕ → ℕ) (n : ℕ) (f : ℕ → ℕ) (m w : M) (a : ℕ) → Sound st j (st .shape m) → worst j a n ≡ 0 → n ≤ 999
-    → ((i : ℕ) → i < n → f i < 18446744073709551616) → Kept st (Within a n) (puts st m a (tab 0 n f)) w
-    → (i b : ℕ) → i < n → b % 18446744073709551616 ≡ (a + 8 * i) % 18446744073709551616 → look st w b ≡ f i
+    → ((i : ℕ) → i < n → f i < 2 ^ 64) → Kept st (Within a n) (puts st m a (tab 0 n f)) w
+    → (i b : ℕ) → i < n → b % 2 ^ 64 ≡ (a + 8 * i) % 2 ^ 64 → look st w b ≡ f i
   stands j n f m w a snd h small words k i b l e =
       look-mod w b (a + 8 * i) e ∙ here
     where
@@ -117,7 +117,7 @@ module _ {M Sh : Type 0} (st : Store M Sh) (law : Lawful st) where
       len = length-tab n 0 f
       here : look st w (a + 8 * i) ≡ f i
       here = unfold look in (ap (valueOf 0) (k .octa-kept (a + 8 * i) (record { place = i; place-below = l; named-by = refl })
-        ∙ raw-puts j (tab 0 n f) m a i snd (rw len h) (omega (arith, len)) (omega (arith, len)) ∙ ap bytesOf (getD-tab n i f l)) ∙ be-enc (f i) (words i l))
+        ∙ raw-puts j (tab 0 n f) m a i snd (rw len h) (omega (arith, len)) (omega (arith, len)) ∙ ap bytesOf (getD-tab n i f l)) ∙ value-bytes (f i) (words i l))
 
   pub perform-read : {S : Type 0} (j : ℕ → ℕ) (s : S) (q a n : ℕ) (k : List ℕ → Plan S) (m : M) → worst j a n ≡ 0 → perform st j s (read q a n k) m ≡ perform st j s (k (looks st m a n)) m
   unfolding perform

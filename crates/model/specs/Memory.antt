@@ -5,9 +5,8 @@ use mathlib.Core.Bool.{Bool, _&&_}
 use mathlib.Core.List.{List}
 use Prim.Native.Nat.{ℕ, _+_, _-_, _%_, _^_}
 use lib.ListN.{length}
-use lib.Seq.{sets}
 use lib.Dec.{leb, ltb, eqb}
-use Rattle.model.specs.Octa.{octa, part, bytesOf}
+use Rattle.model.specs.Octa.{octa, part, written, bytesOf}
 
 -- "It is a lent byte slice and a base address"
 pub record Window : Type 0 where
@@ -43,7 +42,7 @@ octaBytes w a = part (w .bytes) (offset (w .base) a) 8
 
 -- it becomes v
 unfoldable pub writeOcta : Window → ℕ → ℕ → Window
-writeOcta w a v = record { base = w .base; bytes = sets (w .bytes) (offset (w .base) a) (bytesOf v) }
+writeOcta w a v = record { base = w .base; bytes = written (w .bytes) (offset (w .base) a) (bytesOf v) }
 
 pub record Store (M Sh : Type 0) : Type 0 where
   pub shape : M → Sh

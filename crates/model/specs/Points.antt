@@ -1,5 +1,5 @@
 -- Theorem 6. 01's bench points and its traps for the writer, as data: a start, a list of items, and all that is there afterwards, the
--- replies, the whole state, the whole window and the needs. P1 to P14 and the traps are met together, by one computed result.
+-- replies, the whole state and the whole window. P1 to P14 and the traps are met together, by one computed result.
 use Prim.Native.Nat.{ℕ, _+_, _*_, _^_}
 use mathlib.Core.Path.{_≡_}
 use mathlib.Core.Bool.{Bool, true, false, _&&_}
@@ -7,9 +7,8 @@ use mathlib.Core.List.{List, [], _∷_, _++_}
 use lib.Dec.{eqb}
 use lib.ListN.{replicate}
 use Rattle.model.specs.Memory.{Window, writeOcta, one}
-use Rattle.model.specs.Plan.{ups}
-use Rattle.model.specs.Lists.{Ran, runs, runNeeds}
-use Rattle.model.specs.Registers.{rJ, rO, rS, rG, rL, rA, rB, rT, rTT, rK, rV, rN, rW, rX, stackStart, fresh, goes, halted, withSpecial, stored}
+use Rattle.model.specs.Lists.{Ran, runs}
+use Rattle.model.specs.Registers.{rJ, rO, rS, rL, rA, rW, rX, stackStart, fresh, goes, halted, withSpecial, stored}
 use Rattle.model.specs.Step.{Item, step, exception, mmix}
 use Rattle.model.specs.declared.State.{State}
 
@@ -20,7 +19,6 @@ pub record Point : Type 0 where
   pub replies : List ℕ
   pub end : State
   pub left : Window
-  pub needed : List ℕ
 
 -- ---- what it is to be met
 
@@ -42,7 +40,7 @@ unfoldable pub shows : Point → Ran State Window → Bool
 shows c r = sameList (r .answers) (c .replies) && (sameState (r .state) (c .end) && sameWindow (r .memory) (c .left))
 
 unfoldable pub met : Point → Bool
-met c = shows c (runs one mmix (c .begin) (c .window) (c .items)) && sameList (runNeeds one mmix (c .begin) (c .window) (c .items)) (c .needed)
+met c = shows c (runs one mmix (c .begin) (c .window) (c .items))
 
 unfoldable pub allMet : List Point → Bool
 allMet [] = true
@@ -77,16 +75,16 @@ two a b = stored (stored (withSpecial start rL 2) 0 a) 1 b
 abbrev three : State
 three = stored (stored (stored (withSpecial start rL 3) 0 1) 1 2) 2 3
 
-abbrev point : State → Window → List Item → List ℕ → State → Window → List ℕ → Point
-point s w is rs t v ns = record { begin = s; window = w; items = is; replies = rs; end = t; left = v; needed = ns }
+abbrev point : State → Window → List Item → List ℕ → State → Window → Point
+point s w is rs t v = record { begin = s; window = w; items = is; replies = rs; end = t; left = v }
 
--- a step that needs nothing is done: what it leaves
+-- one item in the program's window that is done: the state that it leaves
 abbrev does : State → Item → State → Point
-does s i t = point s program (i ∷ []) (0 ∷ []) t program []
+does s i t = point s program (i ∷ []) (0 ∷ []) t program
 
--- a step that needs nothing is refused by a number from 7 to 18
+-- one item that is refused by a number from 7 to 18
 abbrev refuses : State → Item → ℕ → Point
-refuses s i n = point s program (i ∷ []) (n ∷ []) (halted s) program []
+refuses s i n = point s program (i ∷ []) (n ∷ []) (halted s) program
 
 -- what SAVE $255 stores of the start with $255 = v: octabytes 0 to 237, where 0 is rL, 224 is $255 and 237 is rG and rA
 abbrev parked : Window → ℕ → Window
@@ -100,7 +98,7 @@ abbrev addressed : State
 addressed = stored start 255 0x6000000000000768
 
 abbrev tooMany : ℕ → Point
-tooMany n = point addressed (counted n) (step 0xFB 0 0 255 ∷ []) (16 ∷ []) (halted addressed) (counted n) (0x6000000000000768 ∷ stackStart ∷ [])
+tooMany n = point addressed (counted n) (step 0xFB 0 0 255 ∷ []) (16 ∷ []) (halted addressed) (counted n)
 
 -- P12 and P13 leave the same trip registers: $255 and rJ are 0, @ is 0 and the instruction is 0
 abbrev afterTrip : State → State
@@ -110,16 +108,14 @@ unfoldable pub points : List Point
 points =
     -- P1, P2, P3
     point (two 7 9) program (step 0xF2 1 0 5 ∷ []) (0 ∷ [])
-      (goes (withSpecial (grown start 2) rJ 4) 0x14) (holding (holding program 0 7) 1 1) (ups stackStart 2)
+      (goes (withSpecial (grown start 2) rJ 4) 0x14) (holding (holding program 0 7) 1 1)
     ∷ point (two 7 9) program (step 0xF2 1 0 5 ∷ step 0xF8 0 0 0 ∷ []) (0 ∷ 0 ∷ [])
       (goes (withSpecial (stored (withSpecial start rL 1) 0 7) rJ 4) 4) (holding (holding program 0 7) 1 1)
-      (ups stackStart 2 ++ (0x6000000000000008 ∷ stackStart ∷ []))
     ∷ point (two 7 9) program (step 0xF2 1 0 5 ∷ step 0xF8 1 0 0 ∷ []) (0 ∷ 0 ∷ [])
       (goes (withSpecial (stored (withSpecial start rL 2) 0 7) rJ 4) 4) (holding (holding program 0 7) 1 1)
-      (ups stackStart 2 ++ (0x6000000000000008 ∷ stackStart ∷ []))
     -- P4
     ∷ point (two 7 9) program (step 0xF2 32 0 5 ∷ []) (0 ∷ [])
-      (goes (withSpecial (grown start 3) rJ 4) 0x14) (holding (holding (holding program 0 7) 1 9) 2 2) (ups stackStart 3)
+      (goes (withSpecial (grown start 3) rJ 4) 0x14) (holding (holding (holding program 0 7) 1 9) 2 2)
     -- P5
     ∷ does (withSpecial start rJ 0x100) (step 0xF8 0 0 3) (goes (withSpecial start rJ 0x100) 0x10c)
     -- P6
@@ -136,8 +132,8 @@ points =
     ∷ refuses (stored start 255 0x40000) (step 0xF6 21 0 255) 11
     -- P10
     ∷ point start (zeros 1904) (step 0xFA 255 0 0 ∷ []) (0 ∷ [])
-      (goes (grown addressed 238) 4) (parked (zeros 1904) 0) (ups stackStart 238)
-    ∷ point start (zeros 1896) (step 0xFA 255 0 0 ∷ []) (6 ∷ []) start (zeros 1896) (0x6000000000000768 ∷ [])
+      (goes (grown addressed 238) 4) (parked (zeros 1904) 0)
+    ∷ point start (zeros 1896) (step 0xFA 255 0 0 ∷ []) (6 ∷ []) start (zeros 1896)
     -- P11
     ∷ does (goes (stored start 255 (2 ^ 63)) 0x40000) (step 0x41 255 0 0) (stored start 255 (2 ^ 63))
     ∷ does (goes (stored start 255 (2 ^ 63)) 0x40000) (step 0x41 255 255 255) (goes (stored start 255 (2 ^ 63)) 0x3fffc)
@@ -148,18 +144,16 @@ points =
     ∷ point (withSpecial (two 7 9) rO 0xFFFFFFFFFFFFFFF8) (record { base = 0xFFFFFFFFFFFFFFF8; bytes = replicate 16 0 }) (step 0xF2 1 0 1 ∷ []) (0 ∷ [])
       (goes (withSpecial (withSpecial (withSpecial start rO 8) rS 8) rJ 4) 4)
       (record { base = 0xFFFFFFFFFFFFFFF8; bytes = replicate 7 0 ++ (7 ∷ replicate 7 0) ++ (1 ∷ []) })
-      (0xFFFFFFFFFFFFFFF8 ∷ 2 ^ 64 ∷ [])
     -- "the hole given the first output", "a PUSH that copies after clearing"
     ∷ point three program (step 0xF2 0 0 1 ∷ []) (0 ∷ [])
-      (goes (withSpecial (grown (two 2 3) 1) rJ 4) 4) program (ups stackStart 1)
+      (goes (withSpecial (grown (two 2 3) 1) rJ 4) 4) program
     ∷ point three program (step 0xF2 0 0 1 ∷ step 0xF8 2 0 0 ∷ []) (0 ∷ 0 ∷ [])
-      (goes (withSpecial (two 3 2) rJ 4) 4) program (stackStart ∷ stackStart ∷ [])
+      (goes (withSpecial (two 3 2) rJ 4) 4) program
     -- "SAVE's $X stored before the globals"
     ∷ point (stored start 255 77) program (step 0xFA 255 0 0 ∷ []) (0 ∷ [])
-      (goes (grown addressed 238) 4) (parked program 77) (ups stackStart 238)
+      (goes (grown addressed 238) 4) (parked program 77)
     ∷ point (stored start 255 77) program (step 0xFA 255 0 0 ∷ step 0xFB 0 0 255 ∷ []) (0 ∷ 0 ∷ [])
       (goes (stored start 255 77) 8) (parked program 77)
-      (ups stackStart 238 ++ (0x6000000000000768 ∷ stackStart ∷ ups stackStart 238))
     -- "a wide local count cut to a byte before it is compared": 256, 256 + rG, 2^32
     ∷ tooMany 256
     ∷ tooMany 288
