@@ -10,8 +10,10 @@ pub mod Good
 pub mod Meets
 pub mod Keeps
 pub mod Calm
+pub mod Words
 pub mod Kept
 pub mod Entry
 pub mod Frame
 pub mod Demand
+pub mod Leaves
 pub mod Points
