@@ -42,17 +42,21 @@ step-done w s op x y z = go (admissible s) (ruled (shapeOf w)) refl refl
     go false r ea er d = let k : _≡_ {A = ℕ} 1 0 = d in absurd (omega arith)
 
 -- the judge passes just what lies in the window
-pub sound : (w : Shape) → Sound one (refusing w) w
-unfolding refusing one
-sound w a = on (λ (n : ℕ). n ≡ 0 → has w a ≡ true) (has w a) (λ e f. e) (λ e f. absurd (omega arith))
-
-pub sound-at : (w : Window) → Sound one (refusing (shapeOf w)) (one .shape w)
-unfolding one
-sound-at w = sound (shapeOf w)
+pub judged-inside : (w : Shape) (a : ℕ) → refusing w a ≡ 0 → has w a ≡ true
+unfolding refusing
+judged-inside w a = on (λ (n : ℕ). n ≡ 0 → has w a ≡ true) (has w a) (λ e f. e) (λ e f. absurd (omega arith))
 
 pub inside-judged : (w : Shape) (a : ℕ) → has w a ≡ true → refusing w a ≡ 0
 unfolding refusing
 inside-judged w a e = rw e
+
+pub sound : (w : Shape) → Sound one (refusing w) w
+unfolding one
+sound w a = judged-inside w a
+
+pub sound-at : (w : Window) → Sound one (refusing (shapeOf w)) (one .shape w)
+unfolding one
+sound-at w = sound (shapeOf w)
 
 pub mmix-sound : (s : State) (w : Shape) (i : Item) → Sound one (mmix .judge s w i) w
 unfolding mmix

@@ -16,4 +16,6 @@ pub mod Entry
 pub mod Frame
 pub mod Demand
 pub mod Leaves
+pub mod Needs
+pub mod Locality
 pub mod Points
