@@ -60,7 +60,7 @@ abbrev pushedOn : Window → State → ℕ → ℕ → Outcome State Window
 pushedOn w s h u = record { reply = 0; state = pushed s h u; memory = puts one w (sp s rO) (tab 0 (h + 1) (framed s h)) }
 
 call-open : (c : Call) (w : Window) (s : State) (x y z : ℕ) → admissible s ≡ true → ruled (shapeOf w) ≡ true
-  → stepOf w s (opcodeOf c) x y z ≡ perform one (refusing (shapeOf w)) s (pushFrame s (hole s x) (targetOfCall c s y z)) w
+    → stepOf w s (opcodeOf c) x y z ≡ perform one (refusing (shapeOf w)) s (pushFrame s (hole s x) (targetOfCall c s y z)) w
 call-open c w s x y z a r =
     step-open w s (opcodeOf c) x y z a r (call-arm c x y z) ∙ ap (λ (p : Plan State). perform one (refusing (shapeOf w)) s p w) (call-plan c s x y z)
 
@@ -78,8 +78,8 @@ call-done c w s x y z d =
     fit = unfold pushFrame perform in (rw (length-tab (hole s x + 1) 0 (framed s (hole s x))) (go (eqb (worst (refusing (shapeOf w)) (sp s rO) (hole s x + 1)) 0) refl))
       where
         go : (b : Bool) → eqb (worst (refusing (shapeOf w)) (sp s rO) (hole s x + 1)) 0 ≡ b
-          → (cond {A = Outcome State Window} b (pushedOn w s (hole s x) (targetOfCall c s y z)) (record { reply = worst (refusing (shapeOf w)) (sp s rO) (hole s x + 1); state = s; memory = w })) .reply ≡ 0
-          → worst (refusing (shapeOf w)) (sp s rO) (hole s x + 1) ≡ 0
+            → (cond {A = Outcome State Window} b (pushedOn w s (hole s x) (targetOfCall c s y z)) (record { reply = worst (refusing (shapeOf w)) (sp s rO) (hole s x + 1); state = s; memory = w })) .reply ≡ 0
+            → worst (refusing (shapeOf w)) (sp s rO) (hole s x + 1) ≡ 0
         go true e f = eqb-true _ _ e
         go false e f = f
 
@@ -91,7 +91,7 @@ window-shape w a vs = puts-shape one one-lawful vs w a
 
 -- POP at the entry
 pop-open : (v : Window) (e : State) (x y z : ℕ) → admissible e ≡ true → ruled (shapeOf v) ≡ true
-  → stepOf v e 0xF8 x y z ≡ perform one (refusing (shapeOf v)) e (popFrame e x ((sp e rJ + 4 * yzOf y z) % 2 ^ 64)) v
+    → stepOf v e 0xF8 x y z ≡ perform one (refusing (shapeOf v)) e (popFrame e x ((sp e rJ + 4 * yzOf y z) % 2 ^ 64)) v
 unfolding planOf armOf refusalOf
 pop-open v e x y z a r = step-open v e 0xF8 x y z a r refl
 
@@ -103,15 +103,15 @@ place : (r o h : ℕ) → r ≡ (o + 8 * (h + 1)) % 2 ^ 64 → o < 2 ^ 64 → h 
 place r o h q u m n = omega arith
 
 back-core : (w : Window) (s : State) (h u : ℕ) (is : List Item) → Words s → Good s → ruled (shapeOf w) ≡ true → h ≤ sp s rG
-  → worst (refusing (shapeOf w)) (sp s rO) (h + 1) ≡ 0
-  → All (Off (Within (sp s rO) (h + 1))) (runTouches one mmix (pushed s h u) (pushedOn w s h u .memory) is)
-  → AtPop h (sp (pushed s h u) rO) (after (pushedOn w s h u) is .state) → (x y z : ℕ) → GivesBack h s (popAfter (after (pushedOn w s h u) is) x y z)
+    → worst (refusing (shapeOf w)) (sp s rO) (h + 1) ≡ 0
+    → All (Off (Within (sp s rO) (h + 1))) (runTouches one mmix (pushed s h u) (pushedOn w s h u .memory) is)
+    → AtPop h (sp (pushed s h u) rO) (after (pushedOn w s h u) is .state) → (x y z : ℕ) → GivesBack h s (popAfter (after (pushedOn w s h u) is) x y z)
 back-core w s h u is words good fine hg fits touched at x y z =
     let e : State = after (pushedOn w s h u) is .state in
     let v : Window = after (pushedOn w s h u) is .memory in
     let ge : Good e = runs-always one one-lawful mmix Good mmix-good is (pushed s h u) (pushedOn w s h u .memory) (pushed-good s h u good) in
     let k : Kept one (Within (sp s rO) (h + 1)) (pushedOn w s h u .memory) v
-          = runs-kept one one-lawful mmix (Within (sp s rO) (h + 1)) mmix-sound is (pushed s h u) (pushedOn w s h u .memory) touched in
+    = runs-kept one one-lawful mmix (Within (sp s rO) (h + 1)) mmix-sound is (pushed s h u) (pushedOn w s h u .memory) touched in
     let sh : shapeOf v ≡ shapeOf w = kept-shape (Within (sp s rO) (h + 1)) (pushedOn w s h u .memory) v k ∙ window-shape w (sp s rO) (tab 0 (h + 1) (framed s h)) in
     let gg : sp s rG ≤ 255 = good .admits .g-high in
     let small : h ≤ 255 = omega arith in
@@ -122,17 +122,18 @@ back-core w s h u is words good fine hg fits touched at x y z =
     let b0 : sp e rO ≡ sp s rO + 8 * (h + 1) = place (sp e rO) (sp s rO) h ro (words .special-word rO) small b2 in
     let t : ℕ = (sp e rJ + 4 * yzOf y z) % 2 ^ 64 in
     let op : stepOf v e 0xF8 x y z ≡ perform one (refusing (shapeOf w)) e (popFrame e x ((sp e rJ + 4 * yzOf y z) % 2 ^ 64)) v
-          = pop-open v e x y z (adm-of e (ge .admits)) (ap ruled sh ∙ fine) ∙ ap (λ (q : Shape). perform one (refusing q) e (popFrame e x ((sp e rJ + 4 * yzOf y z) % 2 ^ 64)) v) sh in
+    = pop-open v e x y z (adm-of e (ge .admits)) (ap ruled sh ∙ fine) ∙ ap (λ (q : Shape). perform one (refusing q) e (popFrame e x ((sp e rJ + 4 * yzOf y z) % 2 ^ 64)) v) sh in
     record {
       done = ap (λ (o : Outcome State Window). o .reply) (op ∙ pop-is one one-lawful (refusing (shapeOf w)) s e h w v small (sound-at w) fits (words .general-word) k b0 b1 b2 b3 (at .reach) (ge .admits .g-high) (ge .size) x ((sp e rJ + 4 * yzOf y z) % 2 ^ 64));
       locals = λ i l. ap (λ (o : Outcome State Window). reg (o .state) i) op
-        ∙ pop-reg one one-lawful (refusing (shapeOf w)) s e h w v small (sound-at w) fits (words .general-word) k b0 b1 b2 b3 (at .reach) (ge .admits .g-high) (ge .size) x ((sp e rJ + 4 * yzOf y z) % 2 ^ 64) i l }
+          ∙ pop-reg one one-lawful (refusing (shapeOf w)) s e h w v small (sound-at w) fits (words .general-word) k b0 b1 b2 b3 (at .reach) (ge .admits .g-high) (ge .size) x ((sp e rJ + 4 * yzOf y z) % 2 ^ 64) i l;
+    }
 
 -- no list changes the window's base or length
 end-shape : (w : Window) (s : State) (h u : ℕ) (is : List Item) → shapeOf (after (pushedOn w s h u) is .memory) ≡ shapeOf w
 end-shape w s h u is =
     kept-shape (λ o. ⊥) (pushedOn w s h u .memory) _
-      (runs-kept one one-lawful mmix (λ o. ⊥) mmix-sound is (pushed s h u) (pushedOn w s h u .memory) (All-of _ (runTouches one mmix (pushed s h u) (pushedOn w s h u .memory) is) (λ b x. x)))
+    (runs-kept one one-lawful mmix (λ o. ⊥) mmix-sound is (pushed s h u) (pushedOn w s h u .memory) (All-of _ (runTouches one mmix (pushed s h u) (pushedOn w s h u .memory) is) (λ b x. x)))
     ∙ window-shape w (sp s rO) (tab 0 (h + 1) (framed s h))
 
 -- ---- two runs
@@ -157,30 +158,30 @@ unfolding admissible
 admissible-alike s t e f = rw (e, f)
 
 pair-core : (w : Window) (s t : State) (h u : ℕ) (is : List Item) → Words s → Words t → Good s → Good t → ruled (shapeOf w) ≡ true → h ≤ sp s rG → Alike h s t
-  → worst (refusing (shapeOf w)) (sp s rO) (h + 1) ≡ 0
-  → All (Off (Within (sp s rO) (h + 1))) (afterNeeds (pushedOn w s h u) is)
-  → Private h s t (pushedOn w s h u) (pushedOn w t h u) is
+    → worst (refusing (shapeOf w)) (sp s rO) (h + 1) ≡ 0
+    → All (Off (Within (sp s rO) (h + 1))) (afterNeeds (pushedOn w s h u) is)
+    → Private h s t (pushedOn w s h u) (pushedOn w t h u) is
 pair-core w s t h u is ws wt gs gt fine hg alike fits off =
     let os : sp s rO ≡ sp t rO = ap (λ (l : List ℕ). getD l rO 0) (alike .special-same) in
     let gse : sp s rG ≡ sp t rG = ap (λ (l : List ℕ). getD l rG 0) (alike .special-same) in
     let fits-t : worst (refusing (shapeOf w)) (sp t rO) (h + 1) ≡ 0 = rw (← os) fits in
     let st : pushed s h u ≡ pushed t h u = pushed-alike s t h u (gs .size) (gt .size) hg alike in
     let calls : Same one (Within (sp s rO) h) (pushedOn w s h u) (pushedOn w t h u)
-          = rw (push-is one one-lawful (refusing (shapeOf w)) s h u w fits, push-is one one-lawful (refusing (shapeOf w)) t h u w fits-t)
-              at (push-same one one-lawful (refusing (shapeOf w)) s t h u w (gs .size) (gt .size) hg alike (sound-at w) fits) in
+    = rw (push-is one one-lawful (refusing (shapeOf w)) s h u w fits, push-is one one-lawful (refusing (shapeOf w)) t h u w fits-t)
+    at (push-same one one-lawful (refusing (shapeOf w)) s t h u w (gs .size) (gt .size) hg alike (sound-at w) fits) in
     let ms : Agree one (Within (sp s rO) h) (pushedOn w s h u .memory) (pushedOn w t h u .memory) = calls .memory-same in
     let touched : All (Off (Within (sp s rO) (h + 1))) (runTouches one mmix (pushed s h u) (pushedOn w s h u .memory) is)
-          = runTouches-off one one-lawful mmix (Off (Within (sp s rO) (h + 1))) is (pushed s h u) (pushedOn w s h u .memory) off in
+    = runTouches-off one one-lawful mmix (Off (Within (sp s rO) (h + 1))) is (pushed s h u) (pushedOn w s h u .memory) off in
     let near : All (Off (Within (sp s rO) h)) (runTouches one mmix (pushed s h u) (pushedOn w s h u .memory) is) = narrow (sp s rO) h _ touched in
     let same : SameRun one mmix (Within (sp s rO) h) (after (pushedOn w s h u) is) (after (pushedOn w t h u) is)
-          = subst (λ (p : State). SameRun one mmix (Within (sp s rO) h) (after (pushedOn w s h u) is) (runs one mmix p (pushedOn w t h u .memory) is)) st
-              (runs-agree one one-lawful mmix (Within (sp s rO) h) mmix-sound is (pushed s h u) (pushedOn w s h u .memory) (pushedOn w t h u .memory) ms near) in
+    = subst (λ (p : State). SameRun one mmix (Within (sp s rO) h) (after (pushedOn w s h u) is) (runs one mmix p (pushedOn w t h u .memory) is)) st
+    (runs-agree one one-lawful mmix (Within (sp s rO) h) mmix-sound is (pushed s h u) (pushedOn w s h u .memory) (pushedOn w t h u .memory) ms near) in
     let te : runTouches one mmix (pushed s h u) (pushedOn w s h u .memory) is ≡ runTouches one mmix (pushed t h u) (pushedOn w t h u .memory) is
-          = runTouches-agree one one-lawful mmix (Within (sp s rO) h) mmix-sound is (pushed s h u) (pushedOn w s h u .memory) (pushedOn w t h u .memory) ms near
-            ∙ ap (λ (p : State). runTouches one mmix p (pushedOn w t h u .memory) is) st in
+    = runTouches-agree one one-lawful mmix (Within (sp s rO) h) mmix-sound is (pushed s h u) (pushedOn w s h u .memory) (pushedOn w t h u .memory) ms near
+    ∙ ap (λ (p : State). runTouches one mmix p (pushedOn w t h u .memory) is) st in
     let touched-t : All (Off (Within (sp t rO) (h + 1))) (runTouches one mmix (pushed t h u) (pushedOn w t h u .memory) is)
-          = subst (λ (o : ℕ). All (Off (Within o (h + 1))) (runTouches one mmix (pushed t h u) (pushedOn w t h u .memory) is)) os
-              (subst (λ (xs : List ℕ). All (Off (Within (sp s rO) (h + 1))) xs) te touched) in
+    = subst (λ (o : ℕ). All (Off (Within o (h + 1))) (runTouches one mmix (pushed t h u) (pushedOn w t h u .memory) is)) os
+    (subst (λ (xs : List ℕ). All (Off (Within (sp s rO) (h + 1))) xs) te touched) in
     let ee : after (pushedOn w s h u) is .state ≡ after (pushedOn w t h u) is .state = same .state-same in
     record {
       call-same = refl;
@@ -189,7 +190,8 @@ pair-core w s t h u is ws wt gs gt fine hg alike fits off =
       window-same = bytes-agree (Within (sp s rO) h) _ _ (ruled-facts _ (ap ruled (end-shape w s h u is) ∙ fine)) (same .memory-same);
       first-back = back-core w s h u is ws gs fine hg fits touched;
       second-back = λ at. back-core w t h u is wt gt fine (subst (λ (g : ℕ). h ≤ g) gse hg) fits-t touched-t
-        (subst (λ (p : State). AtPop h (sp p rO) (after (pushedOn w t h u) is .state)) st (subst (λ (p : State). AtPop h (sp (pushed s h u) rO) p) ee at)) }
+          (subst (λ (p : State). AtPop h (sp p rO) (after (pushedOn w t h u) is .state)) st (subst (λ (p : State). AtPop h (sp (pushed s h u) rO) p) ee at));
+    }
 
 pushed-pc : (s : State) (h u : ℕ) → pushed s h u .pc ≡ u
 unfolding pushed pushedRule spilled withSpecial goes
@@ -205,20 +207,20 @@ demand3 w s t c x y z is ns nt ws wt alike done pcs =
     let gt : Good t = record { size = nt; admits = adm t at } in
     let fits-t : worst (refusing (shapeOf w)) (sp t rO) (hole s x + 1) ≡ 0 = rw (← os) (cs .fits) in
     let la : stepOf w s (opcodeOf c) x y z ≡ pushedOn w s (hole s x) (targetOfCall c s y z)
-          = call-open c w s x y z (cs .good) (cs .fine) ∙ push-is one one-lawful (refusing (shapeOf w)) s (hole s x) (targetOfCall c s y z) w (cs .fits) in
+    = call-open c w s x y z (cs .good) (cs .fine) ∙ push-is one one-lawful (refusing (shapeOf w)) s (hole s x) (targetOfCall c s y z) w (cs .fits) in
     let lb : stepOf w t (opcodeOf c) x y z ≡ pushedOn w t (hole s x) (targetOfCall c t y z)
-          = call-open c w t x y z at (cs .fine) ∙ ap (λ (h : ℕ). perform one (refusing (shapeOf w)) t (pushFrame t h (targetOfCall c t y z)) w) hs
-            ∙ push-is one one-lawful (refusing (shapeOf w)) t (hole s x) (targetOfCall c t y z) w fits-t in
+    = call-open c w t x y z at (cs .fine) ∙ ap (λ (h : ℕ). perform one (refusing (shapeOf w)) t (pushFrame t h (targetOfCall c t y z)) w) hs
+    ∙ push-is one one-lawful (refusing (shapeOf w)) t (hole s x) (targetOfCall c t y z) w fits-t in
     let us : targetOfCall c t y z ≡ targetOfCall c s y z
-          = sym (ap (λ (o : Outcome State Window). o .state .pc) lb ∙ pushed-pc t (hole s x) (targetOfCall c t y z)) ∙ sym pcs
-            ∙ (ap (λ (o : Outcome State Window). o .state .pc) la ∙ pushed-pc s (hole s x) (targetOfCall c s y z)) in
+    = sym (ap (λ (o : Outcome State Window). o .state .pc) lb ∙ pushed-pc t (hole s x) (targetOfCall c t y z)) ∙ sym pcs
+    ∙ (ap (λ (o : Outcome State Window). o .state .pc) la ∙ pushed-pc s (hole s x) (targetOfCall c s y z)) in
     let lb2 : stepOf w t (opcodeOf c) x y z ≡ pushedOn w t (hole s x) (targetOfCall c s y z) = lb ∙ ap (λ (u : ℕ). pushedOn w t (hole s x) u) us in
     subst (λ (a : Outcome State Window). All (Off (Within (sp s rO) (hole s x + 1))) (afterNeeds a is) → Private (hole s x) s t a (stepOf w t (opcodeOf c) x y z) is) (sym la)
-      (λ off. subst (λ (b : Outcome State Window). Private (hole s x) s t (pushedOn w s (hole s x) (targetOfCall c s y z)) b is) (sym lb2)
-        (pair-core w s t (hole s x) (targetOfCall c s y z) is ws wt gs gt (cs .fine) (hole-le s x (gs .admits)) alike (cs .fits) off))
+    (λ off. subst (λ (b : Outcome State Window). Private (hole s x) s t (pushedOn w s (hole s x) (targetOfCall c s y z)) b is) (sym lb2)
+    (pair-core w s t (hole s x) (targetOfCall c s y z) is ws wt gs gt (cs .fine) (hole-le s x (gs .admits)) alike (cs .fits) off))
 
 -- the wider needs hold the needs
 pub demand3-wider : Demand3Wider
 demand3-wider w s t c x y z is ns nt ws wt alike done pcs off =
     demand3 w s t c x y z is ns nt ws wt alike done pcs
-      (runWider-off one one-lawful mmix (Off (Within (sp s rO) (hole s x + 1))) is (stepOf w s (opcodeOf c) x y z .state) (stepOf w s (opcodeOf c) x y z .memory) off)
+    (runWider-off one one-lawful mmix (Off (Within (sp s rO) (hole s x + 1))) is (stepOf w s (opcodeOf c) x y z .state) (stepOf w s (opcodeOf c) x y z .memory) off)

@@ -1,4 +1,4 @@
--- The entries once 1 to 5 have passed; the window's judge; and windows equal octabyte by octabyte, which are equal byte by byte.
+-- The entries once 1 to 5 have passed; the window's judge; a ruled window; and windows equal octabyte by octabyte, which are equal byte by byte.
 use mathlib.Core.Path.{_≡_, refl, sym, ap, _∙_, subst}
 use mathlib.Core.Logic.{_⊎_, inl, inr}
 use mathlib.Core.Bool.{Bool, true, false, cond, _&&_}
@@ -11,10 +11,10 @@ use lib.Dec.{leb, ltb, eqb}
 use borrow.Author.Tests.{eqb-true, ltb-true, leb-true}
 use Rattle.model.specs.Octa.{octa, part}
 use Rattle.model.specs.Memory.{Window, Shape, shapeOf, ruled, offset, has, octaBytes, one}
-use Rattle.model.specs.Plan.{Plan, Outcome, perform, worst, Off, Agree}
+use Rattle.model.specs.Plan.{Plan, answer, Outcome, perform, worst, clear, puts, Off, Agree}
 use Rattle.model.specs.Registers.{admissible}
-use Rattle.model.specs.Opcodes.{armOf}
-use Rattle.model.specs.Said.{say, tell}
+use Rattle.model.specs.Opcodes.{Arm, armOf}
+use Rattle.model.specs.Said.{tell}
 use Rattle.model.specs.Step.{refusalOf, judged, refusing, planOf, stepPlan, stepOf, Item, itemPlan, mmix}
 use Rattle.model.specs.Demand.{SameOutside}
 use Rattle.model.specs.declared.State.{State}
@@ -24,22 +24,48 @@ use Rattle.model.proofs.Plan.{Sound}
 
 -- ---- judging
 
+-- a plan performed on a window, and that all n octabytes from a lie inside it
+abbrev pub performOn : {S : Type 0} → Window → S → Plan S → Outcome S Window
+performOn w s p = perform one (refusing (shapeOf w)) s p w
+
+abbrev pub Inside : Window → ℕ → ℕ → Type 0
+Inside w a n = worst (refusing (shapeOf w)) a n ≡ 0
+
+-- an answer that stores nothing
+pub said : {S : Type 0} (w : Window) (s t : S) (r : ℕ) → performOn w s (answer r t 0 []) ≡ record { reply = r; state = t; memory = w }
+unfolding perform worst puts
+said w s t r = refl
+
+pub said-reply : {S : Type 0} (w : Window) (s t : S) (r : ℕ) → performOn w s (answer r t 0 []) .reply ≡ r
+said-reply w s t r = ap (λ (o : Outcome _ Window). o .reply) (said w s t r)
+
+-- an answer that is done has room for all that it stores
+pub answered : (j : ℕ → ℕ) (s t : State) (r a : ℕ) (vs : List ℕ) (w : Window) → perform one j s (answer r t a vs) w .reply ≡ 0 → worst j a (length vs) ≡ 0
+unfolding perform
+answered j s t r a vs w =
+    on {A = Outcome State Window} (λ o. o .reply ≡ 0 → worst j a (length vs) ≡ 0) (clear j a (length vs)) (λ e h. eqb-true _ _ e) (λ e h. h)
+
+-- the step is its arm's plan
 pub step-open : (w : Window) (s : State) (op x y z : ℕ) → admissible s ≡ true → ruled (shapeOf w) ≡ true → refusalOf (armOf op) x y z ≡ 0
-  → stepOf w s op x y z ≡ perform one (refusing (shapeOf w)) s (planOf s (armOf op) op x y z) w
+    → stepOf w s op x y z ≡ performOn w s (planOf s (armOf op) op x y z)
 unfolding stepOf stepPlan judged
 step-open w s op x y z a r e = rw (a, r, e)
 
--- a step that is done was refused by neither 1 nor 2
+-- what judging passes is neither 1 nor 2
+judged-passes : (s : State) (w : Shape) (a : Arm) (x y z : ℕ) → judged s w a x y z ≡ 0 → (admissible s ≡ true) × (ruled w ≡ true)
+unfolding judged
+judged-passes s w a x y z =
+    on (λ (n : ℕ). n ≡ 0 → (admissible s ≡ true) × (ruled w ≡ true)) (admissible s)
+    (λ e. on (λ (n : ℕ). n ≡ 0 → (admissible s ≡ true) × (ruled w ≡ true)) (ruled w) (λ f h. (e, f)) (λ f h. absurd (omega arith)))
+    (λ e h. absurd (omega arith))
+
+-- and so of a step that is done
 pub step-done : (w : Window) (s : State) (op x y z : ℕ) → stepOf w s op x y z .reply ≡ 0 → (admissible s ≡ true) × (ruled (shapeOf w) ≡ true)
-unfolding stepOf stepPlan judged tell perform worst
-step-done w s op x y z = go (admissible s) (ruled (shapeOf w)) refl refl
-  where
-    go : (a r : Bool) → admissible s ≡ a → ruled (shapeOf w) ≡ r
-      → perform one (refusing (shapeOf w)) s (cond (eqb (cond a (cond r (refusalOf (armOf op) x y z) 2) 1) 0) (planOf s (armOf op) op x y z) (tell (say (cond a (cond r (refusalOf (armOf op) x y z) 2) 1) s))) w .reply ≡ 0
-      → (admissible s ≡ true) × (ruled (shapeOf w) ≡ true)
-    go true true ea er d = (ea, er)
-    go true false ea er d = let k : _≡_ {A = ℕ} 2 0 = d in absurd (omega arith)
-    go false r ea er d = let k : _≡_ {A = ℕ} 1 0 = d in absurd (omega arith)
+unfolding stepOf stepPlan tell
+step-done w s op x y z h =
+    judged-passes s (shapeOf w) (armOf op) x y z
+    (on (λ (p : Plan State). performOn w s p .reply ≡ 0 → judged s (shapeOf w) (armOf op) x y z ≡ 0)
+    (eqb (judged s (shapeOf w) (armOf op) x y z) 0) (λ e d. eqb-true _ _ e) (λ e d. sym (said-reply w s s _) ∙ d) h)
 
 -- the judge passes just what lies in the window
 pub judged-inside : (w : Shape) (a : ℕ) → refusing w a ≡ 0 → has w a ≡ true
@@ -79,7 +105,8 @@ ruled-facts w e =
       base-aligned = eqb-true _ _ (and-left (eqb (w .from % 8) 0) _ e);
       base-word = ltb-true _ _ (and-left (ltb (w .from) (2 ^ 64)) _ e1);
       size-octas = eqb-true _ _ (and-left (eqb (w .size % 8) 0) _ e2);
-      size-most = leb-true _ _ (and-right (eqb (w .size % 8) 0) _ e2) }
+      size-most = leb-true _ _ (and-right (eqb (w .size % 8) 0) _ e2);
+    }
 
 getD-part : (n : ℕ) (l : List ℕ) (o k : ℕ) → k < n → getD (part l o n) k 0 ≡ getD l (o + k) 0
 unfolding part
@@ -113,11 +140,13 @@ bytes-agree F v w r g = record { base-same = bs; length-same = ls; byte-same = �
   where
     bs : v .base ≡ w .base
     bs = unfold shapeOf in (ap (λ (s : Shape). s .from) (g .shape-same))
+
     ls : length (v .bytes) ≡ length (w .bytes)
     ls = unfold shapeOf in (ap (λ (s : Shape). s .size) (g .shape-same))
+
     byte : (i : ℕ) → Off F (v .base + i) → (i < length (v .bytes)) ⊎ (length (v .bytes) ≤ i) → getD (v .bytes) i 0 ≡ getD (w .bytes) i 0
     byte i off (inl l) =
-      let rw' : Ruled (shapeOf w) = subst Ruled (g .shape-same) r in
-      byte-of v i r l ∙ ap (λ (bs : List ℕ). getD bs (i % 8) 0) (g .rest-same (v .base + i) off)
-      ∙ ap (λ (b : ℕ). getD (octaBytes w (b + i)) (i % 8) 0) bs ∙ sym (byte-of w i rw' (omega (arith, ls)))
+        let rw' : Ruled (shapeOf w) = subst Ruled (g .shape-same) r in
+        byte-of v i r l ∙ ap (λ (bs : List ℕ). getD bs (i % 8) 0) (g .rest-same (v .base + i) off)
+        ∙ ap (λ (b : ℕ). getD (octaBytes w (b + i)) (i % 8) 0) bs ∙ sym (byte-of w i rw' (omega (arith, ls)))
     byte i off (inr l) = List·getD-eq-default (v .bytes) 0 l ∙ sym (List·getD-eq-default (w .bytes) 0 (omega (arith, ls)))

@@ -109,7 +109,7 @@ getD-map f (x ∷ xs) (suc i) h = getD-map f xs i (le-of-suc-le-suc h)
 
 -- two lists with the same first b elements put in, alike from there on
 pub over-cong : (f g : ℕ → ℕ) (b : ℕ) (k l : List ℕ) → length k ≡ length l → ((i : ℕ) → f i ≡ g i) → ((i : ℕ) → b ≤ i → getD k i 0 ≡ getD l i 0)
-  → over f 0 b k ≡ over g 0 b l
+    → over f 0 b k ≡ over g 0 b l
 over-cong f g b k l e p q =
     ext-getD 0 (over f 0 b k) (over g 0 b l) (length-over f 0 b k ∙ e ∙ sym (length-over g 0 b l))
     (λ i n. let m : i < length k = omega (arith, length-over f 0 b k) in

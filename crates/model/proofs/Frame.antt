@@ -32,17 +32,21 @@ slide-alike s t h n ns nt l b a =
   where
     gs : sp s rG ≡ sp t rG
     gs = ap (λ (l : List ℕ). getD l rG 0) (a .special-same)
+
     ls : sp s rL ≡ sp t rL
     ls = ap (λ (l : List ℕ). getD l rL 0) (a .special-same)
+
     slides : (i : ℕ) → slid s n i ≡ slid t n i
-    slides i = unfold slid in (rw (← ls) (on-both (λ (u v : ℕ). u ≡ v) (ltb i (sp s rL - n)) (λ e. a .rest-same _ (omega arith)) (λ e. refl)))
+    slides i = unfold slid in (rw (← ls) (on-both (λ (u v : ℕ). u ≡ v) (ltb i (sp s rL - n)) (λ e. let q : reg s (n + i) ≡ reg t (n + i) = a .rest-same (n + i) (omega arith) in cc) (λ e. refl)))
+
     generals : over (slid s n) 0 (sp s rG) (s .general) ≡ over (slid t n) 0 (sp t rG) (t .general)
     generals = rw (← gs) (over-cong (slid s n) (slid t n) (sp s rG) (s .general) (t .general) (ns .generals ∙ sym (nt .generals)) slides (λ i l. a .rest-same i (omega arith)))
+
     specials : slide s n .special ≡ slide t n .special
     specials = unfold slide in (rw (← (a .special-same)))
 
 moved-alike : (s t : State) (h n u : ℕ) → Sized s → Sized t → h ≤ sp s rG → Alike h s t → h ≤ n
-  → spilled (goes (withSpecial (slide s n) rJ (following s)) u) ≡ spilled (goes (withSpecial (slide t n) rJ (following t)) u)
+    → spilled (goes (withSpecial (slide s n) rJ (following s)) u) ≡ spilled (goes (withSpecial (slide t n) rJ (following t)) u)
 moved-alike s t h n u ns nt b a l = rw (slide-alike s t h n ns nt l b a, a .pc-same)
 
 -- what is pushed is gone from the state: two that differ below the hole become one
@@ -71,39 +75,45 @@ module _ {M Sh : Type 0} (st : Store M Sh) (law : Lawful st) where
       go (yes e) = rw (← e) (put-agree st law F v w a x g h)
       go (no n) = record {
         shape-same = law .put-shape v a x ∙ g .shape-same ∙ sym (law .put-shape w a y);
-        rest-same = λ b o. law .put-other v a b x (λ e. o (subst F e (f n))) ∙ g .rest-same b o ∙ sym (law .put-other w a b y (λ e. o (subst F e (f n)))) }
+        rest-same = λ b o. law .put-other v a b x (λ e. o (subst F e (f n))) ∙ g .rest-same b o ∙ sym (law .put-other w a b y (λ e. o (subst F e (f n))));
+      }
 
   puts-differ : (F : ℕ → Type 0) (j : ℕ → ℕ) (f g : ℕ → ℕ) (n i : ℕ) (v w : M) (a : ℕ) → Sound st j (st .shape v) → worst j a n ≡ 0
-    → ((k : ℕ) → k < n → (f (i + k) ≡ g (i + k) → ⊥) → F (octa (a + 8 * k))) → Agree st F v w → Agree st F (puts st v a (tab i n f)) (puts st w a (tab i n g))
+      → ((k : ℕ) → k < n → (f (i + k) ≡ g (i + k) → ⊥) → F (octa (a + 8 * k))) → Agree st F v w → Agree st F (puts st v a (tab i n f)) (puts st w a (tab i n g))
   unfolding tab puts
   puts-differ F j f g zero i v w a snd h inside q = q
   puts-differ F j f g (suc n) i v w a snd h inside q =
       puts-differ F j f g n (suc i) (st .put v a (f i)) (st .put w a (g i)) (a + 8) (λ b c. rw (law .put-shape v a (f i)) (snd b c)) (worst-tail j a n h) next
-        (put-differ F v w a (f i) (g i) (snd a (worst-head j a n h)) here q)
+      (put-differ F v w a (f i) (g i) (snd a (worst-head j a n h)) here q)
     where
       here : (f i ≡ g i → ⊥) → F (octa a)
       here d = let e : a + 8 * 0 ≡ a = omega arith in let z : i + 0 ≡ i = omega arith in rw e at (inside 0 (omega arith) (rw z d))
+
       next : (k : ℕ) → k < n → (f (suc i + k) ≡ g (suc i + k) → ⊥) → F (octa (a + 8 + 8 * k))
       next k l d = let e : a + 8 * suc k ≡ a + 8 + 8 * k = omega arith in let z : i + suc k ≡ suc i + k = omega arith in rw e at (inside (suc k) (omega arith) (rw z d))
 
   pub push-is : (j : ℕ → ℕ) (s : State) (h u : ℕ) (m : M) → worst j (sp s rO) (h + 1) ≡ 0
-    → perform st j s (pushFrame s h u) m ≡ record { reply = 0; state = pushed s h u; memory = puts st m (sp s rO) (tab 0 (h + 1) (framed s h)) }
+      → perform st j s (pushFrame s h u) m ≡ record { reply = 0; state = pushed s h u; memory = puts st m (sp s rO) (tab 0 (h + 1) (framed s h)) }
   unfolding pushFrame perform
   push-is j s h u m ok = rw (length-tab (h + 1) 0 (framed s h), eq-eqb _ _ ok)
 
   -- (1) the call: two runs that differ in the locals below the hole
   pub push-same : (j : ℕ → ℕ) (s t : State) (h u : ℕ) (m : M) → Sized s → Sized t → h ≤ sp s rG → Alike h s t → Sound st j (st .shape m) → worst j (sp s rO) (h + 1) ≡ 0
-    → Same st (Within (sp s rO) h) (perform st j s (pushFrame s h u) m) (perform st j t (pushFrame t h u) m)
+      → Same st (Within (sp s rO) h) (perform st j s (pushFrame s h u) m) (perform st j t (pushFrame t h u) m)
   push-same j s t h u m ns nt l a snd ok =
       let os : sp s rO ≡ sp t rO = ap (λ (k : List ℕ). getD k 10 0) (a .special-same) in
       let wt : Agree st (Within (sp s rO) h) (puts st m (sp s rO) (tab 0 (h + 1) (framed s h))) (puts st m (sp s rO) (tab 0 (h + 1) (framed t h)))
-            = puts-differ (Within (sp s rO) h) j (framed s h) (framed t h) (h + 1) 0 m m (sp s rO) snd ok inside (record { shape-same = refl; rest-same = λ b o. refl }) in
+      = puts-differ (Within (sp s rO) h) j (framed s h) (framed t h) (h + 1) 0 m m (sp s rO) snd ok inside (record { shape-same = refl; rest-same = λ b o. refl }) in
       rw (push-is j s h u m ok, push-is j t h u m (rw (← os) ok)) (record {
-        reply-same = refl; state-same = pushed-alike s t h u ns nt l a; memory-same = rw (← os) wt })
+        reply-same = refl;
+        state-same = pushed-alike s t h u ns nt l a;
+        memory-same = rw (← os) wt;
+      })
     where
       equal : (k : ℕ) (b : Bool) → ltb k h ≡ b → h ≤ k → cond b (reg s k) h ≡ cond b (reg t k) h
       equal k true e p = absurd (let q : k < h = ltb-true _ _ e in omega arith)
       equal k false e p = refl
+
       inside : (k : ℕ) → k < h + 1 → (framed s h (0 + k) ≡ framed t h (0 + k) → ⊥) → Within (sp s rO) h (octa (sp s rO + 8 * k))
       inside k p d = go (decLt k h)
         where
@@ -156,10 +166,10 @@ module _ {M Sh : Type 0} (st : Store M Sh) (law : Lawful st) where
       where
         local : (ls : List ℕ) → reg (popped e x t h ls) i ≡ getD ls i 0
         local ls = popped-local e x t h ls i ne l (omega arith) ge
+
         got : getD (looks st w (sp e rO - 8 * (h + 1)) (min h (sp e rG))) i 0 ≡ reg s i
         got = let p : sp e rO - 8 * (h + 1) + 8 * i ≡ sp s rO + 8 * i = omega arith in
-          getD-looks st law (min h (sp e rG)) w (sp e rO - 8 * (h + 1)) i (omega arith) ∙ ap (look st w) p ∙ octabyte i (omega arith) ∙ (unfold framed in rw (lt-ltb i h l))
-
+            getD-looks st law (min h (sp e rG)) w (sp e rO - 8 * (h + 1)) i (omega arith) ∙ ap (look st w) p ∙ octabyte i (omega arith) ∙ (unfold framed in rw (lt-ltb i h l))
 
 pub push-rO : (s : State) (h t : ℕ) → length (s .special) ≡ 32 → sp (pushed s h t) rO ≡ (sp s rO + 8 * (h + 1)) % 2 ^ 64
 unfolding pushed pushedRule slide spilled withSpecial goes

@@ -40,7 +40,8 @@ adm s e =
       g-high = leb-true _ _ (and-left (leb (sp s rG) 255) _ e1);
       l-g = leb-true _ _ (and-left (leb (sp s rL) (sp s rG)) _ e2);
       a-high = leb-true _ _ (and-left (leb (sp s rA) 0x3FFFF) _ e3);
-      marks-high = ltb-true _ _ (and-right (leb (sp s rA) 0x3FFFF) _ e3) }
+      marks-high = ltb-true _ _ (and-right (leb (sp s rA) 0x3FFFF) _ e3);
+    }
 
 pub adm-of : (s : State) → Adm s → admissible s ≡ true
 unfolding admissible
@@ -56,18 +57,20 @@ spec-same l i v n e = getD-set-same l i v 0 (let k : i < 32 = ltb-true i 32 e in
 -- ---- builders
 
 pub good-by : (s t : State) → length (t .general) ≡ length (s .general) → length (t .special) ≡ length (s .special)
-  → (g l a : ℕ) → sp t rG ≡ g → sp t rL ≡ l → sp t rA ≡ a → t .marks ≡ s .marks
-  → 32 ≤ g → g ≤ 255 → l ≤ g → a ≤ 0x3FFFF → Good s → Good t
+    → (g l a : ℕ) → sp t rG ≡ g → sp t rL ≡ l → sp t rA ≡ a → t .marks ≡ s .marks
+    → 32 ≤ g → g ≤ 255 → l ≤ g → a ≤ 0x3FFFF → Good s → Good t
 good-by s t eg es g l a e1 e2 e3 em b1 b2 b3 b4 h =
     let n1 : length (s .general) ≡ 256 = h .size .generals in
     let n2 : length (s .special) ≡ 32 = h .size .specials in
     let m : s .marks < 512 = h .admits .marks-high in
-    record { size = record { generals = eg ∙ n1; specials = es ∙ n2 };
-      admits = record { g-low = omega arith; g-high = omega arith; l-g = omega arith; a-high = omega arith; marks-high = omega arith } }
+    record {
+      size = record { generals = eg ∙ n1; specials = es ∙ n2 };
+      admits = record { g-low = omega arith; g-high = omega arith; l-g = omega arith; a-high = omega arith; marks-high = omega arith };
+    }
 
 -- where rG and rA are as before
 pub good-l : (s t : State) → length (t .general) ≡ length (s .general) → length (t .special) ≡ length (s .special)
-  → (l : ℕ) → sp t rG ≡ sp s rG → sp t rL ≡ l → sp t rA ≡ sp s rA → t .marks ≡ s .marks → l ≤ sp s rG → Good s → Good t
+    → (l : ℕ) → sp t rG ≡ sp s rG → sp t rL ≡ l → sp t rA ≡ sp s rA → t .marks ≡ s .marks → l ≤ sp s rG → Good s → Good t
 good-l s t eg es l e1 e2 e3 em b h =
     good-by s t eg es (sp s rG) l (sp s rA) e1 e2 e3 em (h .admits .g-low) (h .admits .g-high) b (h .admits .a-high) h
 
@@ -92,7 +95,7 @@ pub withSpecial-good : (s : State) (k v : ℕ) → eqb rG k ≡ false → eqb rL
 unfolding withSpecial
 withSpecial-good s k v g l a h =
     good-l s (withSpecial s k v) refl (length-set (s .special) k v) (sp s rL) (spec-other (s .special) k rG v g) (spec-other (s .special) k rL v l)
-      (spec-other (s .special) k rA v a) refl (h .admits .l-g) h
+    (spec-other (s .special) k rA v a) refl (h .admits .l-g) h
 
 pub withLocal-good : (s : State) (v : ℕ) → v ≤ sp s rG → Good s → Good (withSpecial s rL v)
 unfolding withSpecial
@@ -138,7 +141,7 @@ pub slide-good : (s : State) (n : ℕ) → Good s → Good (slide s n)
 unfolding slide
 slide-good s n g = let m : length (s .special) ≡ 32 = g .size .specials in let b : sp s rL ≤ sp s rG = g .admits .l-g in
     good-l s (slide s n) (length-over (slid s n) 0 (sp s rG) (s .general)) (simp length-set) (sp s rL - n)
-      (simp spec-other) (simp (spec-other, spec-same, length-set, m)) (simp spec-other) refl (omega arith) g
+    (simp spec-other) (simp (spec-other, spec-same, length-set, m)) (simp spec-other) refl (omega arith) g
 
 pub pushed-good : (s : State) (h t : ℕ) → Good s → Good (pushed s h t)
 unfolding pushed pushedRule
@@ -149,7 +152,7 @@ pub unslide-good : (s : State) (x h : ℕ) (ls : List ℕ) → Good s → Good (
 unfolding unslide
 unslide-good s x h ls g = let m : length (s .special) ≡ 32 = g .size .specials in
     good-l s (unslide s x h ls) (length-over (restored s x h ls) 0 (sp s rG) (s .general)) (simp length-set) (min (h + countOf s x) (sp s rG))
-      (simp spec-other) (simp (spec-other, spec-same, length-set, m)) (simp spec-other) refl (omega arith) g
+    (simp spec-other) (simp (spec-other, spec-same, length-set, m)) (simp spec-other) refl (omega arith) g
 
 pub popped-good : (s : State) (x t h : ℕ) (ls : List ℕ) → Good s → Good (popped s x t h ls)
 unfolding popped
@@ -157,7 +160,7 @@ popped-good s x t h ls g = spilled-good _ (goes-good _ t (unslide-good s x h ls 
 
 -- SAVE's state but for rS
 pub savedRule-good : (s : State) (x : ℕ) → Good s → Good (savedRule s x)
-unfolding savedRule
+unfolding savedRule stored
 savedRule-good s x g = let m : length (s .special) ≡ 32 = g .size .specials in
     good-l s _ (simp (length-set, length-over)) (simp length-set) 0 (simp spec-other) (simp (spec-other, spec-same, length-set, m)) (simp spec-other) refl (omega arith) g
 
@@ -166,7 +169,7 @@ unfolding savedState
 saved-good s x g = spilled-good _ (savedRule-good s x g)
 
 pub unsaved-special : (s : State) (o g a l : ℕ) (vs : List ℕ) (k : ℕ) → length (s .special) ≡ 32 → k < 32
-  → getD (over (unsavedSpecial s o g a l vs) 0 32 (s .special)) k 0 ≡ unsavedSpecial s o g a l vs k
+    → getD (over (unsavedSpecial s o g a l vs) 0 32 (s .special)) k 0 ≡ unsavedSpecial s o g a l vs k
 unsaved-special s o g a l vs k n b = over-in (unsavedSpecial s o g a l vs) 0 32 (s .special) k (omega arith) b (omega arith)
 
 -- UNSAVE's state but for rS
@@ -175,9 +178,9 @@ unfolding unsavedRule
 unsavedRule-good s o g a l vs p q r u h =
     let n : length (s .special) ≡ 32 = h .size .specials in
     good-by s _ (length-over (unsavedGeneral g l vs) 0 256 (s .general)) (length-over (unsavedSpecial s o g a l vs) 0 32 (s .special)) g l a
-      (unsaved-special s o g a l vs rG n (omega arith) ∙ (unfold unsavedSpecial in refl))
-      (unsaved-special s o g a l vs rL n (omega arith) ∙ (unfold unsavedSpecial in refl))
-      (unsaved-special s o g a l vs rA n (omega arith) ∙ (unfold unsavedSpecial in refl)) refl p q u r h
+    (unsaved-special s o g a l vs rG n (omega arith) ∙ (unfold unsavedSpecial in refl))
+    (unsaved-special s o g a l vs rL n (omega arith) ∙ (unfold unsavedSpecial in refl))
+    (unsaved-special s o g a l vs rA n (omega arith) ∙ (unfold unsavedSpecial in refl)) refl p q u r h
 
 pub unsaved-good : (s : State) (o g a l : ℕ) (vs : List ℕ) → 32 ≤ g → g ≤ 255 → a ≤ 0x3FFFF → l ≤ g → Good s → Good (unsaved s o g a l vs)
 unfolding unsaved

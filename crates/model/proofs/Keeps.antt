@@ -51,32 +51,39 @@ answers-map P Q f (read q a n k) h = (h .0, λ vs u. answers-map P Q f (k vs) (h
 module _ (P : State → Type 0) (k : Keeps P) where
   meets : (s : State) → P s → Meets s Any Any (λ r t vs. P t)
   meets s h = record {
-      word = λ n b. tt; general-is = λ i. tt; special-is = λ i. tt;
-      refuses = λ n a b. h; halts = λ n a b. k .at-halt s h; moves = λ a w. k .at-pc s a h;
-      writes = λ x v a w u. k .at-pc _ a (k .write s x v h);
-      locals = λ v a w u. k .at-pc _ a (k .locals s v h);
-      globals = λ v a b c d w. k .at-pc _ a (k .globals s v b c d h);
-      status = λ v a b w. k .at-pc _ a (k .status s v b h);
-      other = λ i v a b c d w u. k .at-pc _ a (k .other s i v b c d h);
-      pushes = λ x t w. k .pushes s (hole s x) t h;
-      pops = λ x t i ls w r. k .pops s x t i ls h;
-      saves = λ x b. k .saves s x b h;
-      unsaves = λ o g a l vs w b c d e r. k .unsaves s o g a l vs b c d e h }
+    word = λ n b. tt;
+    general-is = λ i. tt;
+    special-is = λ i. tt;
+    refuses = λ n a b. h;
+    halts = λ n a b. k .at-halt s h;
+    moves = λ a w. k .at-pc s a h;
+    writes = λ x v a w u. k .at-pc _ a (k .write s x v h);
+    locals = λ v a w u. k .at-pc _ a (k .locals s v h);
+    globals = λ v a b c d w. k .at-pc _ a (k .globals s v b c d h);
+    status = λ v a b w. k .at-pc _ a (k .status s v b h);
+    other = λ i v a b c d w u. k .at-pc _ a (k .other s i v b c d h);
+    pushes = λ x t w. k .pushes s (hole s x) t h;
+    pops = λ x t i ls w r. k .pops s x t i ls h;
+    saves = λ x b. k .saves s x b h;
+    unsaves = λ o g a l vs w b c d e r. k .unsaves s o g a l vs b c d e h;
+  }
 
   meets-trip : (s : State) (n u v : ℕ) → P s → MeetsTrip s Any (λ r t vs. P t) n u v
   meets-trip s n u v h = record { trips = λ a w. k .at-pc _ a (k .trips s n u v h); trips-not = k .at-halt _ (k .trips s n u v h) }
 
 -- what Q gives, where Q is kept and an admissible state has it, every state keeps: one that is not admissible is refused by 1
 pub item-keeps : (P Q : State → Type 0) → Keeps Q → ((t : State) → Q t → P t)
-  → (s : State) (w : Shape) (i : Item) → (admissible s ≡ true → Q s) → P s → Always P (itemPlan s w i)
+    → (s : State) (w : Shape) (i : Item) → (admissible s ≡ true → Q s) → P s → Always P (itemPlan s w i)
 unfolding itemPlan tell Always
 item-keeps P Q k f s w (step op x y z) q h =
     answers-always P (stepPlan s w op x y z) (step-meets s w Any (λ r t vs. P t) (λ n a b. h) op x y z (λ e. answers-map P Q f (planOf s (armOf op) op x y z)
-      (plan-meets s Any Any (λ r t vs. Q t) (meets Q k s (q e)) (armOf op) op x y z tt (meets-trip Q k s _ _ _ (q e)) (k .at-halt _ (k .traps s _ _ _ (q e))))))
+    (plan-meets s Any Any (λ r t vs. Q t) (meets Q k s (q e)) (armOf op) op x y z tt (meets-trip Q k s _ _ _ (q e)) (k .at-halt _ (k .traps s _ _ _ (q e))))))
 item-keeps P Q k f s w (exception g op x y z u v) q h =
     exception-meets s Any (λ r t vs. P t) g op x y z u v (λ n b. tt) h
-      (λ e. (λ a b. f _ (k .at-pc _ a (k .adds s g (q e))),
-        record { trips = λ a b. f _ (k .at-pc _ a (k .trips _ _ u v (k .adds s g (q e)))); trips-not = f _ (k .at-halt _ (k .trips _ _ u v (k .adds s g (q e)))) }))
+    (λ e. (
+      λ a b. f _ (k .at-pc _ a (k .adds s g (q e))),
+      record { trips = λ a b. f _ (k .at-pc _ a (k .trips _ _ u v (k .adds s g (q e)))); trips-not = f _ (k .at-halt _ (k .trips _ _ u v (k .adds s g (q e)))) },
+    ))
 
 pub item-always : (P : State → Type 0) (w : Window) (s : State) (i : Item) → P s → Always P (itemPlan s (one .shape w) i) → P (stepOn one mmix s w i .state)
 unfolding stepOn mmix

@@ -28,7 +28,7 @@ use Rattle.model.proofs.Meets.{Answers, Meets, MeetsTrip, plan-meets, s
 -- ---- the trip and trap registers
 
 interrupts : (s : State) (b w x y z word u v : ℕ) → Sized s → b < w → w < x → x < y → y < z → z < 32
-  → Interrupted s (halted (interrupted s b w x y z word u v)) b w x y z word u v
+    → Interrupted s (halted (interrupted s b w x y z word u v)) b w x y z word u v
 unfolding halted interrupted
 interrupts s b w x y z word u v n bw wx xy yz zl =
     let m : length (s .special) ≡ 32 = n .specials in
@@ -43,19 +43,20 @@ interrupts s b w x y z word u v n bw wx xy yz zl =
     let n4 : length l4 ≡ 32 = length-set l3 y u ∙ n3 in
     record {
       bootstrap = getD-set-other l4 z b v 0 (λ e. omega arith) ∙ getD-set-other l3 y b u 0 (λ e. omega arith) ∙ getD-set-other l2 x b word 0 (λ e. omega arith)
-        ∙ getD-set-other l1 w b (following s) 0 (λ e. omega arith) ∙ getD-set-same (s .special) b (reg s 255) 0 (omega arith);
+          ∙ getD-set-other l1 w b (following s) 0 (λ e. omega arith) ∙ getD-set-same (s .special) b (reg s 255) 0 (omega arith);
       return = getD-set-same (s .general) 255 (sp s rJ) 0 (omega arith);
       after = getD-set-other l4 z w v 0 (λ e. omega arith) ∙ getD-set-other l3 y w u 0 (λ e. omega arith) ∙ getD-set-other l2 x w word 0 (λ e. omega arith)
-        ∙ getD-set-same l1 w (following s) 0 (omega arith);
+          ∙ getD-set-same l1 w (following s) 0 (omega arith);
       instruction = getD-set-other l4 z x v 0 (λ e. omega arith) ∙ getD-set-other l3 y x u 0 (λ e. omega arith) ∙ getD-set-same l2 x word 0 (omega arith);
       first = getD-set-other l4 z y v 0 (λ e. omega arith) ∙ getD-set-same l3 y u 0 (omega arith);
       second = getD-set-same l4 z v 0 (omega arith);
       other-special = λ k kb kw kx ky kz. getD-set-other l4 z k v 0 kz ∙ getD-set-other l3 y k u 0 ky ∙ getD-set-other l2 x k word 0 kx
-        ∙ getD-set-other l1 w k (following s) 0 kw ∙ getD-set-other (s .special) b k (reg s 255) 0 kb;
+          ∙ getD-set-other l1 w k (following s) 0 kw ∙ getD-set-other (s .special) b k (reg s 255) 0 kb;
       other-general = λ i ne. getD-set-other (s .general) 255 i (sp s rJ) 0 ne;
       pc-unmoved = refl;
       halt-one = refl;
-      marks-same = refl }
+      marks-same = refl;
+    }
 
 trips : (s : State) (word u v : ℕ) → Sized s → Tripped s (halted (tripped s word u v)) word u v
 trips s word u v n = interrupts s rB rW rX rY rZ word u v n (omega arith) (omega arith) (omega arith) (omega arith) (omega arith)
@@ -75,24 +76,54 @@ record Answered (s : State) (op x y z : ℕ) (r : ℕ) (t : State) (vs : List �
 
 module _ (s : State) (op x y z : ℕ) where
   as-done : (t : State) (vs : List ℕ) → t .halt ≡ s .halt → Answered s op x y z 0 t vs
-  as-done t vs e = record { most = omega arith; one-to-six = λ p q. absurd (omega arith); seven-to-eighteen = λ p q. absurd (omega arith);
-      nineteen = λ p. absurd (omega arith); twenty = λ p. absurd (omega arith); done = λ p. e }
+  as-done t vs e = record {
+    most = omega arith;
+    one-to-six = λ p q. absurd (omega arith);
+    seven-to-eighteen = λ p q. absurd (omega arith);
+    nineteen = λ p. absurd (omega arith);
+    twenty = λ p. absurd (omega arith);
+    done = λ p. e;
+  }
 
   as-refused : (n : ℕ) → 1 ≤ n → n ≤ 5 → Answered s op x y z n s []
-  as-refused n a b = record { most = omega arith; one-to-six = λ p q. (refl, refl); seven-to-eighteen = λ p q. absurd (omega arith);
-      nineteen = λ p. absurd (omega arith); twenty = λ p. absurd (omega arith); done = λ p. absurd (omega arith) }
+  as-refused n a b = record {
+    most = omega arith;
+    one-to-six = λ p q. (refl, refl);
+    seven-to-eighteen = λ p q. absurd (omega arith);
+    nineteen = λ p. absurd (omega arith);
+    twenty = λ p. absurd (omega arith);
+    done = λ p. absurd (omega arith);
+  }
 
   as-halted : (n : ℕ) → 7 ≤ n → n ≤ 18 → Answered s op x y z n (halted s) []
-  as-halted n a b = record { most = omega arith; one-to-six = λ p q. absurd (omega arith); seven-to-eighteen = λ p q. (refl, refl);
-      nineteen = λ p. absurd (omega arith); twenty = λ p. absurd (omega arith); done = λ p. absurd (omega arith) }
+  as-halted n a b = record {
+    most = omega arith;
+    one-to-six = λ p q. absurd (omega arith);
+    seven-to-eighteen = λ p q. (refl, refl);
+    nineteen = λ p. absurd (omega arith);
+    twenty = λ p. absurd (omega arith);
+    done = λ p. absurd (omega arith);
+  }
 
   as-tripped : (t : State) → Tripped s t (wordOf op x y z) (reg s y) (reg s z) → Answered s op x y z 19 t []
-  as-tripped t h = record { most = omega arith; one-to-six = λ p q. absurd (omega arith); seven-to-eighteen = λ p q. absurd (omega arith);
-      nineteen = λ p. (h, refl); twenty = λ p. absurd (omega arith); done = λ p. absurd (omega arith) }
+  as-tripped t h = record {
+    most = omega arith;
+    one-to-six = λ p q. absurd (omega arith);
+    seven-to-eighteen = λ p q. absurd (omega arith);
+    nineteen = λ p. (h, refl);
+    twenty = λ p. absurd (omega arith);
+    done = λ p. absurd (omega arith);
+  }
 
   as-trapped : (t : State) → Trapped s t (wordOf op x y z) (reg s y) (reg s z) → Answered s op x y z 20 t []
-  as-trapped t h = record { most = omega arith; one-to-six = λ p q. absurd (omega arith); seven-to-eighteen = λ p q. absurd (omega arith);
-      nineteen = λ p. absurd (omega arith); twenty = λ p. (h, refl); done = λ p. absurd (omega arith) }
+  as-trapped t h = record {
+    most = omega arith;
+    one-to-six = λ p q. absurd (omega arith);
+    seven-to-eighteen = λ p q. absurd (omega arith);
+    nineteen = λ p. absurd (omega arith);
+    twenty = λ p. (h, refl);
+    done = λ p. absurd (omega arith);
+  }
 
 -- a write of $X leaves the halt code
 set-halt : (s : State) (x v : ℕ) → setRegister s x v .halt ≡ s .halt
@@ -100,50 +131,62 @@ unfolding setRegister stored claimLocal withSpecial cleared
 set-halt s x v = on (λ (t : State). t .halt ≡ s .halt) (isMarginal s x) (λ e. refl) (λ e. refl)
 
 answered : (s : State) (op x y z : ℕ) → Meets s Any Any (Answered s op x y z)
-unfolding goes pushed pushedRule slide popped unslide savedState savedRule unsaved unsavedRule spilled withSpecial putLocals putGlobals cleared
+unfolding goes pushed pushedRule slide popped unslide savedState savedRule stored unsaved unsavedRule spilled withSpecial putLocals putGlobals cleared
 answered s op x y z = record {
-    word = λ n b. tt; general-is = λ i. tt; special-is = λ k. tt;
-    refuses = as-refused s op x y z; halts = as-halted s op x y z;
-    moves = λ a w. as-done s op x y z _ [] refl;
-    writes = λ k v a w u. as-done s op x y z _ [] (set-halt s k v);
-    locals = λ v a w u. as-done s op x y z _ [] refl;
-    globals = λ v a b c d w. as-done s op x y z _ [] refl;
-    status = λ v a b w. as-done s op x y z _ [] refl;
-    other = λ k v a b c d w u. as-done s op x y z _ [] refl;
-    pushes = λ k t w. as-done s op x y z _ _ refl;
-    pops = λ k t h ls w r. as-done s op x y z _ [] refl;
-    saves = λ k b. as-done s op x y z _ _ refl;
-    unsaves = λ o g a l vs w b c d e r. as-done s op x y z _ [] refl }
+  word = λ n b. tt;
+  general-is = λ i. tt;
+  special-is = λ k. tt;
+  refuses = as-refused s op x y z;
+  halts = as-halted s op x y z;
+  moves = λ a w. as-done s op x y z _ [] refl;
+  writes = λ k v a w u. as-done s op x y z _ [] (set-halt s k v);
+  locals = λ v a w u. as-done s op x y z _ [] refl;
+  globals = λ v a b c d w. as-done s op x y z _ [] refl;
+  status = λ v a b w. as-done s op x y z _ [] refl;
+  other = λ k v a b c d w u. as-done s op x y z _ [] refl;
+  pushes = λ k t w. as-done s op x y z _ _ refl;
+  pops = λ k t h ls w r. as-done s op x y z _ [] refl;
+  saves = λ k b. as-done s op x y z _ _ refl;
+  unsaves = λ o g a l vs w b c d e r. as-done s op x y z _ [] refl;
+}
 
 answered-trip : (s : State) (op x y z : ℕ) → Sized s → MeetsTrip s Any (Answered s op x y z) (wordOf op x y z) (reg s y) (reg s z)
 unfolding goes interrupted
 answered-trip s op x y z n = record {
-    trips = λ a w. as-done s op x y z _ [] refl;
-    trips-not = as-tripped s op x y z _ (trips s (wordOf op x y z) (reg s y) (reg s z) n) }
+  trips = λ a w. as-done s op x y z _ [] refl;
+  trips-not = as-tripped s op x y z _ (trips s (wordOf op x y z) (reg s y) (reg s z) n);
+}
 
 stored-none : (w : Window) (a : ℕ) (vs : List ℕ) → vs ≡ [] → puts one w a vs ≡ w
 stored-none w a vs e = rw e (unfold puts in refl)
 
 leaves-of : (w : Window) (s : State) (op x y z : ℕ) (r : ℕ) (t : State) (a : ℕ) (vs : List ℕ) → Answered s op x y z r t vs
-  → StepLeaves w s op x y z (record { reply = r; state = t; memory = puts one w a vs })
+    → StepLeaves w s op x y z (record { reply = r; state = t; memory = puts one w a vs })
 leaves-of w s op x y z r t a vs h = record {
-    most = h .most;
-    one-to-six = λ p q. (h .one-to-six p q .0, stored-none w a vs (h .one-to-six p q .1));
-    seven-to-eighteen = λ p q. (h .seven-to-eighteen p q .0, stored-none w a vs (h .seven-to-eighteen p q .1));
-    nineteen = λ p. (h .nineteen p .0, stored-none w a vs (h .nineteen p .1));
-    twenty = λ p. (h .twenty p .0, stored-none w a vs (h .twenty p .1));
-    done = h .done }
+  most = h .most;
+  one-to-six = λ p q. (h .one-to-six p q .0, stored-none w a vs (h .one-to-six p q .1));
+  seven-to-eighteen = λ p q. (h .seven-to-eighteen p q .0, stored-none w a vs (h .seven-to-eighteen p q .1));
+  nineteen = λ p. (h .nineteen p .0, stored-none w a vs (h .nineteen p .1));
+  twenty = λ p. (h .twenty p .0, stored-none w a vs (h .twenty p .1));
+  done = h .done;
+}
 
 step-leaves : (w : Window) (s : State) (op x y z : ℕ) → Sized s → StepLeaves w s op x y z (stepOf w s op x y z)
 unfolding stepOf
 step-leaves w s op x y z n =
     perform-meets w s Any (Answered s op x y z) (StepLeaves w s op x y z)
-      (record { most = omega arith; one-to-six = λ p q. (refl, refl); seven-to-eighteen = λ p q. absurd (omega arith);
-        nineteen = λ p. absurd (omega arith); twenty = λ p. absurd (omega arith); done = λ p. absurd (omega arith) })
-      (leaves-of w s op x y z) (λ a k. tt) (stepPlan s (shapeOf w) op x y z)
-      (step-meets s (shapeOf w) Any (Answered s op x y z) (as-refused s op x y z) op x y z
-        (λ e. plan-meets s Any Any (Answered s op x y z) (answered s op x y z) (armOf op) op x y z tt (answered-trip s op x y z n)
-          (as-trapped s op x y z _ (traps s (wordOf op x y z) (reg s y) (reg s z) n))))
+    (record {
+      most = omega arith;
+      one-to-six = λ p q. (refl, refl);
+      seven-to-eighteen = λ p q. absurd (omega arith);
+      nineteen = λ p. absurd (omega arith);
+      twenty = λ p. absurd (omega arith);
+      done = λ p. absurd (omega arith);
+    })
+    (leaves-of w s op x y z) (λ a k. tt) (stepPlan s (shapeOf w) op x y z)
+    (step-meets s (shapeOf w) Any (Answered s op x y z) (as-refused s op x y z) op x y z
+    (λ e. plan-meets s Any Any (Answered s op x y z) (answered s op x y z) (armOf op) op x y z tt (answered-trip s op x y z n)
+    (as-trapped s op x y z _ (traps s (wordOf op x y z) (reg s y) (reg s z) n))))
 
 -- ---- an exception
 
@@ -164,14 +207,23 @@ exception-leaves s f op x y z u v n =
   where
     as-zero : (t : State) → t .halt ≡ s .halt → Raised s f (wordOf op x y z) u v 0 t []
     as-zero t e = record { among = inl refl; inadmissible = λ p. absurd (omega arith); not-loaded = λ p. absurd (omega arith); done = λ p. e }
+
     met : Raised s f (wordOf op x y z) u v (exceptionOf s f op x y z u v .reply) (exceptionOf s f op x y z u v .state) []
     met = unfold goes withAdded withSpecial in (
-      exception-meets s Any (Raised s f (wordOf op x y z) u v) f op x y z u v (λ k b. tt)
+        exception-meets s Any (Raised s f (wordOf op x y z) u v) f op x y z u v (λ k b. tt)
         (record { among = inr (inl refl); inadmissible = λ p. refl; not-loaded = λ p. absurd (omega arith); done = λ p. absurd (omega arith) })
-        (λ e. (λ a w. as-zero _ refl, record {
-          trips = λ a w. as-zero _ (unfold interrupted goes withAdded withSpecial in refl);
-          trips-not = record { among = inr (inr refl); inadmissible = λ p. absurd (omega arith);
-            not-loaded = λ p. trips (withAdded s f) (wordOf op x y z) u v (added-sized s f n); done = λ p. absurd (omega arith) } })))
+        (λ e. (
+          λ a w. as-zero _ refl,
+          record {
+            trips = λ a w. as-zero _ (unfold interrupted goes withAdded withSpecial in refl);
+            trips-not = record {
+              among = inr (inr refl);
+              inadmissible = λ p. absurd (omega arith);
+              not-loaded = λ p. trips (withAdded s f) (wordOf op x y z) u v (added-sized s f n);
+              done = λ p. absurd (omega arith);
+            };
+          },
+        )))
 
 -- ---- the reader
 
@@ -188,23 +240,23 @@ one-of r (inr b) = go (eqb r 14) (eqb r 15) refl refl
     go true q e f = inr (inr (inr (inl (eqb-true _ _ e))))
     go false true e f = inr (inr (inr (inr (inl (eqb-true _ _ f)))))
     go false false e f =
-      let l : 14 ≤ r = b .0 in
-      let h : r ≤ 16 = b .1 in
-      let n : r ≢ 14 = eqb-false _ _ e in
-      let m : r ≢ 15 = eqb-false _ _ f in
-      inr (inr (inr (inr (inr (omega arith)))))
+        let l : 14 ≤ r = b .0 in
+        let h : r ≤ 16 = b .1 in
+        let n : r ≢ 14 = eqb-false _ _ e in
+        let m : r ≢ 15 = eqb-false _ _ f in
+        inr (inr (inr (inr (inr (omega arith)))))
 
 reader-leaves : (w : Window) (p : ℕ) → ReaderLeaves w (readContext w p)
 unfolding readContext
 reader-leaves w p =
     on (ReaderLeaves w) (ruled (shapeOf w))
-      (λ e. perform-meets w emptyPart Any Found (ReaderLeaves w)
-        (record { among = inr (inr (inl refl)); refused = λ n. refl; unchanged = refl })
-        (λ r t a vs h. record { among = one-of r (h .among); refused = h .refused; unchanged = stored-none w a vs (h .none) })
-        (λ a n. tt) (contextAt emptyPart (partAt w) p)
-        (context-meets emptyPart (partAt w) p Any Found (λ n a b. record { among = inr (a, b); refused = λ m. refl; none = refl })
-          (λ o g a l vs b c d e f i. record { among = inl refl; refused = λ m. absurd (m refl); none = refl })))
-      (λ e. record { among = inr (inl refl); refused = λ n. refl; unchanged = refl })
+    (λ e. perform-meets w emptyPart Any Found (ReaderLeaves w)
+    (record { among = inr (inr (inl refl)); refused = λ n. refl; unchanged = refl })
+    (λ r t a vs h. record { among = one-of r (h .among); refused = h .refused; unchanged = stored-none w a vs (h .none) })
+    (λ a n. tt) (contextAt emptyPart (partAt w) p)
+    (context-meets emptyPart (partAt w) p Any Found (λ n a b. record { among = inr (a, b); refused = λ m. refl; none = refl })
+    (λ o g a l vs b c d e f i. record { among = inl refl; refused = λ m. absurd (m refl); none = refl })))
+    (λ e. record { among = inr (inl refl); refused = λ n. refl; unchanged = refl })
 
 pub replies-leave : RepliesLeave
 replies-leave = record { by-step = step-leaves; by-exception = exception-leaves; by-reader = reader-leaves }

@@ -16,6 +16,10 @@ pub mod Entry
 pub mod Frame
 pub mod Demand
 pub mod Leaves
-pub mod Needs
+pub mod StepNeeds
 pub mod Locality
-pub mod Points
+pub mod Bench
+pub mod Departures
+pub mod Unpark
+pub mod Reader
+pub mod Roundtrip

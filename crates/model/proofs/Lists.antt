@@ -23,12 +23,12 @@ module _ {M Sh S I : Type 0} (st : Store M Sh) (mc : Machine S I Sh) where
 
   -- what holds of one reading of the needs holds of another, step by step and so for a list
   pub by-reading : (P : ℕ → Type 0) (f g : S → M → I → List ℕ) → ((s : S) (m : M) (i : I) → All P (f s m i) → All P (g s m i))
-    → (is : List I) (s : S) (m : M) → All P (runNeedsBy st mc f s m is) → All P (runNeedsBy st mc g s m is)
+      → (is : List I) (s : S) (m : M) → All P (runNeedsBy st mc f s m is) → All P (runNeedsBy st mc g s m is)
   unfolding runNeedsBy All
   by-reading P f g e [] s m h = tt
   by-reading P f g e (i ∷ is) s m h =
       All-both P (g s m i) _ (e s m i (All-left P (f s m i) _ h))
-        (by-reading P f g e is (stepOn st mc s m i .state) (stepOn st mc s m i .memory) (All-right P (f s m i) _ h))
+      (by-reading P f g e is (stepOn st mc s m i .state) (stepOn st mc s m i .memory) (All-right P (f s m i) _ h))
 
 module _ {M Sh S I : Type 0} (st : Store M Sh) (law : Lawful st) (mc : Machine S I Sh) where
   pub runTouches-off : (P : ℕ → Type 0) (is : List I) (s : S) (m : M) → All P (runNeedsBy st mc (needsOf st mc) s m is) → All P (runTouches st mc s m is)
@@ -54,9 +54,12 @@ module _ {M Sh S I : Type 0} (st : Store M Sh) (law : Lawful st) (mc : Machine S
     runs-agree (i ∷ is) s v w g f =
         let a : Same st F (stepOn st mc s v i) (stepOn st mc s w i) = step-agree s v w i g (All-left (Off F) (touchesOf st mc s v i) _ f) in
         let h : SameRun st mc F (runs st mc (stepOn st mc s v i .state) (stepOn st mc s v i .memory) is) (runs st mc (stepOn st mc s v i .state) (stepOn st mc s w i .memory) is)
-              = runs-agree is (stepOn st mc s v i .state) (stepOn st mc s v i .memory) (stepOn st mc s w i .memory) (a .memory-same) (All-right (Off F) (touchesOf st mc s v i) _ f) in
+        = runs-agree is (stepOn st mc s v i .state) (stepOn st mc s v i .memory) (stepOn st mc s w i .memory) (a .memory-same) (All-right (Off F) (touchesOf st mc s v i) _ f) in
         rw (← (a .reply-same), ← (a .state-same)) (record {
-          answers-same = ap (λ (l : List ℕ). stepOn st mc s v i .reply ∷ l) (h .answers-same); state-same = h .state-same; memory-same = h .memory-same })
+          answers-same = ap (λ (l : List ℕ). stepOn st mc s v i .reply ∷ l) (h .answers-same);
+          state-same = h .state-same;
+          memory-same = h .memory-same;
+        })
 
     pub runTouches-agree : (is : List I) (s : S) (v w : M) → Agree st F v w → All (Off F) (runTouches st mc s v is) → runTouches st mc s v is ≡ runTouches st mc s w is
     unfolding runNeedsBy touchesOf
@@ -65,18 +68,18 @@ module _ {M Sh S I : Type 0} (st : Store M Sh) (law : Lawful st) (mc : Machine S
         let a : Same st F (stepOn st mc s v i) (stepOn st mc s w i) = step-agree s v w i g (All-left (Off F) (touchesOf st mc s v i) _ f) in
         let n : touchesOf st mc s v i ≡ touchesOf st mc s w i = rw (← (g .shape-same)) (touches-agree st law F (mc .judge s (st .shape v) i) s (mc .plan s (st .shape v) i) v w g (All-left (Off F) (touchesOf st mc s v i) _ f)) in
         rw (← (a .state-same), ← n)
-          (ap (λ (l : List ℕ). touchesOf st mc s v i ++ l) (runTouches-agree is (stepOn st mc s v i .state) (stepOn st mc s v i .memory) (stepOn st mc s w i .memory) (a .memory-same) (All-right (Off F) (touchesOf st mc s v i) _ f)))
+        (ap (λ (l : List ℕ). touchesOf st mc s v i ++ l) (runTouches-agree is (stepOn st mc s v i .state) (stepOn st mc s v i .memory) (stepOn st mc s w i .memory) (a .memory-same) (All-right (Off F) (touchesOf st mc s v i) _ f)))
 
     pub runs-kept : (is : List I) (s : S) (v : M) → All (Off F) (runTouches st mc s v is) → Kept st F v (runs st mc s v is .memory)
     unfolding runs runNeedsBy
     runs-kept [] s v f = Kept·refl st law F v
     runs-kept (i ∷ is) s v f =
         Kept·trans st law F v (stepOn st mc s v i .memory) _ (step-kept s v i (All-left (Off F) (touchesOf st mc s v i) _ f))
-          (runs-kept is (stepOn st mc s v i .state) (stepOn st mc s v i .memory) (All-right (Off F) (touchesOf st mc s v i) _ f))
+        (runs-kept is (stepOn st mc s v i .state) (stepOn st mc s v i .memory) (All-right (Off F) (touchesOf st mc s v i) _ f))
 
   pub runs-always : (P : S → Type 0) → ((s : S) (sh : Sh) (i : I) → P s → Always P (mc .plan s sh i)) → (is : List I) (s : S) (m : M) → P s → P (runs st mc s m is .state)
   unfolding runs stepOn
   runs-always P keeps [] s m h = h
   runs-always P keeps (i ∷ is) s m h =
       runs-always P keeps is (stepOn st mc s m i .state) (stepOn st mc s m i .memory)
-        (perform-always st law P (mc .judge s (st .shape m) i) s (mc .plan s (st .shape m) i) m h (keeps s (st .shape m) i h))
+      (perform-always st law P (mc .judge s (st .shape m) i) s (mc .plan s (st .shape m) i) m h (keeps s (st .shape m) i h))

@@ -79,7 +79,8 @@ alike v w s op x y z e h =
       reply-same = a .reply-same ∙ ap (λ (o : Outcome State Window). o .reply) b;
       state-same = a .state-same ∙ ap (λ (o : Outcome State Window). o .state) b;
       needs-same = n ∙ needs-by-shape v w s op x y z e;
-      stored-same = subst (λ (o : Outcome State Window). SameAt l (perform one j s p v .memory) (o .memory)) b (at-off (Unneeded l) _ _ l (a .memory-same) off) }
+      stored-same = subst (λ (o : Outcome State Window). SameAt l (perform one j s p v .memory) (o .memory)) b (at-off (Unneeded l) _ _ l (a .memory-same) off);
+    }
 
 shape-kept : (w : Window) (s : State) (op x y z : ℕ) → shapeOf (stepOf w s op x y z .memory) ≡ shapeOf w
 unfolding stepOf one
@@ -89,22 +90,33 @@ octa-kept : (w : Window) (s : State) (op x y z a : ℕ) → Unneeded (stepNeeds 
 unfolding stepOf stepNeeds one
 octa-kept w s op x y z a h =
     perform-kept one one-lawful (λ o. o ≡ octa a) (refusing (shapeOf w)) s (stepPlan s (shapeOf w) op x y z) w
-      (touches-off one one-lawful (Off (λ o. o ≡ octa a)) (refusing (shapeOf w)) (stepPlan s (shapeOf w) op x y z) w h) .octa-kept a refl
+    (touches-off one one-lawful (Off (λ o. o ≡ octa a)) (refusing (shapeOf w)) (stepPlan s (shapeOf w) op x y z) w h) .octa-kept a refl
 
 -- ---- 6
 
 never-six : (s : State) → Meets s Any Any (λ r t vs. r ≢ 6)
 never-six s = record {
-    word = λ n b. tt; general-is = λ i. tt; special-is = λ k. tt;
-    refuses = λ n a b e. omega arith; halts = λ n a b e. omega arith;
-    moves = λ a w e. omega arith; writes = λ x v a w u e. omega arith; locals = λ v a w u e. omega arith; globals = λ v a b c d w e. omega arith;
-    status = λ v a b w e. omega arith; other = λ k v a b c d w u e. omega arith; pushes = λ h t w e. omega arith; pops = λ x t h ls w r e. omega arith;
-    saves = λ x b e. omega arith; unsaves = λ o g a l vs w b c d f r e. omega arith }
+  word = λ n b. tt;
+  general-is = λ i. tt;
+  special-is = λ k. tt;
+  refuses = λ n a b e. omega arith;
+  halts = λ n a b e. omega arith;
+  moves = λ a w e. omega arith;
+  writes = λ x v a w u e. omega arith;
+  locals = λ v a w u e. omega arith;
+  globals = λ v a b c d w e. omega arith;
+  status = λ v a b w e. omega arith;
+  other = λ k v a b c d w u e. omega arith;
+  pushes = λ h t w e. omega arith;
+  pops = λ x t h ls w r e. omega arith;
+  saves = λ x b e. omega arith;
+  unsaves = λ o g a l vs w b c d f r e. omega arith;
+}
 
 step-never-six : (s : State) (w : Shape) (op x y z : ℕ) → Answers Any (λ r t vs. r ≢ 6) (stepPlan s w op x y z)
 step-never-six s w op x y z =
     step-meets s w Any (λ r t vs. r ≢ 6) (λ n a b e. omega arith) op x y z
-      (λ e. plan-meets s Any Any (λ r t vs. r ≢ 6) (never-six s) (armOf op) op x y z tt (record { trips = λ a w e. omega arith; trips-not = λ e. omega arith }) (λ e. omega arith))
+    (λ e. plan-meets s Any Any (λ r t vs. r ≢ 6) (never-six s) (armOf op) op x y z tt (record { trips = λ a w e. omega arith; trips-not = λ e. omega arith }) (λ e. omega arith))
 
 inside-front : (w : Shape) (xs ys : List ℕ) → allInside w xs ≡ true → allInside w (xs ++ ys) ≡ allInside w ys
 unfolding allInside
@@ -125,8 +137,9 @@ missing-outside w (suc n) a e = go (ℕ-discrete (refusing w a) 0) (λ f. missin
     outside : refusing w a ≢ 0 → (b : Bool) → has w a ≡ b → b ≡ false
     outside n true h = absurd (n (inside-judged w a h))
     outside n false h = refl
+
     go : Dec (refusing w a ≡ 0) → (eqb (worst (refusing w) (a + 8) n) 0 ≡ false → allInside w (missing (refusing w) (a + 8) n) ≡ false)
-      → allInside w (cond (eqb (refusing w a) 0) (missing (refusing w) (a + 8) n) (a ∷ missing (refusing w) (a + 8) n)) ≡ false
+        → allInside w (cond (eqb (refusing w a) 0) (missing (refusing w) (a + 8) n) (a ∷ missing (refusing w) (a + 8) n)) ≡ false
     go (yes q) r = rw (eq-eqb _ _ q) (r (ne-eqb _ _ (λ z. eqb-false (max (refusing w a) (worst (refusing w) (a + 8) n)) 0 e (let y : worst (refusing w) (a + 8) n ≡ 0 = z in omega arith))))
     go (no q) r = rw (ne-eqb _ _ q, outside q (has w a) refl)
 
@@ -138,16 +151,19 @@ module _ (w : Window) (s : State) where
   unfolding perform needs Answers named
   six-plan (answer r t a vs) h =
       on-both {A = Outcome State Window} (λ o xs. eqb (o .reply) 6 ≡ not (allInside (shapeOf w) xs)) (clear judge a (length vs))
-        (λ e. ne-eqb _ _ h ∙ sym (ap not (run-inside (shapeOf w) (length vs) a (eqb-true _ _ e))))
-        (λ e. eq-eqb _ _ (worst-six (shapeOf w) (length vs) a e) ∙ sym (ap not (missing-outside (shapeOf w) (length vs) a e)))
+      (λ e. ne-eqb _ _ h ∙ sym (ap not (run-inside (shapeOf w) (length vs) a (eqb-true _ _ e))))
+      (λ e. eq-eqb _ _ (worst-six (shapeOf w) (length vs) a e) ∙ sym (ap not (missing-outside (shapeOf w) (length vs) a e)))
   six-plan (read q a n k) h =
       on-both {A = Outcome State Window} (λ o xs. eqb (o .reply) 6 ≡ not (allInside (shapeOf w) xs)) (clear judge a n)
-        (λ e. six-plan (k (looks one w a n)) (h .1 (looks one w a n) tt)
-          ∙ ap not (sym (inside-front (shapeOf w) (ups a n) _ (run-inside (shapeOf w) n a (eqb-true _ _ e)))))
-        (λ e. eq-eqb _ _ (ap (named q) (worst-six (shapeOf w) n a e) ∙ h .0) ∙ sym (ap not (missing-outside (shapeOf w) n a e)))
+      (λ e. six-plan (k (looks one w a n)) (h .1 (looks one w a n) tt)
+      ∙ ap not (sym (inside-front (shapeOf w) (ups a n) _ (run-inside (shapeOf w) n a (eqb-true _ _ e)))))
+      (λ e. eq-eqb _ _ (ap (named q) (worst-six (shapeOf w) n a e) ∙ h .0) ∙ sym (ap not (missing-outside (shapeOf w) n a e)))
 
 pub step-is-local : StepIsLocal
 unfolding stepOf stepNeeds
 step-is-local = record {
-    alike = alike; shape-kept = shape-kept; octa-kept = octa-kept;
-    six = λ w s op x y z. six-plan w s (stepPlan s (shapeOf w) op x y z) (step-never-six s (shapeOf w) op x y z) }
+  alike = alike;
+  shape-kept = shape-kept;
+  octa-kept = octa-kept;
+  six = λ w s op x y z. six-plan w s (stepPlan s (shapeOf w) op x y z) (step-never-six s (shapeOf w) op x y z);
+}

@@ -66,9 +66,9 @@ pub put-global : (s : State) (v : ℕ) → putRefusal s rG v ≡ 0 → (32 ≤ v
 unfolding putRefusal
 put-global s v =
     on (λ (n : ℕ). n ≡ 0 → (32 ≤ v) × (sp s rL ≤ v) × (v ≤ 255)) (ltb v 32 || (ltb v (sp s rL) || ltb 255 v)) (λ e f. absurd (omega arith))
-      (λ e f.
-        let r : (ltb v (sp s rL) || ltb 255 v) ≡ false = or-right (ltb v 32) _ e in
-        (ltb-false _ _ (or-left (ltb v 32) _ e), ltb-false _ _ (or-left (ltb v (sp s rL)) _ r), ltb-false _ _ (or-right (ltb v (sp s rL)) _ r)))
+    (λ e f.
+    let r : (ltb v (sp s rL) || ltb 255 v) ≡ false = or-right (ltb v 32) _ e in
+    (ltb-false _ _ (or-left (ltb v 32) _ e), ltb-false _ _ (or-left (ltb v (sp s rL)) _ r), ltb-false _ _ (or-right (ltb v (sp s rL)) _ r)))
 
 pub put-status : (s : State) (v : ℕ) → putRefusal s rA v ≡ 0 → v ≤ 0x3FFFF
 unfolding putRefusal
@@ -118,8 +118,8 @@ module _ (s : State) (W : ℕ → Type 0) (Read : List ℕ → Type 0) (R : ℕ 
   putState-meets x v w p =
       on (λ (t : State). R 0 (next t) []) (eqb x rL) (λ el. m .locals v _ w (onward (putLocals s v)))
       (λ el. on (λ (t : State). R 0 (next t) []) (eqb x rG)
-        (λ eg. let b : (32 ≤ v) × (sp s rL ≤ v) × (v ≤ 255) = put-global s v (rw (eqb-true x rG eg) at p) in m .globals v _ (b .0) (b .2) (b .1) (onward (putGlobals s v)))
-        (λ eg. last el eg (eqb x rA) refl))
+      (λ eg. let b : (32 ≤ v) × (sp s rL ≤ v) × (v ≤ 255) = put-global s v (rw (eqb-true x rG eg) at p) in m .globals v _ (b .0) (b .2) (b .1) (onward (putGlobals s v)))
+      (λ eg. last el eg (eqb x rA) refl))
     where
       last : eqb x rL ≡ false → eqb x rG ≡ false → (b : Bool) → eqb x rA ≡ b → R 0 (next (withSpecial s x v)) []
       last el eg true ea = rw (eqb-true x rA ea) (m .status v _ (put-status s v (rw (eqb-true x rA ea) at p)) (onward (withSpecial s rA v)))
@@ -129,7 +129,7 @@ module _ (s : State) (W : ℕ → Type 0) (Read : List ℕ → Type 0) (R : ℕ 
   unfolding putSpecial
   put-meets x v w =
       on {A = Said} (Tells s W R) (eqb (putRefusal s x v) 0) (λ e. putState-meets x v w (eqb-true _ _ e))
-        (λ e. let r : (7 ≤ putRefusal s x v) × (putRefusal s x v ≤ 18) = put-range s x v e in m .halts (putRefusal s x v) (r .0) (r .1))
+      (λ e. let r : (7 ≤ putRefusal s x v) × (putRefusal s x v ≤ 18) = put-range s x v e in m .halts (putRefusal s x v) (r .0) (r .1))
 
   sync-meets : (n : ℕ) → Tells s W R (syncOf s n)
   unfolding syncOf
@@ -160,10 +160,10 @@ module _ {S : Type 0} (bad : S) (found : ℕ → ℕ → ℕ → ℕ → List �
   unfolding contextCount Answers
   count-meets g a =
       on (Answers Read R) (leb 32 g && leb g 255)
-        (λ e. on (Answers Read R) (leb a 0x3FFFF)
-          (λ f. (refl, λ v j. rest-meets g a (getD v 0 0) (leb-true _ _ (and-left (leb 32 g) _ e)) (leb-true _ _ (and-right (leb 32 g) _ e)) (leb-true _ _ f)))
-          (λ f. refuses 15 (omega arith) (omega arith)))
-        (λ e. refuses 14 (omega arith) (omega arith))
+      (λ e. on (Answers Read R) (leb a 0x3FFFF)
+      (λ f. (refl, λ v j. rest-meets g a _ (leb-true _ _ (and-left (leb 32 g) _ e)) (leb-true _ _ (and-right (leb 32 g) _ e)) (leb-true _ _ f)))
+      (λ f. refuses 15 (omega arith) (omega arith)))
+      (λ e. refuses 14 (omega arith) (omega arith))
 
   pub context-meets : Answers Read R (contextAt bad found p)
   unfolding contextAt Answers
@@ -172,11 +172,11 @@ module _ {S : Type 0} (bad : S) (found : ℕ → ℕ → ℕ → ℕ → List �
 module _ (s : State) (W : ℕ → Type 0) (Read : List ℕ → Type 0) (R : ℕ → State → List ℕ → Type 0) (m : Meets s W Read R) where
   -- the sixteen arms
   pub plan-meets : (a : Arm) (op x y z : ℕ) → W z → MeetsTrip s W R (wordOf op x y z) (reg s y) (reg s z) → R 20 (halted (trapped s (wordOf op x y z) (reg s y) (reg s z))) []
-    → Answers Read R (planOf s a op x y z)
+      → Answers Read R (planOf s a op x y z)
   unfolding planOf tell Answers pushFrame trapOf got unsaveContext
   plan-meets (branch c d) op x y z wz mt mr =
       on (λ (t : State). R 0 t []) (holds c (reg s x)) (λ e. m .moves (near s d y z) (m .word _ (target-small (s .pc) d 65536 (yzOf y z))))
-        (λ e. m .moves (following s) (onward s W Read R m s))
+      (λ e. m .moves (following s) (onward s W Read R m s))
   plan-meets (jump d) op x y z wz mt mr = m .moves (far s d x y z) (m .word _ (target-small (s .pc) d 16777216 (xyzOf x y z)))
   plan-meets (getAddress d) op x y z wz mt mr =
       m .writes x (near s d y z) _ (m .word _ (target-small (s .pc) d 65536 (yzOf y z))) (onward s W Read R m (setRegister s x (near s d y z)))
@@ -221,14 +221,15 @@ judged-most s w a x y z =
 
 -- 1 to 5 in order, then the arm; the arm is met only where the state was admissible
 pub step-meets : (s : State) (w : Shape) (Read : List ℕ → Type 0) (R : ℕ → State → List ℕ → Type 0) → ((n : ℕ) → 1 ≤ n → n ≤ 5 → R n s [])
-  → (op x y z : ℕ) → (admissible s ≡ true → Answers Read R (planOf s (armOf op) op x y z)) → Answers Read R (stepPlan s w op x y z)
+    → (op x y z : ℕ) → (admissible s ≡ true → Answers Read R (planOf s (armOf op) op x y z)) → Answers Read R (stepPlan s w op x y z)
 unfolding stepPlan tell Answers
 step-meets s w Read R refuses op x y z met =
     on (Answers Read R) (eqb (judged s w (armOf op) x y z) 0) (λ e. met (passed (eqb-true _ _ e)))
-      (λ e. refuses _ (nonzero (judged s w (armOf op) x y z) (eqb-false _ _ e)) (judged-most s w (armOf op) x y z))
+    (λ e. refuses _ (nonzero (judged s w (armOf op) x y z) (eqb-false _ _ e)) (judged-most s w (armOf op) x y z))
   where
     nonzero : (n : ℕ) → (n ≡ 0 → ⊥) → 1 ≤ n
     nonzero n f = omega arith
+
     passed : judged s w (armOf op) x y z ≡ 0 → admissible s ≡ true
     passed = unfold judged in (go (admissible s))
       where
@@ -238,16 +239,16 @@ step-meets s w Read R refuses op x y z met =
 
 -- an exception: 1, or what is added to rA and then the trip or @ + 4
 pub exception-meets : (s : State) (W : ℕ → Type 0) (R : ℕ → State → List ℕ → Type 0) (f op x y z u v : ℕ) → ((n : ℕ) → n < 2 ^ 64 → W n) → R 1 s []
-  → (admissible s ≡ true → ((a : ℕ) → W a → R 0 (goes (withAdded s f) a) []) × MeetsTrip (withAdded s f) W R (wordOf op x y z) u v)
-  → R (exceptionOf s f op x y z u v .reply) (exceptionOf s f op x y z u v .state) []
+    → (admissible s ≡ true → ((a : ℕ) → W a → R 0 (goes (withAdded s f) a) []) × MeetsTrip (withAdded s f) W R (wordOf op x y z) u v)
+    → R (exceptionOf s f op x y z u v .reply) (exceptionOf s f op x y z u v .state) []
 unfolding exceptionOf raised
 exception-meets s W R f op x y z u v word refused met =
     on {A = Said} (λ d. R (d .reply) (d .state) []) (admissible s)
-      (λ e. on {A = Said} (λ d. R (d .reply) (d .state) []) (eqb (enabled s f) 0)
-        (λ g. met e .0 _ (word _ (small _)))
-        (λ g. let l : leadingZeros 8 (enabled s f) ≤ 8 = leading-le 8 (enabled s f) in
-          trip-meets (withAdded s f) W R (leadingZeros 8 (enabled s f) + 1) (wordOf op x y z) u v (word _ (omega arith)) (met e .1)))
-      (λ e. refused)
+    (λ e. on {A = Said} (λ d. R (d .reply) (d .state) []) (eqb (enabled s f) 0)
+    (λ g. met e .0 _ (word _ (small _)))
+    (λ g. let l : leadingZeros 8 (enabled s f) ≤ 8 = leading-le 8 (enabled s f) in
+    trip-meets (withAdded s f) W R (leadingZeros 8 (enabled s f) + 1) (wordOf op x y z) u v (word _ (omega arith)) (met e .1)))
+    (λ e. refused)
 
 -- ---- what a plan comes to
 
@@ -287,4 +288,4 @@ module _ {S : Type 0} (w : Window) (s : S) (Read : List ℕ → Type 0) (R : ℕ
       on Q (clear (refusing (shapeOf w)) a (length vs)) (λ e. met r t a vs h) (λ e. missed (worst (refusing (shapeOf w)) a (length vs)) (worst-six (shapeOf w) (length vs) a e))
   perform-meets (read q a n k) h =
       on Q (clear (refusing (shapeOf w)) a n) (λ e. perform-meets (k (looks one w a n)) (h .1 (looks one w a n) (reads a n)))
-        (λ e. missed (named q (worst (refusing (shapeOf w)) a n)) (ap (λ (c : ℕ). named q c) (worst-six (shapeOf w) n a e) ∙ (unfold named in (h .0))))
+      (λ e. missed (named q (worst (refusing (shapeOf w)) a n)) (ap (λ (c : ℕ). named q c) (worst-six (shapeOf w) n a e) ∙ (unfold named in (h .0))))

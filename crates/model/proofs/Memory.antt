@@ -32,14 +32,14 @@ pub write-other : (w : Window) (a b v : ℕ) → octa a ≢ octa b → octaBytes
 unfolding octaBytes writeOcta
 write-other w a b v n =
     part-cong 8 (written (w .bytes) (offset (w .base) a) (bytesOf v)) (w .bytes) (offset (w .base) b)
-      (side (decLe (offset (w .base) a + 8) (offset (w .base) b)))
+    (side (decLe (offset (w .base) a + 8) (offset (w .base) b)))
   where
     side : Dec (offset (w .base) a + 8 ≤ offset (w .base) b) → (j : ℕ) → offset (w .base) b ≤ j → j < offset (w .base) b + 8
-      → getD (written (w .bytes) (offset (w .base) a) (bytesOf v)) j 0 ≡ getD (w .bytes) j 0
+        → getD (written (w .bytes) (offset (w .base) a) (bytesOf v)) j 0 ≡ getD (w .bytes) j 0
     side (yes f) j p q = written-above (w .bytes) (offset (w .base) a) (bytesOf v) j (unfold bytesOf in omega arith)
     side (no f) j p q =
-      let g : offset (w .base) b + 8 ≤ offset (w .base) a = apart (w .base) a b n f in
-      written-below (w .bytes) (offset (w .base) a) (bytesOf v) j (omega arith)
+        let g : offset (w .base) b + 8 ≤ offset (w .base) a = apart (w .base) a b n f in
+        written-below (w .bytes) (offset (w .base) a) (bytesOf v) j (omega arith)
 
 pub write-same : (w : Window) (a b v : ℕ) → has (shapeOf w) a ≡ true → octa a ≡ octa b → octaBytes (writeOcta w a v) b ≡ bytesOf v
 unfolding octaBytes writeOcta has bytesOf shapeOf offset

@@ -122,8 +122,8 @@ module _ {M Sh : Type 0} (st : Store M Sh) (law : Lawful st) where
   touches-off P j (answer r t a vs) m h = passed-off P a _ (length vs) _ (clear j a (length vs)) h (omega arith)
   touches-off P j (read q a n k) m h =
       on-both (λ xs ys. All P xs → All P ys) (clear j a n)
-        (λ e f. All-both P (ups a n) _ (All-left P (ups a n) _ f) (touches-off P j (k (looks st m a n)) m (All-right P (ups a n) _ f)))
-        (λ e f. unfold All in tt) h
+      (λ e f. All-both P (ups a n) _ (All-left P (ups a n) _ f) (touches-off P j (k (looks st m a n)) m (All-right P (ups a n) _ f)))
+      (λ e f. unfold All in tt) h
 
   -- and what holds of the wider needs holds of the needs
   pub wider-off : {S : Type 0} (P : ℕ → Type 0) (j : ℕ → ℕ) (p : Plan S) (m : M) → All P (widerNeeds st j p m) → All P (needs st j p m)
@@ -131,8 +131,8 @@ module _ {M Sh : Type 0} (st : Store M Sh) (law : Lawful st) where
   wider-off P j (answer r t a vs) m h = on (All P) (clear j a (length vs)) (λ e. h) (λ e. missing-off P j (length vs) a h)
   wider-off P j (read q a n k) m h =
       on-both (λ xs ys. All P xs → All P ys) (clear j a n)
-        (λ e f. All-both P (ups a n) _ (All-left P (ups a n) _ f) (wider-off P j (k (looks st m a n)) m (All-right P (ups a n) _ f)))
-        (λ e f. missing-off P j n a f) h
+      (λ e f. All-both P (ups a n) _ (All-left P (ups a n) _ f) (wider-off P j (k (looks st m a n)) m (All-right P (ups a n) _ f)))
+      (λ e f. missing-off P j n a f) h
 
   -- ---- two memories that agree outside F, and a plan that touches nothing of F
 
@@ -144,8 +144,9 @@ module _ {M Sh : Type 0} (st : Store M Sh) (law : Lawful st) where
 
     pub put-agree : (v w : M) (a x : ℕ) → Agree st F v w → st .inside (st .shape v) a ≡ true → Agree st F (st .put v a x) (st .put w a x)
     put-agree v w a x g h = record {
-        shape-same = law .put-shape v a x ∙ g .shape-same ∙ sym (law .put-shape w a x);
-        rest-same = λ b f. go b f (ℕ-discrete (octa a) (octa b)) }
+      shape-same = law .put-shape v a x ∙ g .shape-same ∙ sym (law .put-shape w a x);
+      rest-same = λ b f. go b f (ℕ-discrete (octa a) (octa b));
+    }
       where
         go : (b : ℕ) → Off F b → Dec (octa a ≡ octa b) → st .raw (st .put v a x) b ≡ st .raw (st .put w a x) b
         go b f (yes e) = law .put-same v a b x h e ∙ sym (law .put-same w a b x (rw (← (g .shape-same)) h) e)
@@ -156,38 +157,38 @@ module _ {M Sh : Type 0} (st : Store M Sh) (law : Lawful st) where
     puts-agree j [] v w a snd g h = g
     puts-agree j (x ∷ vs) v w a snd g h =
         puts-agree j vs (st .put v a x) (st .put w a x) (a + 8) (λ b q. rw (law .put-shape v a x) (snd b q))
-          (put-agree v w a x g (snd a (worst-head j a (length vs) h))) (worst-tail j a (length vs) h)
+        (put-agree v w a x g (snd a (worst-head j a (length vs) h))) (worst-tail j a (length vs) h)
 
     module _ {S : Type 0} (j : ℕ → ℕ) (s : S) where
       pub perform-agree : (p : Plan S) (v w : M) → Sound st j (st .shape v) → Agree st F v w → All (Off F) (touches st j p v) → Same st F (perform st j s p v) (perform st j s p w)
       unfolding perform touches
       perform-agree (answer r t a vs) v w snd g f =
           on-both (Same st F) (clear j a (length vs))
-            (λ e. record { reply-same = refl; state-same = refl; memory-same = puts-agree j vs v w a snd g (eqb-true _ _ e) })
-            (λ e. record { reply-same = refl; state-same = refl; memory-same = g })
+          (λ e. record { reply-same = refl; state-same = refl; memory-same = puts-agree j vs v w a snd g (eqb-true _ _ e) })
+          (λ e. record { reply-same = refl; state-same = refl; memory-same = g })
       perform-agree (read q a n k) v w snd g f =
           on-both (Same st F) (clear j a n)
-            (λ e. rw (← (looks-agree n v w a g (All-left (Off F) (ups a n) _ (rw e at f))))
-              (perform-agree (k (looks st v a n)) v w snd g (All-right (Off F) (ups a n) _ (rw e at f))))
-            (λ e. record { reply-same = refl; state-same = refl; memory-same = g })
+          (λ e. rw (← (looks-agree n v w a g (All-left (Off F) (ups a n) _ (rw e at f))))
+          (perform-agree (k (looks st v a n)) v w snd g (All-right (Off F) (ups a n) _ (rw e at f))))
+          (λ e. record { reply-same = refl; state-same = refl; memory-same = g })
 
       pub touches-agree : (p : Plan S) (v w : M) → Agree st F v w → All (Off F) (touches st j p v) → touches st j p v ≡ touches st j p w
       unfolding touches
       touches-agree (answer r t a vs) v w g f = refl
       touches-agree (read q a n k) v w g f =
           on-both (λ (xs ys : List ℕ). xs ≡ ys) (clear j a n)
-            (λ e. rw (← (looks-agree n v w a g (All-left (Off F) (ups a n) _ (rw e at f))))
-              (ap (λ (l : List ℕ). ups a n ++ l) (touches-agree (k (looks st v a n)) v w g (All-right (Off F) (ups a n) _ (rw e at f)))))
-            (λ e. refl)
+          (λ e. rw (← (looks-agree n v w a g (All-left (Off F) (ups a n) _ (rw e at f))))
+          (ap (λ (l : List ℕ). ups a n ++ l) (touches-agree (k (looks st v a n)) v w g (All-right (Off F) (ups a n) _ (rw e at f)))))
+          (λ e. refl)
 
       pub needs-agree : (p : Plan S) (v w : M) → Agree st F v w → All (Off F) (touches st j p v) → needs st j p v ≡ needs st j p w
       unfolding touches needs
       needs-agree (answer r t a vs) v w g f = refl
       needs-agree (read q a n k) v w g f =
           on-both (λ (xs ys : List ℕ). xs ≡ ys) (clear j a n)
-            (λ e. rw (← (looks-agree n v w a g (All-left (Off F) (ups a n) _ (rw e at f))))
-              (ap (λ (l : List ℕ). ups a n ++ l) (needs-agree (k (looks st v a n)) v w g (All-right (Off F) (ups a n) _ (rw e at f)))))
-            (λ e. refl)
+          (λ e. rw (← (looks-agree n v w a g (All-left (Off F) (ups a n) _ (rw e at f))))
+          (ap (λ (l : List ℕ). ups a n ++ l) (needs-agree (k (looks st v a n)) v w g (All-right (Off F) (ups a n) _ (rw e at f)))))
+          (λ e. refl)
 
     -- ---- what is not touched is kept
 
@@ -210,7 +211,7 @@ module _ {M Sh : Type 0} (st : Store M Sh) (law : Lawful st) where
         on {A = Outcome S M} (λ o. Kept st F v (o .memory)) (clear j a (length vs)) (λ e. puts-kept vs v a (rw e at f)) (λ e. Kept·refl v)
     perform-kept {S} j s (read q a n k) v f =
         on {A = Outcome S M} (λ o. Kept st F v (o .memory)) (clear j a n)
-          (λ e. perform-kept j s (k (looks st v a n)) v (All-right (Off F) (ups a n) _ (rw e at f))) (λ e. Kept·refl v)
+        (λ e. perform-kept j s (k (looks st v a n)) v (All-right (Off F) (ups a n) _ (rw e at f))) (λ e. Kept·refl v)
 
   pub puts-shape : (vs : List ℕ) (v : M) (a : ℕ) → st .shape (puts st v a vs) ≡ st .shape v
   puts-shape vs v a = puts-kept (λ o. ⊥) vs v a (All-of _ (ups a (length vs)) (λ b x. x)) .shape-kept

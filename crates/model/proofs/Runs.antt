@@ -42,8 +42,9 @@ octa-next a j k p q e =
   where
     up : (b i : ℕ) → (b + 8 * i) / 8 ≡ b / 8 + i
     up b i = omega arith
+
     wraps : (b i l : ℕ) → i < l → l ≤ i + 1000 → 8 * ((b + i) % 2 ^ 61) ≡ 8 * ((b + l) % 2 ^ 61)
-      → Dec ((b + l) / 2 ^ 61 ≤ (b + i) / 2 ^ 61) → ⊥
+        → Dec ((b + l) / 2 ^ 61 ≤ (b + i) / 2 ^ 61) → ⊥
     wraps b i l u v x (yes c) = omega arith
     wraps b i l u v x (no c) = omega arith
 
@@ -61,8 +62,8 @@ ups-off (suc n) a b k e p q = (off, ups-off n a (b + 8) (suc k) (omega arith) (o
   where
     off : octa b ≡ octa a → ⊥
     off g =
-      let z : a + 8 * 0 ≡ a = omega arith in
-      octa-next a 0 k (omega arith) (omega arith) (rw z (rw e at (sym g)))
+        let z : a + 8 * 0 ≡ a = omega arith in
+        octa-next a 0 k (omega arith) (omega arith) (rw z (rw e at (sym g)))
 
 pub worst-of : (j : ℕ → ℕ) (n a i : ℕ) → worst j a n ≡ 0 → i < n → j (a + 8 * i) ≡ 0
 worst-of j zero a i e l = absurd (omega arith)
@@ -95,29 +96,30 @@ module _ {M Sh : Type 0} (st : Store M Sh) (law : Lawful st) where
   look-mod m a b e = rw (law .raw-octa m a b (octa-mod a b e))
 
   raw-puts : (j : ℕ → ℕ) (vs : List ℕ) (m : M) (a i : ℕ) → Sound st j (st .shape m) → worst j a (length vs) ≡ 0 → length vs ≤ 999 → i < length vs
-    → st .raw (puts st m a vs) (a + 8 * i) ≡ bytesOf (getD vs i 0)
+      → st .raw (puts st m a vs) (a + 8 * i) ≡ bytesOf (getD vs i 0)
   unfolding puts
   raw-puts j [] m a i snd h q l = absurd (omega arith)
   raw-puts j (v ∷ vs) m a zero snd h q l =
       let z : a + 8 * 0 ≡ a = omega arith in
       rw z ((puts-kept st law (λ o. o ≡ octa a) vs (st .put m a v) (a + 8) (ups-off (length vs) a (a + 8) 1 (omega arith) (omega arith) (omega arith))) .octa-kept a refl
-        ∙ law .put-same m a a v (snd a (worst-head j a (length vs) h)) refl)
+      ∙ law .put-same m a a v (snd a (worst-head j a (length vs) h)) refl)
   raw-puts j (v ∷ vs) m a (suc i) snd h q l =
       let e : a + 8 * suc i ≡ a + 8 + 8 * i = omega arith in
       rw e (raw-puts j vs (st .put m a v) (a + 8) i (λ b c. rw (law .put-shape m a v) (snd b c)) (worst-tail j a (length vs) h) (omega arith) (omega arith))
 
   -- THE fact: n octabytes f 0 .. f (n - 1) stored from a, then kept, are what is read there, at any address that names the place
   pub stands : (j : ℕ → ℕ) (n : ℕ) (f : ℕ → ℕ) (m w : M) (a : ℕ) → Sound st j (st .shape m) → worst j a n ≡ 0 → n ≤ 999
-    → ((i : ℕ) → i < n → f i < 2 ^ 64) → Kept st (Within a n) (puts st m a (tab 0 n f)) w
-    → (i b : ℕ) → i < n → b % 2 ^ 64 ≡ (a + 8 * i) % 2 ^ 64 → look st w b ≡ f i
+      → ((i : ℕ) → i < n → f i < 2 ^ 64) → Kept st (Within a n) (puts st m a (tab 0 n f)) w
+      → (i b : ℕ) → i < n → b % 2 ^ 64 ≡ (a + 8 * i) % 2 ^ 64 → look st w b ≡ f i
   stands j n f m w a snd h small words k i b l e =
       look-mod w b (a + 8 * i) e ∙ here
     where
       len : length (tab 0 n f) ≡ n
       len = length-tab n 0 f
+
       here : look st w (a + 8 * i) ≡ f i
       here = unfold look in (ap (valueOf 0) (k .octa-kept (a + 8 * i) (record { place = i; place-below = l; named-by = refl })
-        ∙ raw-puts j (tab 0 n f) m a i snd (rw len h) (omega (arith, len)) (omega (arith, len)) ∙ ap bytesOf (getD-tab n i f l)) ∙ value-bytes (f i) (words i l))
+          ∙ raw-puts j (tab 0 n f) m a i snd (rw len h) (omega (arith, len)) (omega (arith, len)) ∙ ap bytesOf (getD-tab n i f l)) ∙ value-bytes (f i) (words i l))
 
   pub perform-read : {S : Type 0} (j : ℕ → ℕ) (s : S) (q a n : ℕ) (k : List ℕ → Plan S) (m : M) → worst j a n ≡ 0 → perform st j s (read q a n k) m ≡ perform st j s (k (looks st m a n)) m
   unfolding perform

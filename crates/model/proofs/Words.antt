@@ -51,6 +51,7 @@ over-bound b f x y l z h p = record { at = λ k. go k (lt-or-le k (length l)) (l
   where
     to : (k n : ℕ) → getD (over f x y l) k 0 ≡ n → n < b → getD (over f x y l) k 0 < b
     to k n e q = subst (λ (m : ℕ). m < b) (sym e) q
+
     go : (k : ℕ) → (k < length l) ⊎ (length l ≤ k) → (k < x) ⊎ (x ≤ k) → (k < y) ⊎ (y ≤ k) → getD (over f x y l) k 0 < b
     go k (inr m) p q = to k 0 (List·getD-eq-default (over f x y l) 0 (omega (arith, length-over f x y l))) z
     go k (inl m) (inl lo) q = to k (getD l k 0) (over-below f x y l k lo m) (h .at k)
@@ -111,10 +112,10 @@ set-words : (s : State) (x v : ℕ) → Word v → Words s → Words (setRegiste
 unfolding setRegister claimLocal
 set-words s x v b h =
     stored-words _ x v b (on Words (isMarginal s x)
-      (λ e. let l : x < sp s rG = ltb-true _ _ (and-right (leb (sp s rL) x) _ e) in
-        let g : sp s rG < 2 ^ 64 = h .special-word rG in
-        special-words (cleared s (sp s rL) (x + 1)) rL (x + 1) (omega arith) (cleared-words s (sp s rL) (x + 1) h))
-      (λ e. h))
+    (λ e. let l : x < sp s rG = ltb-true _ _ (and-right (leb (sp s rL) x) _ e) in
+    let g : sp s rG < 2 ^ 64 = h .special-word rG in
+    special-words (cleared s (sp s rL) (x + 1)) rL (x + 1) (omega arith) (cleared-words s (sp s rL) (x + 1) h))
+    (λ e. h))
 
 locals-words : (s : State) (v : ℕ) → Words s → Words (putLocals s v)
 unfolding putLocals
@@ -129,10 +130,10 @@ slide-words : (s : State) (n : ℕ) → Words s → Words (slide s n)
 unfolding slide
 slide-words s n h = let l : sp s rL < 2 ^ 64 = h .special-word rL in
     words-by (slide s n)
-      (over-bound (2 ^ 64) (slid s n) 0 (sp s rG) (s .general) (omega arith) (generals s h)
-        (λ k. unfold slid in (on Word (ltb k (sp s rL - n)) (λ e. h .general-word (n + k)) (λ e. omega arith))))
-      (set-below (2 ^ 64) _ rO ((sp s rO + 8 * n) % 2 ^ 64) (set-below (2 ^ 64) (s .special) rL (sp s rL - n) (specials s h) (omega arith)) (omega arith))
-      (h .pc-word) (h .halt-word) (h .marks-word)
+    (over-bound (2 ^ 64) (slid s n) 0 (sp s rG) (s .general) (omega arith) (generals s h)
+    (λ k. unfold slid in (on Word (ltb k (sp s rL - n)) (λ e. let g : reg s (n + k) < 2 ^ 64 = h .general-word (n + k) in omega arith) (λ e. omega arith))))
+    (set-below (2 ^ 64) _ rO ((sp s rO + 8 * n) % 2 ^ 64) (set-below (2 ^ 64) (s .special) rL (sp s rL - n) (specials s h) (omega arith)) (omega arith))
+    (h .pc-word) (h .halt-word) (h .marks-word)
 
 pushed-words : (s : State) (h t : ℕ) → Word t → Words s → Words (pushed s h t)
 unfolding pushed pushedRule
@@ -151,15 +152,15 @@ popped-words s x t h ls b ws w = spilled-words _ (goes-words _ t b moved)
   where
     moved : Words (unslide s x h ls)
     moved = unfold unslide in (
-      let g : sp s rG < 2 ^ 64 = w .special-word rG in
-      let o : sp s rO < 2 ^ 64 = w .special-word rO in
-      words-by (unslide s x h ls)
+        let g : sp s rG < 2 ^ 64 = w .special-word rG in
+        let o : sp s rO < 2 ^ 64 = w .special-word rO in
+        words-by (unslide s x h ls)
         (over-bound (2 ^ 64) (restored s x h ls) 0 (sp s rG) (s .general) (omega arith) (generals s w) (λ i. restored-word s x h ls i ws w))
         (set-below (2 ^ 64) _ rO (sp s rO - 8 * (h + 1)) (set-below (2 ^ 64) (s .special) rL (min (h + countOf s x) (sp s rG)) (specials s w) (omega arith)) (omega arith))
         (w .pc-word) (w .halt-word) (w .marks-word))
 
 saved-words : (s : State) (x : ℕ) → Words s → Words (savedState s x)
-unfolding savedState savedRule
+unfolding savedState savedRule stored
 saved-words s x w = spilled-words _ (words-by _
     (set-below (2 ^ 64) _ x (contextAddress s) (over-bound (2 ^ 64) (λ i. 0) 0 (sp s rG) (s .general) (omega arith) (generals s w) (λ i. omega arith)) (omega arith))
     (set-below (2 ^ 64) _ rO ((sp s rO + 8 * extent s) % 2 ^ 64) (set-below (2 ^ 64) (s .special) rL 0 (specials s w) (omega arith)) (omega arith))
@@ -175,7 +176,7 @@ unsaved-words : (s : State) (o g a l : ℕ) (vs : List ℕ) → Word o → g ≤
 unfolding unsaved unsavedRule
 unsaved-words s o g a l vs wo b c d ws w = spilled-words _ (words-by _
     (over-bound (2 ^ 64) (unsavedGeneral g l vs) 0 256 (s .general) (omega arith) (generals s w)
-      (λ i. unfold unsavedGeneral in (on Word (ltb i l) (λ e. ws .at _) (λ e. on Word (ltb i g) (λ e. omega arith) (λ e. ws .at _)))))
+    (λ i. unfold unsavedGeneral in (on Word (ltb i l) (λ e. ws .at _) (λ e. on Word (ltb i g) (λ e. omega arith) (λ e. ws .at _)))))
     (over-bound (2 ^ 64) (unsavedSpecial s o g a l vs) 0 32 (s .special) (omega arith) (specials s w) (λ k. unsaved-word s o g a l vs k wo b c d ws w))
     (omega arith) (w .halt-word) (w .marks-word))
 
@@ -184,7 +185,7 @@ unfolding interrupted
 interrupted-words s b w x y z word u v p q r h = words-by _
     (set-below (2 ^ 64) (s .general) 255 (sp s rJ) (generals s h) (h .special-word rJ))
     (set-below (2 ^ 64) _ z v (set-below (2 ^ 64) _ y u (set-below (2 ^ 64) _ x word (set-below (2 ^ 64) _ w (following s)
-      (set-below (2 ^ 64) (s .special) b (reg s 255) (specials s h) (h .general-word 255)) (omega arith)) p) q) r)
+    (set-below (2 ^ 64) (s .special) b (reg s 255) (specials s h) (h .general-word 255)) (omega arith)) p) q) r)
     (h .pc-word) (h .halt-word) (h .marks-word)
 
 added-words : (s : State) (f : ℕ) → Words s → Words (withAdded s f)
@@ -250,33 +251,39 @@ word-small op x y z f =
 
 meets-words : (s : State) → Words s → Meets s Word (Below (2 ^ 64)) (λ r t vs. Words t)
 meets-words s h = record {
-    word = λ n b. b; general-is = h .general-word; special-is = h .special-word;
-    refuses = λ n a b. h; halts = λ n a b. halted-words s h; moves = λ a w. goes-words s a w h;
-    writes = λ x v a w u. goes-words _ a u (set-words s x v w h);
-    locals = λ v a w u. goes-words _ a u (locals-words s v h);
-    globals = λ v a b c d w. goes-words _ a w (globals-words s v c h);
-    status = λ v a b w. goes-words _ a w (special-words s rA v (omega arith) h);
-    other = λ k v a b c d w u. goes-words _ a u (special-words s k v w h);
-    pushes = λ x t w. pushed-words s (hole s x) t w h;
-    pops = λ x t i ls w r. popped-words s x t i ls w r h;
-    saves = λ x b. saved-words s x h;
-    unsaves = λ o g a l vs w b c d e r. unsaved-words s o g a l vs w c d e r h }
+  word = λ n b. b;
+  general-is = h .general-word;
+  special-is = h .special-word;
+  refuses = λ n a b. h;
+  halts = λ n a b. halted-words s h;
+  moves = λ a w. goes-words s a w h;
+  writes = λ x v a w u. goes-words _ a u (set-words s x v w h);
+  locals = λ v a w u. goes-words _ a u (locals-words s v h);
+  globals = λ v a b c d w. goes-words _ a w (globals-words s v c h);
+  status = λ v a b w. goes-words _ a w (special-words s rA v (omega arith) h);
+  other = λ k v a b c d w u. goes-words _ a u (special-words s k v w h);
+  pushes = λ x t w. pushed-words s (hole s x) t w h;
+  pops = λ x t i ls w r. popped-words s x t i ls w r h;
+  saves = λ x b. saved-words s x h;
+  unsaves = λ o g a l vs w b c d e r. unsaved-words s o g a l vs w c d e r h;
+}
 
 meets-trip : (s : State) (n u v : ℕ) → Word n → Word u → Word v → Words s → MeetsTrip s Word (λ r t vs. Words t) n u v
 meets-trip s n u v p q r h = record {
-    trips = λ a w. goes-words _ a w (interrupted-words s rB rW rX rY rZ n u v p q r h);
-    trips-not = halted-words _ (interrupted-words s rB rW rX rY rZ n u v p q r h) }
+  trips = λ a w. goes-words _ a w (interrupted-words s rB rW rX rY rZ n u v p q r h);
+  trips-not = halted-words _ (interrupted-words s rB rW rX rY rZ n u v p q r h);
+}
 
 pub item-words : (w : Window) (s : State) (i : Item) → Fits i → Bytes w → Words s → Words (stepOn one mmix s w i .state)
 unfolding stepOn mmix itemPlan Fits one
 item-words w s (step op x y z) f b h =
     perform-meets w s (Below (2 ^ 64)) (λ r t vs. Words t) (λ o. Words (o .state)) h (λ r t a vs k. k) (λ a n. looks-words n w a b) (stepPlan s (shapeOf w) op x y z)
-      (step-meets s (shapeOf w) (Below (2 ^ 64)) (λ r t vs. Words t) (λ n c d. h) op x y z
-        (λ e. let z-word : Word z = let c : z < 256 = f .z-byte in omega arith in
-          plan-meets s Word (Below (2 ^ 64)) (λ r t vs. Words t) (meets-words s h) (armOf op) op x y z z-word
-          (meets-trip s (wordOf op x y z) (reg s y) (reg s z) (word-small op x y z f) (h .general-word y) (h .general-word z) h)
-          (halted-words _ (interrupted-words s rBB rWW rXX rYY rZZ (wordOf op x y z) (reg s y) (reg s z) (word-small op x y z f) (h .general-word y) (h .general-word z) h))))
+    (step-meets s (shapeOf w) (Below (2 ^ 64)) (λ r t vs. Words t) (λ n c d. h) op x y z
+    (λ e. let z-word : Word z = let c : z < 256 = f .z-byte in omega arith in
+    plan-meets s Word (Below (2 ^ 64)) (λ r t vs. Words t) (meets-words s h) (armOf op) op x y z z-word
+    (meets-trip s (wordOf op x y z) (reg s y) (reg s z) (word-small op x y z f) (h .general-word y) (h .general-word z) h)
+    (halted-words _ (interrupted-words s rBB rWW rXX rYY rZZ (wordOf op x y z) (reg s y) (reg s z) (word-small op x y z f) (h .general-word y) (h .general-word z) h))))
 item-words w s (exception g op x y z u v) f b h =
     perform-meets w s (Below (2 ^ 64)) (λ r t vs. Words t) (λ o. Words (o .state)) h (λ r t a vs k. k) (λ a n. looks-words n w a b) (tell (exceptionOf s g op x y z u v))
-      (unfold tell Answers in (exception-meets s Word (λ r t vs. Words t) g op x y z u v (λ n c. c) h
-        (λ e. (λ a c. goes-words _ a c (added-words s g h), meets-trip (withAdded s g) (wordOf op x y z) u v (word-small op x y z (f .0)) (f .1) (f .2) (added-words s g h)))))
+    (unfold tell Answers in (exception-meets s Word (λ r t vs. Words t) g op x y z u v (λ n c. c) h
+    (λ e. (λ a c. goes-words _ a c (added-words s g h), meets-trip (withAdded s g) (wordOf op x y z) u v (word-small op x y z (f .0)) (f .1) (f .2) (added-words s g h)))))

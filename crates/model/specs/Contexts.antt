@@ -7,7 +7,7 @@ use lib.ListN.{getD, set}
 use Rattle.model.specs.Fill.{over, tab}
 use Rattle.model.specs.Plan.{Plan, answer, read}
 use Rattle.model.specs.Said.{refuse, tell}
-use Rattle.model.specs.Registers.{rR, rO, rG, rL, rA, rP, rZ, sp, reg, following, halted, spilled}
+use Rattle.model.specs.Registers.{rR, rO, rG, rL, rA, rP, rZ, sp, reg, following, halted, stored, spilled}
 use Rattle.model.specs.declared.State.{State}
 
 -- ---- SAVE
@@ -27,7 +27,7 @@ saved s i =
     (cond (eqb i (sp s rL)) (sp s rL)
     (cond (ltb i (sp s rL + 257 - sp s rG)) (reg s (sp s rG + (i - sp s rL - 1)))
     (cond (ltb i (sp s rL + 269 - sp s rG)) (sp s (savedSpecial (i - (sp s rL + 257 - sp s rG))))
-      (sp s rG * 2 ^ 56 + sp s rA))))
+    (sp s rG * 2 ^ 56 + sp s rA))))
 
 -- "the last one's address with rO's low bits kept"
 abbrev pub contextAddress : State → ℕ
@@ -35,12 +35,13 @@ contextAddress s = (sp s rO + 8 * (sp s rL + 269 - sp s rG)) % 2 ^ 64
 
 -- "$X gets the last one's address .., registers below rG become 0, rL 0, rO .. follow it"
 unfoldable pub savedRule : State → ℕ → State
-savedRule s x = record {
-    general = set (over (λ i. 0) 0 (sp s rG) (s .general)) x (contextAddress s);
-    special = set (set (s .special) rL 0) rO ((sp s rO + 8 * extent s) % 2 ^ 64);
-    pc = following s;
-    halt = s .halt;
-    marks = s .marks }
+savedRule s x = stored (record {
+  general = over (λ i. 0) 0 (sp s rG) (s .general);
+  special = set (set (s .special) rL 0) rO ((sp s rO + 8 * extent s) % 2 ^ 64);
+  pc = following s;
+  halt = s .halt;
+  marks = s .marks;
+}) x (contextAddress s)
 
 -- the step: ".. and rS follow it"
 unfoldable pub savedState : State → ℕ → State
@@ -70,11 +71,12 @@ unsavedSpecial s o g a l vs k =
 -- o, the address of the first local, is the restored rO
 unfoldable pub unsavedRule : State → ℕ → ℕ → ℕ → ℕ → List ℕ → State
 unsavedRule s o g a l vs = record {
-    general = over (unsavedGeneral g l vs) 0 256 (s .general);
-    special = over (unsavedSpecial s o g a l vs) 0 32 (s .special);
-    pc = following s;
-    halt = s .halt;
-    marks = s .marks }
+  general = over (unsavedGeneral g l vs) 0 256 (s .general);
+  special = over (unsavedSpecial s o g a l vs) 0 32 (s .special);
+  pc = following s;
+  halt = s .halt;
+  marks = s .marks;
+}
 
 -- the step: "rS becomes the restored rO"
 unfoldable pub unsaved : State → ℕ → ℕ → ℕ → ℕ → List ℕ → State
@@ -87,15 +89,15 @@ unsaved s o g a l vs = spilled (unsavedRule s o g a l vs)
 unfoldable pub contextRest : {S : Type 0} → S → (ℕ → ℕ → ℕ → ℕ → List ℕ → S) → ℕ → ℕ → ℕ → ℕ → Plan S
 contextRest bad found p g a l =
     cond (leb l g)
-      (read 6 (below p (l + 269 - g)) (l + 270 - g) (λ vs. answer 0 (found (below p (l + 269 - g) % 2 ^ 64) g a l vs) 0 []))
-      (answer 16 bad 0 [])
+    (read 6 (below p (l + 269 - g)) (l + 270 - g) (λ vs. answer 0 (found (below p (l + 269 - g) % 2 ^ 64) g a l vs) 0 []))
+    (answer 16 bad 0 [])
 
 -- 14, 15: "saved rG outside 32 to 255; saved rA too large"; ".. if that passes, the local count"
 unfoldable pub contextCount : {S : Type 0} → S → (ℕ → ℕ → ℕ → ℕ → List ℕ → S) → ℕ → ℕ → ℕ → Plan S
 contextCount bad found p g a =
     cond (leb 32 g && leb g 255)
-      (cond (leb a 0x3FFFF) (read 6 (below p (269 - g)) 1 (λ v. contextRest bad found p g a (getD v 0 0))) (answer 15 bad 0 []))
-      (answer 14 bad 0 [])
+    (cond (leb a 0x3FFFF) (read 6 (below p (269 - g)) 1 (λ v. contextRest bad found p g a (getD v 0 0))) (answer 15 bad 0 []))
+    (answer 14 bad 0 [])
 
 -- "UNSAVE needs the packed one": rG is its top byte, rA all below
 unfoldable pub contextAt : {S : Type 0} → S → (ℕ → ℕ → ℕ → ℕ → List ℕ → S) → ℕ → Plan S

@@ -88,12 +88,12 @@ pub record Private (h : ℕ) (s t : State) (a b : Outcome State Window) (is : Li
 -- targets"; "It is enough that the first run's needs keep off the frame"
 abbrev pub Claim : (Outcome State Window → List Item → List ℕ) → Type 0
 Claim needed = (w : Window) (s t : State) (c : Call) (x y z : ℕ) (is : List Item)
-  → Sized s → Sized t → Words s → Words t
-  → Alike (hole s x) s t
-  → stepOf w s (opcodeOf c) x y z .reply ≡ 0
-  → stepOf w s (opcodeOf c) x y z .state .pc ≡ stepOf w t (opcodeOf c) x y z .state .pc
-  → All (Off (Within (sp s rO) (hole s x + 1))) (needed (stepOf w s (opcodeOf c) x y z) is)
-  → Private (hole s x) s t (stepOf w s (opcodeOf c) x y z) (stepOf w t (opcodeOf c) x y z) is
+    → Sized s → Sized t → Words s → Words t
+    → Alike (hole s x) s t
+    → stepOf w s (opcodeOf c) x y z .reply ≡ 0
+    → stepOf w s (opcodeOf c) x y z .state .pc ≡ stepOf w t (opcodeOf c) x y z .state .pc
+    → All (Off (Within (sp s rO) (hole s x + 1))) (needed (stepOf w s (opcodeOf c) x y z) is)
+    → Private (hole s x) s t (stepOf w s (opcodeOf c) x y z) (stepOf w t (opcodeOf c) x y z) is
 
 abbrev pub Demand3 : Type 0
 Demand3 = Claim afterNeeds

@@ -33,11 +33,12 @@ slid s n i = cond (ltb i (sp s rL - n)) (reg s (n + i)) 0
 -- "rL is max(0, rL − H − 1) .. rO .. grow by 8 × (H + 1)", n for H + 1
 unfoldable pub slide : State → ℕ → State
 slide s n = record {
-    general = over (slid s n) 0 (sp s rG) (s .general);
-    special = set (set (s .special) rL (sp s rL - n)) rO ((sp s rO + 8 * n) % 2 ^ 64);
-    pc = s .pc;
-    halt = s .halt;
-    marks = s .marks }
+  general = over (slid s n) 0 (sp s rG) (s .general);
+  special = set (set (s .special) rL (sp s rL - n)) rO ((sp s rO + 8 * n) % 2 ^ 64);
+  pc = s .pc;
+  halt = s .halt;
+  marks = s .marks;
+}
 
 -- Knuth's PUSH to t with hole h: ".. rJ is @ + 4"
 unfoldable pub pushedRule : State → ℕ → ℕ → State
@@ -68,11 +69,12 @@ restored s x h ls i = cond (ltb i h) (getD ls i 0) (cond (eqb i h) (lastOutput s
 -- "Registers at or above rG are never written. rL is min(H + count, rG); rO .. become rO − 8 × (H + 1)"
 unfoldable pub unslide : State → ℕ → ℕ → List ℕ → State
 unslide s x h ls = record {
-    general = over (restored s x h ls) 0 (sp s rG) (s .general);
-    special = set (set (s .special) rL (min (h + countOf s x) (sp s rG))) rO (sp s rO - 8 * (h + 1));
-    pc = s .pc;
-    halt = s .halt;
-    marks = s .marks }
+  general = over (restored s x h ls) 0 (sp s rG) (s .general);
+  special = set (set (s .special) rL (min (h + countOf s x) (sp s rG))) rO (sp s rO - 8 * (h + 1));
+  pc = s .pc;
+  halt = s .halt;
+  marks = s .marks;
+}
 
 -- the step: rS moves with rO
 unfoldable pub popped : State → ℕ → ℕ → ℕ → List ℕ → State

@@ -19,8 +19,8 @@ pub mod Numbers
 pub mod Leaves
 pub mod Keeps
 pub mod Locality
-pub mod Needs
+pub mod StepNeeds
 pub mod Demand
-pub mod Points
-pub mod Parked
+pub mod Bench
+pub mod Roundtrip
 pub mod Departures

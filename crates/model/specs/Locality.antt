@@ -33,6 +33,6 @@ pub record StepIsLocal : Type 0 where
   -- base and length stay, and so does every octabyte that is not needed
   pub shape-kept : (w : Window) (s : State) (op x y z : ℕ) → shapeOf (stepOf w s op x y z .memory) ≡ shapeOf w
   pub octa-kept : (w : Window) (s : State) (op x y z a : ℕ)
-    → All (λ b. octa b ≢ octa a) (stepNeeds w s op x y z) → octaBytes (stepOf w s op x y z .memory) a ≡ octaBytes w a
+      → All (λ b. octa b ≢ octa a) (stepNeeds w s op x y z) → octaBytes (stepOf w s op x y z .memory) a ≡ octaBytes w a
   -- 6: "a needed octabyte lies outside the window"; for every state and window
   pub six : (w : Window) (s : State) (op x y z : ℕ) → eqb (stepOf w s op x y z .reply) 6 ≡ not (allInside (shapeOf w) (stepNeeds w s op x y z))

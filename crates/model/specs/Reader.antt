@@ -26,8 +26,8 @@ partAt w o g a l vs = record { start = offset (w .base) o; size = 8 * (l + 270 -
 unfoldable pub readContext : Window → ℕ → Outcome Part Window
 readContext w p =
     cond (ruled (shapeOf w))
-      (perform one (refusing (shapeOf w)) emptyPart (contextAt emptyPart (partAt w) p) w)
-      (record { reply = 2; state = emptyPart; memory = w })
+    (perform one (refusing (shapeOf w)) emptyPart (contextAt emptyPart (partAt w) p) w)
+    (record { reply = 2; state = emptyPart; memory = w })
 
 -- the bytes of a part
 abbrev pub bytesIn : Window → Part → List ℕ

@@ -13,66 +13,97 @@ use Rattle.model.specs.declared.State.{State}
 
 abbrev pub rB : ℕ
 rB = 0
+
 abbrev pub rD : ℕ
 rD = 1
+
 abbrev pub rE : ℕ
 rE = 2
+
 abbrev pub rH : ℕ
 rH = 3
+
 abbrev pub rJ : ℕ
 rJ = 4
+
 abbrev pub rM : ℕ
 rM = 5
+
 abbrev pub rR : ℕ
 rR = 6
+
 abbrev pub rBB : ℕ
 rBB = 7
+
 abbrev pub rC : ℕ
 rC = 8
+
 abbrev pub rN : ℕ
 rN = 9
+
 abbrev pub rO : ℕ
 rO = 10
+
 abbrev pub rS : ℕ
 rS = 11
+
 abbrev pub rI : ℕ
 rI = 12
+
 abbrev pub rT : ℕ
 rT = 13
+
 abbrev pub rTT : ℕ
 rTT = 14
+
 abbrev pub rK : ℕ
 rK = 15
+
 abbrev pub rQ : ℕ
 rQ = 16
+
 abbrev pub rU : ℕ
 rU = 17
+
 abbrev pub rV : ℕ
 rV = 18
+
 abbrev pub rG : ℕ
 rG = 19
+
 abbrev pub rL : ℕ
 rL = 20
+
 abbrev pub rA : ℕ
 rA = 21
+
 abbrev pub rF : ℕ
 rF = 22
+
 abbrev pub rP : ℕ
 rP = 23
+
 abbrev pub rW : ℕ
 rW = 24
+
 abbrev pub rX : ℕ
 rX = 25
+
 abbrev pub rY : ℕ
 rY = 26
+
 abbrev pub rZ : ℕ
 rZ = 27
+
 abbrev pub rWW : ℕ
 rWW = 28
+
 abbrev pub rXX : ℕ
 rXX = 29
+
 abbrev pub rYY : ℕ
 rYY = 30
+
 abbrev pub rZZ : ℕ
 rZZ = 31
 
@@ -121,12 +152,13 @@ pub record MarginalZero (s : State) : Type 0 where
 -- all else 0"
 unfoldable pub fresh : State
 fresh = record {
-    general = replicate 256 0;
-    special = set (set (set (set (set (set (set (set (replicate 32 0)
+  general = replicate 256 0;
+  special = set (set (set (set (set (set (set (set (replicate 32 0)
       rN 2009) rG 32) rO stackStart) rS stackStart) rK 0xFFFFFFFFFFFFFFFF) rT 0x8000000500000000) rTT 0x8000000600000000) rV 0x369C200400000000;
-    pc = 0;
-    halt = 0;
-    marks = 0 }
+  pc = 0;
+  halt = 0;
+  marks = 0;
+}
 
 -- ---- writes
 

@@ -18,11 +18,12 @@ wordOf op x y z = 2 ^ 63 + op * 2 ^ 24 + xyzOf x y z
 -- "A trip sets rB to $255, then $255 to rJ, rW to @ + 4, rX to .., rY and rZ to the operands"; under the numbers b, w, x, y, z
 unfoldable pub interrupted : State → ℕ → ℕ → ℕ → ℕ → ℕ → ℕ → ℕ → ℕ → State
 interrupted s b w x y z word u v = record {
-    general = set (s .general) 255 (sp s rJ);
-    special = set (set (set (set (set (s .special) b (reg s 255)) w (following s)) x word) y u) z v;
-    pc = s .pc;
-    halt = s .halt;
-    marks = s .marks }
+  general = set (s .general) 255 (sp s rJ);
+  special = set (set (set (set (set (s .special) b (reg s 255)) w (following s)) x word) y u) z v;
+  pc = s .pc;
+  halt = s .halt;
+  marks = s .marks;
+}
 
 abbrev pub tripped : State → ℕ → ℕ → ℕ → State
 tripped s word u v = interrupted s rB rW rX rY rZ word u v
@@ -79,4 +80,4 @@ withAdded s f = withSpecial s rA (bitOr (sp s rA) (added s f))
 unfoldable pub raised : State → ℕ → ℕ → ℕ → ℕ → Said
 raised s f word u v =
     cond (eqb (enabled s f) 0) (say 0 (next (withAdded s f)))
-      (tripTo (withAdded s f) (leadingZeros 8 (enabled s f) + 1) word u v)
+    (tripTo (withAdded s f) (leadingZeros 8 (enabled s f) + 1) word u v)

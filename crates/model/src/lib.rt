@@ -45,36 +45,67 @@ pub enum Reply {
 impl State {
     // Special register numbers, as indices into `special`.
     pub const RB: usize = 0;
+
     pub const RD: usize = 1;
+
     pub const RE: usize = 2;
+
     pub const RH: usize = 3;
+
     pub const RJ: usize = 4;
+
     pub const RM: usize = 5;
+
     pub const RR: usize = 6;
+
     pub const RBB: usize = 7;
+
     pub const RC: usize = 8;
+
     pub const RN: usize = 9;
+
     pub const RO: usize = 10;
+
     pub const RS: usize = 11;
+
     pub const RI: usize = 12;
+
     pub const RT: usize = 13;
+
     pub const RTT: usize = 14;
+
     pub const RK: usize = 15;
+
     pub const RQ: usize = 16;
+
     pub const RU: usize = 17;
+
     pub const RV: usize = 18;
+
     pub const RG: usize = 19;
+
     pub const RL: usize = 20;
+
     pub const RA: usize = 21;
+
     pub const RF: usize = 22;
+
     pub const RP: usize = 23;
+
     pub const RW: usize = 24;
+
     pub const RX: usize = 25;
+
     pub const RY: usize = 26;
+
     pub const RZ: usize = 27;
+
     pub const RWW: usize = 28;
+
     pub const RXX: usize = 29;
+
     pub const RYY: usize = 30;
+
     pub const RZZ: usize = 31;
 
     /// Where the register stack starts.
@@ -93,6 +124,12 @@ impl State {
         special[State::RT] = 0x8000000500000000;
         special[State::RTT] = 0x8000000600000000;
         special[State::RV] = 0x369C200400000000;
-        State { general: [0; 256], special: special, pc: 0, halt: 0, marks: 0 }
+        State {
+            general: [0; 256],
+            special: special,
+            pc: 0,
+            halt: 0,
+            marks: 0,
+        }
     }
 }

@@ -36,8 +36,8 @@ unsaveNeedsRest w p g l = cond (leb l g) (run w (below p (l + 269 - g)) (l + 270
 unfoldable pub unsaveNeedsCount : Window → ℕ → ℕ → ℕ → List ℕ
 unsaveNeedsCount w p g a =
     cond (leb 32 g && leb g 255)
-      (cond (leb a 0x3FFFF) (run w (below p (269 - g)) 1 (unsaveNeedsRest w p g (look one w (below p (269 - g))))) [])
-      []
+    (cond (leb a 0x3FFFF) (run w (below p (269 - g)) 1 (unsaveNeedsRest w p g (look one w (below p (269 - g))))) [])
+    []
 
 unfoldable pub unsaveNeeds : Window → ℕ → List ℕ
 unsaveNeeds w p = run w p 1 (unsaveNeedsCount w p (look one w p / 2 ^ 56) (look one w p % 2 ^ 56))
@@ -69,7 +69,7 @@ pub record SameWritten (w : Window) (s : State) (op x y z x' y' z' : ℕ) : Type
 pub record NeedsAre : Type 0 where
   -- what 1 to 5 refuse needs nothing
   pub by-step : (w : Window) (s : State) (op x y z : ℕ)
-    → stepNeeds w s op x y z ≡ cond (eqb (judged s (shapeOf w) (armOf op) x y z) 0) (armNeeds w s (armOf op) x y z) []
+      → stepNeeds w s op x y z ≡ cond (eqb (judged s (shapeOf w) (armOf op) x y z) 0) (armNeeds w s (armOf op) x y z) []
   pub by-exception : (w : Window) (s : State) (f op x y z u v : ℕ) → needsOf one mmix s w (exception f op x y z u v) ≡ []
   -- a PUSH that is done: rO + 8i for i ≤ H; a SAVE that is done: all rL + 270 − rG
   pub push-done : (w : Window) (s : State) (x y z : ℕ) → stepOf w s 0xF2 x y z .reply ≡ 0 → stepNeeds w s 0xF2 x y z ≡ ups (sp s rO) (hole s x + 1)

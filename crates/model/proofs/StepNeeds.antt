@@ -17,7 +17,7 @@ use Rattle.model.specs.Frames.{hole, framed, pushed, pushFrame, popped, 
 use Rattle.model.specs.Contexts.{extent, saved, savedState, saveContext, below, unsaved, contextRest, contextCount, contextAt, unsaveContext}
 use Rattle.model.specs.Lists.{needsOf}
 use Rattle.model.specs.Step.{refusalOf, judged, refusing, planOf, stepPlan, stepOf, stepNeeds, exceptionOf, exception, itemPlan, mmix}
-use Rattle.model.specs.Needs.{run, popNeeds, unsaveNeedsRest, unsaveNeedsCount, unsaveNeeds, armNeeds, NeedsAre, BytesUnused}
+use Rattle.model.specs.StepNeeds.{run, popNeeds, unsaveNeedsRest, unsaveNeedsCount, unsaveNeeds, armNeeds, NeedsAre, BytesUnused}
 use Rattle.model.specs.declared.State.{State}
 use Rattle.model.proofs.Bools.{on, on-both}
 use Rattle.model.proofs.Runs.{length-tab}
@@ -68,9 +68,9 @@ module _ (w : Window) where
   count-needs s p g a =
       by-cond (leb 32 g && leb g 255) _ _
       ∙ on-both (λ (a b : List ℕ). a ≡ b) (leb 32 g && leb g 255)
-        (λ e. by-cond (leb a 0x3FFFF) _ _
-          ∙ on-both (λ (a b : List ℕ). a ≡ b) (leb a 0x3FFFF) (λ f. rw (← rest-needs s p g a (look one w (below p (269 - g))))) (λ f. refl))
-        (λ e. refl)
+      (λ e. by-cond (leb a 0x3FFFF) _ _
+      ∙ on-both (λ (a b : List ℕ). a ≡ b) (leb a 0x3FFFF) (λ f. rw (← rest-needs s p g a (look one w (below p (269 - g))))) (λ f. refl))
+      (λ e. refl)
 
   unsave-needs : (s : State) (p : ℕ) → by (unsaveContext s p) ≡ unsaveNeeds w p
   unfolding unsaveContext contextAt unsaveNeeds needs looks
@@ -96,7 +96,7 @@ module _ (w : Window) where
   arm-needs s none op x y z = tell-none _
 
 step-needs : (w : Window) (s : State) (op x y z : ℕ)
-  → stepNeeds w s op x y z ≡ cond (eqb (judged s (shapeOf w) (armOf op) x y z) 0) (armNeeds w s (armOf op) x y z) []
+    → stepNeeds w s op x y z ≡ cond (eqb (judged s (shapeOf w) (armOf op) x y z) 0) (armNeeds w s (armOf op) x y z) []
 unfolding stepNeeds stepPlan
 step-needs w s op x y z =
     by-cond w (eqb (judged s (shapeOf w) (armOf op) x y z) 0) (planOf s (armOf op) op x y z) (tell (say (judged s (shapeOf w) (armOf op) x y z) s))
@@ -104,36 +104,36 @@ step-needs w s op x y z =
 
 -- a plan that stores and is done: its run passed
 stored-done : (w : Window) (s t : State) (a n : ℕ) (f : ℕ → ℕ) → perform one (refusing (shapeOf w)) s (answer 0 t a (tab 0 n f)) w .reply ≡ 0
-  → needs one (refusing (shapeOf w)) (answer 0 t a (tab 0 n f)) w ≡ ups a n
+    → needs one (refusing (shapeOf w)) (answer 0 t a (tab 0 n f)) w ≡ ups a n
 unfolding perform needs
 stored-done w s t a n f =
     rw (length-tab n 0 f) (on-both {A = Outcome State Window} (λ o xs. o .reply ≡ 0 → xs ≡ ups a n) (clear (refusing (shapeOf w)) a n)
-      (λ e d. refl) (λ e d. absurd (let z : worst (refusing (shapeOf w)) a n ≡ 6 = worst-six (shapeOf w) n a e in omega arith)))
+    (λ e d. refl) (λ e d. absurd (let z : worst (refusing (shapeOf w)) a n ≡ 6 = worst-six (shapeOf w) n a e in omega arith)))
 
 -- at the entry, for an arm that does nothing but store
 entry-stored : (w : Window) (s t : State) (op x y z a n : ℕ) (f : ℕ → ℕ) → refusalOf (armOf op) x y z ≡ 0
-  → (admissible s ≡ true → stepOf w s op x y z .reply ≡ 0 → planOf s (armOf op) op x y z ≡ answer 0 t a (tab 0 n f))
-  → stepOf w s op x y z .reply ≡ 0 → stepNeeds w s op x y z ≡ ups a n
+    → (admissible s ≡ true → stepOf w s op x y z .reply ≡ 0 → planOf s (armOf op) op x y z ≡ answer 0 t a (tab 0 n f))
+    → stepOf w s op x y z .reply ≡ 0 → stepNeeds w s op x y z ≡ ups a n
 unfolding stepNeeds stepPlan judged
 entry-stored w s t op x y z a n f e p d =
     let j : (admissible s ≡ true) × (ruled (shapeOf w) ≡ true) = step-done w s op x y z d in
     let q : planOf s (armOf op) op x y z ≡ answer 0 t a (tab 0 n f) = p (j .0) d in
     rw (j .0, j .1, e, q) (stored-done w s t a n f
-      (ap (λ (k : Plan State). perform one (refusing (shapeOf w)) s k w .reply) (sym q) ∙ sym (ap (λ (o : Outcome State Window). o .reply) (step-open w s op x y z (j .0) (j .1) e)) ∙ d))
+    (ap (λ (k : Plan State). perform one (refusing (shapeOf w)) s k w .reply) (sym q) ∙ sym (ap (λ (o : Outcome State Window). o .reply) (step-open w s op x y z (j .0) (j .1) e)) ∙ d))
 
 -- the four calls have one plan
 push-done : (w : Window) (s : State) (op x y z t : ℕ) → refusalOf (armOf op) x y z ≡ 0 → planOf s (armOf op) op x y z ≡ pushFrame s (hole s x) t
-  → stepOf w s op x y z .reply ≡ 0 → stepNeeds w s op x y z ≡ ups (sp s rO) (hole s x + 1)
+    → stepOf w s op x y z .reply ≡ 0 → stepNeeds w s op x y z ≡ ups (sp s rO) (hole s x + 1)
 unfolding pushFrame
 push-done w s op x y z t e p d = entry-stored w s (pushed s (hole s x) t) op x y z (sp s rO) _ (framed s (hole s x)) e (λ a b. p) d
 
 -- a SAVE that is done was not refused by 13
 pub save-global : (w : Window) (s : State) (x : ℕ) → perform one (refusing (shapeOf w)) s (saveContext s x) w .reply ≡ 0
-  → saveContext s x ≡ answer 0 (savedState s x) (sp s rO) (tab 0 (extent s) (saved s))
+    → saveContext s x ≡ answer 0 (savedState s x) (sp s rO) (tab 0 (extent s) (saved s))
 unfolding saveContext
 save-global w s x =
     on (λ (p : Plan State). perform one (refusing (shapeOf w)) s p w .reply ≡ 0 → p ≡ answer 0 (savedState s x) (sp s rO) (tab 0 (extent s) (saved s))) (ltb x (sp s rG))
-      (λ e d. absurd (let z : _≡_ {A = ℕ} 13 0 = sym (told w s (refuse 13 s)) ∙ d in omega arith)) (λ e d. refl)
+    (λ e d. absurd (let z : _≡_ {A = ℕ} 13 0 = sym (told w s (refuse 13 s)) ∙ d in omega arith)) (λ e d. refl)
   where
     told : (w : Window) (s : State) (d : Said) → perform one (refusing (shapeOf w)) s (tell d) w .reply ≡ d .reply
     told w s d = unfold tell perform worst in refl
@@ -143,25 +143,27 @@ unfolding planOf armOf refusalOf
 save-done w s x y z d =
     let j : (admissible s ≡ true) × (ruled (shapeOf w) ≡ true) = step-done w s 0xFA x y z d in
     entry-stored w s (savedState s x) 0xFA x y z (sp s rO) (extent s) (saved s) refl
-      (λ a b. save-global w s x (ap (λ (o : Outcome State Window). o .reply) (sym (step-open w s 0xFA x y z (j .0) (j .1) refl)) ∙ d)) d
+    (λ a b. save-global w s x (ap (λ (o : Outcome State Window). o .reply) (sym (step-open w s 0xFA x y z (j .0) (j .1) refl)) ∙ d)) d
 
 pub needs-are : NeedsAre
 unfolding needsOf mmix itemPlan planOf armOf refusalOf one
 needs-are = record {
-    by-step = step-needs;
-    by-exception = λ w s f op x y z u v. tell-none w (exceptionOf s f op x y z u v);
-    push-done = λ w s x y z. push-done w s 0xF2 x y z (near s forward y z) refl refl;
-    push-back-done = λ w s x y z. push-done w s 0xF3 x y z (near s backward y z) refl refl;
-    push-go-done = λ w s x y z. push-done w s 0xBE x y z (sumOf s register y z) refl refl;
-    push-go-immediate-done = λ w s x y z. push-done w s 0xBF x y z (sumOf s immediate y z) refl refl;
-    save-done = save-done }
+  by-step = step-needs;
+  by-exception = λ w s f op x y z u v. tell-none w (exceptionOf s f op x y z u v);
+  push-done = λ w s x y z. push-done w s 0xF2 x y z (near s forward y z) refl refl;
+  push-back-done = λ w s x y z. push-done w s 0xF3 x y z (near s backward y z) refl refl;
+  push-go-done = λ w s x y z. push-done w s 0xBE x y z (sumOf s register y z) refl refl;
+  push-go-immediate-done = λ w s x y z. push-done w s 0xBF x y z (sumOf s immediate y z) refl refl;
+  save-done = save-done;
+}
 
 pub bytes-unused : BytesUnused
 unfolding stepOf stepNeeds stepPlan judged refusalOf planOf armOf
 bytes-unused = record {
-    save-yz = λ w s x y z y' z'. record { outcome-same = refl; needs-same = refl };
-    unsave-xy = λ w s x y z x' y'. record { outcome-same = refl; needs-same = refl };
-    put-y = λ w s x y z y'. record { outcome-same = refl; needs-same = refl };
-    puti-y = λ w s x y z y'. record { outcome-same = refl; needs-same = refl };
-    get-y = λ w s x y z y'. record { outcome-same = refl; needs-same = refl };
-    swym-xyz = λ w s x y z x' y' z'. record { outcome-same = refl; needs-same = refl } }
+  save-yz = λ w s x y z y' z'. record { outcome-same = refl; needs-same = refl };
+  unsave-xy = λ w s x y z x' y'. record { outcome-same = refl; needs-same = refl };
+  put-y = λ w s x y z y'. record { outcome-same = refl; needs-same = refl };
+  puti-y = λ w s x y z y'. record { outcome-same = refl; needs-same = refl };
+  get-y = λ w s x y z y'. record { outcome-same = refl; needs-same = refl };
+  swym-xyz = λ w s x y z x' y' z'. record { outcome-same = refl; needs-same = refl };
+}

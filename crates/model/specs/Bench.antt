@@ -108,14 +108,14 @@ unfoldable pub points : List Point
 points =
     -- P1, P2, P3
     point (two 7 9) program (step 0xF2 1 0 5 ∷ []) (0 ∷ [])
-      (goes (withSpecial (grown start 2) rJ 4) 0x14) (holding (holding program 0 7) 1 1)
+    (goes (withSpecial (grown start 2) rJ 4) 0x14) (holding (holding program 0 7) 1 1)
     ∷ point (two 7 9) program (step 0xF2 1 0 5 ∷ step 0xF8 0 0 0 ∷ []) (0 ∷ 0 ∷ [])
-      (goes (withSpecial (stored (withSpecial start rL 1) 0 7) rJ 4) 4) (holding (holding program 0 7) 1 1)
+    (goes (withSpecial (stored (withSpecial start rL 1) 0 7) rJ 4) 4) (holding (holding program 0 7) 1 1)
     ∷ point (two 7 9) program (step 0xF2 1 0 5 ∷ step 0xF8 1 0 0 ∷ []) (0 ∷ 0 ∷ [])
-      (goes (withSpecial (stored (withSpecial start rL 2) 0 7) rJ 4) 4) (holding (holding program 0 7) 1 1)
+    (goes (withSpecial (stored (withSpecial start rL 2) 0 7) rJ 4) 4) (holding (holding program 0 7) 1 1)
     -- P4
     ∷ point (two 7 9) program (step 0xF2 32 0 5 ∷ []) (0 ∷ [])
-      (goes (withSpecial (grown start 3) rJ 4) 0x14) (holding (holding (holding program 0 7) 1 9) 2 2)
+    (goes (withSpecial (grown start 3) rJ 4) 0x14) (holding (holding (holding program 0 7) 1 9) 2 2)
     -- P5
     ∷ does (withSpecial start rJ 0x100) (step 0xF8 0 0 3) (goes (withSpecial start rJ 0x100) 0x10c)
     -- P6
@@ -132,7 +132,7 @@ points =
     ∷ refuses (stored start 255 0x40000) (step 0xF6 21 0 255) 11
     -- P10
     ∷ point start (zeros 1904) (step 0xFA 255 0 0 ∷ []) (0 ∷ [])
-      (goes (grown addressed 238) 4) (parked (zeros 1904) 0)
+    (goes (grown addressed 238) 4) (parked (zeros 1904) 0)
     ∷ point start (zeros 1896) (step 0xFA 255 0 0 ∷ []) (6 ∷ []) start (zeros 1896)
     -- P11
     ∷ does (goes (stored start 255 (2 ^ 63)) 0x40000) (step 0x41 255 0 0) (stored start 255 (2 ^ 63))
@@ -142,18 +142,18 @@ points =
     ∷ does (withSpecial start rA 0xC000) (exception 0xC0 0 0 0 0 0 0) (goes (withSpecial (afterTrip start) rA 0xC000) 0x10)
     -- P14
     ∷ point (withSpecial (two 7 9) rO 0xFFFFFFFFFFFFFFF8) (record { base = 0xFFFFFFFFFFFFFFF8; bytes = replicate 16 0 }) (step 0xF2 1 0 1 ∷ []) (0 ∷ [])
-      (goes (withSpecial (withSpecial (withSpecial start rO 8) rS 8) rJ 4) 4)
-      (record { base = 0xFFFFFFFFFFFFFFF8; bytes = replicate 7 0 ++ (7 ∷ replicate 7 0) ++ (1 ∷ []) })
+    (goes (withSpecial (withSpecial (withSpecial start rO 8) rS 8) rJ 4) 4)
+    (record { base = 0xFFFFFFFFFFFFFFF8; bytes = replicate 7 0 ++ (7 ∷ replicate 7 0) ++ (1 ∷ []) })
     -- "the hole given the first output", "a PUSH that copies after clearing"
     ∷ point three program (step 0xF2 0 0 1 ∷ []) (0 ∷ [])
-      (goes (withSpecial (grown (two 2 3) 1) rJ 4) 4) program
+    (goes (withSpecial (grown (two 2 3) 1) rJ 4) 4) program
     ∷ point three program (step 0xF2 0 0 1 ∷ step 0xF8 2 0 0 ∷ []) (0 ∷ 0 ∷ [])
-      (goes (withSpecial (two 3 2) rJ 4) 4) program
+    (goes (withSpecial (two 3 2) rJ 4) 4) program
     -- "SAVE's $X stored before the globals"
     ∷ point (stored start 255 77) program (step 0xFA 255 0 0 ∷ []) (0 ∷ [])
-      (goes (grown addressed 238) 4) (parked program 77)
+    (goes (grown addressed 238) 4) (parked program 77)
     ∷ point (stored start 255 77) program (step 0xFA 255 0 0 ∷ step 0xFB 0 0 255 ∷ []) (0 ∷ 0 ∷ [])
-      (goes (stored start 255 77) 8) (parked program 77)
+    (goes (stored start 255 77) 8) (parked program 77)
     -- "a wide local count cut to a byte before it is compared": 256, 256 + rG, 2^32
     ∷ tooMany 256
     ∷ tooMany 288

@@ -1,5 +1,5 @@
 -- Theorem 7. The context reader judges as UNSAVE does and hands back the context's own bytes; UNSAVE undoes SAVE.
-use Prim.Native.Nat.{ℕ, _+_, _-_, _*_, _/_, _%_, _^_}
+use Prim.Native.Nat.{ℕ, _+_, _-_, _*_, _/_, _%_, _^_, _<_}
 use mathlib.Core.Path.{_≡_}
 use mathlib.Core.Bool.{true}
 use mathlib.Core.List.{List}
@@ -34,11 +34,12 @@ pub record FromFirstToPacked (w : Window) (p : ℕ) (q : Part) : Type 0 where
 -- rS = rO, and PC two instructions on
 unfoldable pub unparked : State → State
 unparked s = record {
-    general = over (λ i. 0) (sp s rL) (sp s rG) (s .general);
-    special = set (s .special) rS (sp s rO);
-    pc = (s .pc + 8) % 2 ^ 64;
-    halt = s .halt;
-    marks = s .marks }
+  general = over (λ i. 0) (sp s rL) (sp s rG) (s .general);
+  special = set (s .special) rS (sp s rO);
+  pc = (s .pc + 8) % 2 ^ 64;
+  halt = s .halt;
+  marks = s .marks;
+}
 
 -- UNSAVE of $x, where o is what SAVE $x left
 abbrev pub unsaveAfter : Outcome State Window → ℕ → ℕ → ℕ → Outcome State Window
@@ -47,10 +48,10 @@ unsaveAfter o x y z = stepOf (o .memory) (o .state) 0xFB y z x
 pub record ContextsKept : Type 0 where
   -- "The reader's reply is, for every admissible state whose $Z is the address and every ruled window, UNSAVE's own"
   pub reader-reply : (w : Window) (s : State) (x y z : ℕ) → admissible s ≡ true → ruled (shapeOf w) ≡ true
-    → readContext w (reg s z) .reply ≡ stepOf w s 0xFB x y z .reply
+      → readContext w (reg s z) .reply ≡ stepOf w s 0xFB x y z .reply
   pub reader-part : (w : Window) (p : ℕ) → readContext w p .reply ≡ 0 → FromFirstToPacked w p (readContext w p .state)
-  -- for any rO, misaligned too
-  pub save-unsave : (w : Window) (s : State) (x y z y' z' : ℕ) → Sized s → Words s → stepOf w s 0xFA x y z .reply ≡ 0
-    → unsaveAfter (stepOf w s 0xFA x y z) x y' z' ≡ record { reply = 0; state = unparked s; memory = stepOf w s 0xFA x y z .memory }
-  pub save-address : (w : Window) (s : State) (x y z : ℕ) → Sized s → stepOf w s 0xFA x y z .reply ≡ 0
-    → reg (stepOf w s 0xFA x y z .state) x ≡ contextAddress s
+  -- X is a byte; for any rO, misaligned too
+  pub save-unsave : (w : Window) (s : State) (x y z y' z' : ℕ) → x < 256 → Sized s → Words s → stepOf w s 0xFA x y z .reply ≡ 0
+      → unsaveAfter (stepOf w s 0xFA x y z) x y' z' ≡ record { reply = 0; state = unparked s; memory = stepOf w s 0xFA x y z .memory }
+  pub save-address : (w : Window) (s : State) (x y z : ℕ) → x < 256 → Sized s → stepOf w s 0xFA x y z .reply ≡ 0
+      → reg (stepOf w s 0xFA x y z .state) x ≡ contextAddress s

@@ -1,0 +1,158 @@
+-- Theorem 7: the registers that SAVE and then UNSAVE leave, and the assembled claim.
+use mathlib.Core.Path.{_≡_, refl, sym, ap, _∙_}
+use mathlib.Core.Logic.{_≢_}
+use mathlib.Core.Bool.{Bool, true, false, cond, _&&_, _||_}
+use mathlib.Core.List.{List, []}
+use Prim.Native.Nat.{ℕ, zero, suc, _+_, _-_, _*_, _/_, _%_, _^_, _≤_, _<_}
+use native.Mathlib.Omega.{arith}
+use native.Mathlib.Decide.{ℕ-discrete}
+use lib.Dec.{leb, ltb, eqb}
+use lib.ListN.{length, getD, set, length-set}
+use lib.Seq.{ext-getD, getD-set-other}
+use borrow.Author.Tests.{leb-true, ltb-true, ltb-false, eqb-true, eqb-false}
+use Rattle.model.specs.Fill.{over}
+use Rattle.model.specs.Octa.{octa}
+use Rattle.model.specs.Memory.{Window, shapeOf, ruled, offset, has, one}
+use Rattle.model.specs.Plan.{Plan, answer, read, Outcome, perform, worst, clear, named, look, looks}
+use Rattle.model.specs.Registers.{rO, rS, rG, rL, rA, rP, rR, rZ, sp, reg, Sized, Words, admissible, halted, withSpecial, stored, spilled}
+use Rattle.model.specs.Contexts.{extent, saved, contextAddress, savedRule, savedState, below, unsavedGeneral, unsavedSpecial, unsavedRule, unsaved, contextRest, contextCount, contextAt}
+use Rattle.model.specs.Step.{refusing, stepOf}
+use Rattle.model.specs.Demand.{Within}
+use Rattle.model.specs.Reader.{Part, emptyPart, partAt, readContext}
+use Rattle.model.specs.Roundtrip.{thresholdAt, countAt, octasAt, FromFirstToPacked, unparked, unsaveAfter, ContextsKept}
+use Rattle.model.specs.declared.State.{State}
+use Rattle.model.proofs.Bools.{and-left, and-right, on, on-both}
+use Rattle.model.proofs.Fill.{length-over, over-in, over-below, over-above}
+use Rattle.model.proofs.Memory.{one-lawful}
+use Rattle.model.proofs.Plan.{Kept·refl}
+use Rattle.model.proofs.Runs.{octa-mod, worst-of}
+use Rattle.model.proofs.Good.{Adm, Good, adm-of, spec-same, saved-good, unsaved-good, unsaved-special}
+use Rattle.model.proofs.Unpark.{looked, Context, context-found, Saves, savedOn, save-done, save-is, savedState-address, savedSpecial-low, savedSpecial-high, saved-local, saved-global, saved-twelve, withContext, Unsaves, unsave-open, unsave-back}
+use Rattle.model.proofs.Reader.{reader-reply, reader-part}
+use Rattle.model.proofs.Entry.{performOn, Inside, said-reply, sound, ruled-facts, Ruled}
+
+-- ---- the registers that UNSAVE leaves
+
+-- the specials that a context holds
+unfoldable pub isSaved : ℕ → Bool
+isSaved k = eqb k rG || (eqb k rL || (eqb k rA || (eqb k rO || (leb k rR || (leb rP k && leb k rZ)))))
+
+-- the general registers, marginal ones zero
+abbrev calmed : State → List ℕ
+calmed s = over (λ k. 0) (sp s rL) (sp s rG) (s .general)
+
+-- vs are the octabytes that SAVE stored of s, and e is any state
+module _ (s e : State) (b : Adm s) (vs : List ℕ) (are : (i : ℕ) → i < extent s → getD vs i 0 ≡ saved s i) where
+  general-at : (i : ℕ) → i < 256 → length (s .general) ≡ 256 → unsavedGeneral (sp s rG) (sp s rL) vs i ≡ getD (calmed s) i 0
+  unfolding unsavedGeneral
+  general-at i l n =
+      on (λ (v : ℕ). v ≡ getD (calmed s) i 0) (ltb i (sp s rL))
+      (λ f. let p : i < sp s rL = ltb-true _ _ f in
+      are i (omega arith) ∙ saved-local s b i p ∙ sym (over-below (λ k. 0) (sp s rL) (sp s rG) (s .general) i p (omega arith)))
+      (λ f. let p : sp s rL ≤ i = ltb-false _ _ f in
+      on (λ (v : ℕ). v ≡ getD (calmed s) i 0) (ltb i (sp s rG))
+      (λ g. let q : i < sp s rG = ltb-true _ _ g in sym (over-in (λ k. 0) (sp s rL) (sp s rG) (s .general) i p q (omega arith)))
+      (λ g. let q : sp s rG ≤ i = ltb-false _ _ g in
+      are (sp s rL + 1 + (i - sp s rG)) (omega arith) ∙ saved-global s b i q l ∙ sym (over-above (λ k. 0) (sp s rL) (sp s rG) (s .general) i q (omega arith))))
+
+  pub unsaved-generals : Sized s → Sized e → withContext s e vs .general ≡ calmed s
+  unfolding unsaved spilled withSpecial unsavedRule
+  unsaved-generals n m =
+      let c : length (s .general) ≡ 256 = n .generals in
+      let d : length (e .general) ≡ 256 = m .generals in
+      ext-getD 0 (over (unsavedGeneral (sp s rG) (sp s rL) vs) 0 256 (e .general)) (calmed s)
+      (length-over (unsavedGeneral (sp s rG) (sp s rL) vs) 0 256 (e .general) ∙ d ∙ sym (length-over (λ k. 0) (sp s rL) (sp s rG) (s .general) ∙ c))
+      (λ i q. let l : i < 256 = omega (arith, length-over (unsavedGeneral (sp s rG) (sp s rL) vs) 0 256 (e .general)) in
+      over-in (unsavedGeneral (sp s rG) (sp s rL) vs) 0 256 (e .general) i (omega arith) l (omega arith) ∙ general-at i l c)
+
+  special-at : (k : ℕ) → unsavedSpecial e (sp s rO) (sp s rG) (sp s rA) (sp s rL) vs k ≡ cond (isSaved k) (sp s k) (sp e k)
+  unfolding unsavedSpecial isSaved
+  special-at k =
+      peel (eqb k rG) _ (λ f. ap (sp s) (sym (eqb-true k rG f)))
+      (peel (eqb k rL) _ (λ f. ap (sp s) (sym (eqb-true k rL f)))
+      (peel (eqb k rA) _ (λ f. ap (sp s) (sym (eqb-true k rA f)))
+      (peel (eqb k rO) _ (λ f. ap (sp s) (sym (eqb-true k rO f)))
+      (peel (leb k rR) _
+      (λ f. let h : k ≤ rR = leb-true _ _ f in are (sp s rL + 257 - sp s rG + k) (omega arith) ∙ saved-twelve s b k (omega arith) ∙ rw (savedSpecial-low k h))
+      (on-both (λ (x y : ℕ). x ≡ y) (leb rP k && leb k rZ)
+      (λ f. let h : rP ≤ k = leb-true _ _ (and-left (leb rP k) _ f) in
+      let r : k ≤ rZ = leb-true _ _ (and-right (leb rP k) _ f) in
+      are (sp s rL + 257 - sp s rG + (k - 16)) (omega arith) ∙ saved-twelve s b (k - 16) (omega arith) ∙ rw (savedSpecial-high k h))
+      (λ f. refl))))))
+    where
+      -- one test of two
+      peel : {x y : ℕ} (a c : Bool) → (a ≡ true → x ≡ sp s k) → y ≡ cond c (sp s k) (sp e k) → cond a x y ≡ cond (a || c) (sp s k) (sp e k)
+      peel true c f g = f refl
+      peel false c f g = g
+
+  pub unsaved-specials : (k : ℕ) → Sized e → k < 32 → k ≢ rS → sp (withContext s e vs) k ≡ cond (isSaved k) (sp s k) (sp e k)
+  unfolding unsaved spilled withSpecial unsavedRule
+  unsaved-specials k n l h =
+      getD-set-other (unsavedRule e (sp s rO) (sp s rG) (sp s rA) (sp s rL) vs .special) rS k _ 0 h
+      ∙ unsaved-special e (sp s rO) (sp s rG) (sp s rA) (sp s rL) vs k (n .specials) l ∙ special-at k
+
+  pub unsaved-rS : Sized e → sp (withContext s e vs) rS ≡ sp s rO
+  unfolding unsaved spilled withSpecial unsavedRule
+  unsaved-rS n =
+      let m : length (e .special) ≡ 32 = n .specials in
+      let v : length (over (unsavedSpecial e (sp s rO) (sp s rG) (sp s rA) (sp s rL) vs) 0 32 (e .special)) ≡ 32 = length-over _ 0 32 (e .special) ∙ m in
+      spec-same (over (unsavedSpecial e (sp s rO) (sp s rG) (sp s rA) (sp s rL) vs) 0 32 (e .special)) rS _ v refl
+      ∙ unsaved-special e (sp s rO) (sp s rG) (sp s rA) (sp s rL) vs rO m (omega arith) ∙ (unfold unsavedSpecial in refl)
+
+-- ---- UNSAVE right after SAVE
+
+differs : (k i : ℕ) → isSaved k ≡ false → isSaved i ≡ true → k ≢ i
+differs k i f g q = let e : k ≡ i = q in let o : _≡_ {A = ℕ} 0 1 = cc in omega arith
+
+savedState-special : (s : State) (x k : ℕ) → isSaved k ≡ false → k ≢ rS → sp (savedState s x) k ≡ sp s k
+unfolding savedState savedRule spilled withSpecial stored
+savedState-special s x k f h =
+    getD-set-other (savedRule s x .special) rS k _ 0 h
+    ∙ getD-set-other (set (s .special) rL 0) rO k _ 0 (differs k rO f (unfold isSaved in refl)) ∙ getD-set-other (s .special) rL k _ 0 (differs k rL f (unfold isSaved in refl))
+
+module _ (s : State) (x : ℕ) (good : Good s) (vs : List ℕ) (are : (i : ℕ) → i < extent s → getD vs i 0 ≡ saved s i) where
+  abbrev back : State
+  back = withContext s (savedState s x) vs
+
+  back-special : (k : ℕ) → k < 32 → Dec (k ≡ rS) → sp back k ≡ getD (set (s .special) rS (sp s rO)) k 0
+  back-special k l (yes q) = rw q (unsaved-rS s (savedState s x) (good .admits) vs are (saved-good s x good .size) ∙ sym (spec-same (s .special) rS (sp s rO) (good .size .specials) refl))
+  back-special k l (no h) =
+      unsaved-specials s (savedState s x) (good .admits) vs are k (saved-good s x good .size) l h
+      ∙ on (λ (v : ℕ). v ≡ sp s k) (isSaved k) (λ f. refl) (λ f. savedState-special s x k f h)
+      ∙ sym (getD-set-other (s .special) rS k (sp s rO) 0 h)
+
+  back-specials : back .special ≡ set (s .special) rS (sp s rO)
+  back-specials =
+      let b : Adm s = good .admits in
+      let n : length (back .special) ≡ 32 = unsaved-good (savedState s x) (sp s rO) (sp s rG) (sp s rA) (sp s rL) vs (b .g-low) (b .g-high) (b .a-high) (b .l-g) (saved-good s x good) .size .specials in
+      ext-getD 0 (back .special) (set (s .special) rS (sp s rO)) (n ∙ sym (length-set (s .special) rS (sp s rO) ∙ good .size .specials)) (λ k l. back-special k (omega arith) (ℕ-discrete k rS))
+
+  back-is : back ≡ unparked s
+  unfolding unparked unsaved spilled withSpecial unsavedRule savedState savedRule stored
+  back-is =
+      let on-two : ((s .pc + 4) % 2 ^ 64 + 4) % 2 ^ 64 ≡ (s .pc + 8) % 2 ^ 64 = omega arith in
+      λ i. record {
+        general = unsaved-generals s (savedState s x) (good .admits) vs are (good .size) (saved-good s x good .size) i;
+        special = back-specials i;
+        pc = on-two i;
+        halt = s .halt;
+        marks = s .marks;
+      }
+
+-- SAVE puts the address in $X: X is a byte
+pub save-address : (w : Window) (s : State) (x y z : ℕ) → x < 256 → Sized s → stepOf w s 0xFA x y z .reply ≡ 0 → reg (stepOf w s 0xFA x y z .state) x ≡ contextAddress s
+save-address w s x y z l n h = rw (save-is w s x y z (save-done w s x y z h)) (savedState-address s x n l)
+
+-- for any rO, misaligned too: X is a byte
+pub save-unsave : (w : Window) (s : State) (x y z y' z' : ℕ) → x < 256 → Sized s → Words s → stepOf w s 0xFA x y z .reply ≡ 0
+    → unsaveAfter (stepOf w s 0xFA x y z) x y' z' ≡ record { reply = 0; state = unparked s; memory = stepOf w s 0xFA x y z .memory }
+save-unsave w s x y z y' z' l n words h =
+    let c : Saves w s x = save-done w s x y z h in
+    let good : Good s = record { size = n; admits = c .admits } in
+    let u : Unsaves s (savedState s x) (savedOn w s) (stepOf (savedOn w s) (savedState s x) 0xFB y' z' x)
+    = unsave-back w (savedOn w s) s x c words (Kept·refl one one-lawful (Within (sp s rO) (extent s)) (savedOn w s)) (savedState s x) y' z' x
+    (adm-of (savedState s x) (saved-good s x good .admits)) (savedState-address s x n l) in
+    rw (save-is w s x y z c) (u .outcome-is ∙ rw (back-is s x good (u .octas) (u .octas-are)))
+
+pub contexts-kept : ContextsKept
+contexts-kept = record { reader-reply = reader-reply; reader-part = reader-part; save-unsave = save-unsave; save-address = save-address }
