@@ -108,11 +108,11 @@ slide-calm s n c =
     calm-by (slide s n) (slide-good s n (c .good)) (sp s rL - n) (sp s rG) (simp (spec-other, spec-same, length-set, k)) (simp spec-other)
     (λ i p q. over-in (slid s n) 0 (sp s rG) (s .general) i (omega arith) q (omega arith) ∙ slid-zero s n i p)
 
-pushed-calm : (s : State) (h t : ℕ) → Calm s → Calm (pushed s h t)
+pushed-calm : (s : State) (h : ℕ) → Calm s → Calm (pushed s h)
 unfolding pushed pushedRule
-pushed-calm s h t c =
+pushed-calm s h c =
     let d : Calm (slide s _) = slide-calm s _ c in
-    spilled-calm _ (goes-calm _ t (other-calm (slide s _) rJ (following s) refl refl (withSpecial-good (slide s _) rJ (following s) refl refl refl (d .good)) d))
+    spilled-calm _ (other-calm (slide s _) rJ (following s) refl refl (withSpecial-good (slide s _) rJ (following s) refl refl refl (d .good)) d)
 
 -- beyond the outputs: only where the count is 0 is the hole one of these, and then it is 0
 none-last : (s : State) (x : ℕ) → countOf s x ≡ 0 → lastOutput s x ≡ 0
@@ -127,9 +127,9 @@ restored-zero s x h ls i p =
     rw (le-ltb i h (omega arith), le-ltb i (h + countOf s x) p)
     (on (λ (o : ℕ). o ≡ 0) (eqb i h) (λ e. let f : i ≡ h = eqb-true i h e in none-last s x (omega arith)) (λ e. refl))
 
-popped-calm : (s : State) (x t h : ℕ) (ls : List ℕ) → Calm s → Calm (popped s x t h ls)
+popped-calm : (s : State) (x h : ℕ) (ls : List ℕ) → Calm s → Calm (popped s x h ls)
 unfolding popped
-popped-calm s x t h ls c = spilled-calm _ (goes-calm _ t moved)
+popped-calm s x h ls c = spilled-calm _ moved
   where
     moved : Calm (unslide s x h ls)
     moved = unfold unslide in (

@@ -25,10 +25,10 @@ use Rattle.model.proofs.Memory.{one-lawful}
 use Rattle.model.proofs.Lists.{runTouches, SameRun, runs-agree, runs-kept, runTouches-off, runWider-off, runTouches-agree, runs-always}
 use Rattle.model.proofs.Runs.{length-tab}
 use Rattle.model.specs.declared.State.{State}
-use Rattle.model.proofs.Good.{Adm, Good, adm, adm-of, pushed-good}
+use Rattle.model.proofs.Good.{Adm, Good, adm, adm-of, goes-good, pushed-good}
 use Rattle.model.proofs.Keeps.{item-keeps}
 use Rattle.model.proofs.Kept.{good-keeps}
-use Rattle.model.proofs.Frame.{pushed-alike, push-is, push-same, pop-is, pop-reg, push-rO}
+use Rattle.model.proofs.Frame.{called, called-alike, push-is, push-same, pop-is, pop-reg, push-rO}
 
 mmix-good : (s : State) (w : Shape) (i : Item) → Good s → Always Good (mmix .plan s w i)
 unfolding mmix
@@ -57,7 +57,7 @@ call-arm PUSHGO x y z = refl
 call-arm PUSHGOI x y z = refl
 
 abbrev pushedOn : Window → State → ℕ → ℕ → Outcome State Window
-pushedOn w s h u = record { reply = 0; state = pushed s h u; memory = puts one w (sp s rO) (tab 0 (h + 1) (framed s h)) }
+pushedOn w s h u = record { reply = 0; state = called s h u; memory = puts one w (sp s rO) (tab 0 (h + 1) (framed s h)) }
 
 call-open : (c : Call) (w : Window) (s : State) (x y z : ℕ) → admissible s ≡ true → ruled (shapeOf w) ≡ true
     → stepOf w s (opcodeOf c) x y z ≡ perform one (refusing (shapeOf w)) s (pushFrame s (hole s x) (targetOfCall c s y z)) w
@@ -104,14 +104,14 @@ place r o h q u m n = omega arith
 
 back-core : (w : Window) (s : State) (h u : ℕ) (is : List Item) → Words s → Good s → ruled (shapeOf w) ≡ true → h ≤ sp s rG
     → worst (refusing (shapeOf w)) (sp s rO) (h + 1) ≡ 0
-    → All (Off (Within (sp s rO) (h + 1))) (runTouches one mmix (pushed s h u) (pushedOn w s h u .memory) is)
-    → AtPop h (sp (pushed s h u) rO) (after (pushedOn w s h u) is .state) → (x y z : ℕ) → GivesBack h s (popAfter (after (pushedOn w s h u) is) x y z)
+    → All (Off (Within (sp s rO) (h + 1))) (runTouches one mmix (called s h u) (pushedOn w s h u .memory) is)
+    → AtPop h (sp (called s h u) rO) (after (pushedOn w s h u) is .state) → (x y z : ℕ) → GivesBack h s (popAfter (after (pushedOn w s h u) is) x y z)
 back-core w s h u is words good fine hg fits touched at x y z =
     let e : State = after (pushedOn w s h u) is .state in
     let v : Window = after (pushedOn w s h u) is .memory in
-    let ge : Good e = runs-always one one-lawful mmix Good mmix-good is (pushed s h u) (pushedOn w s h u .memory) (pushed-good s h u good) in
+    let ge : Good e = runs-always one one-lawful mmix Good mmix-good is (called s h u) (pushedOn w s h u .memory) (goes-good _ u (pushed-good s h good)) in
     let k : Kept one (Within (sp s rO) (h + 1)) (pushedOn w s h u .memory) v
-    = runs-kept one one-lawful mmix (Within (sp s rO) (h + 1)) mmix-sound is (pushed s h u) (pushedOn w s h u .memory) touched in
+    = runs-kept one one-lawful mmix (Within (sp s rO) (h + 1)) mmix-sound is (called s h u) (pushedOn w s h u .memory) touched in
     let sh : shapeOf v ≡ shapeOf w = kept-shape (Within (sp s rO) (h + 1)) (pushedOn w s h u .memory) v k ∙ window-shape w (sp s rO) (tab 0 (h + 1) (framed s h)) in
     let gg : sp s rG ≤ 255 = good .admits .g-high in
     let small : h ≤ 255 = omega arith in
@@ -133,7 +133,7 @@ back-core w s h u is words good fine hg fits touched at x y z =
 end-shape : (w : Window) (s : State) (h u : ℕ) (is : List Item) → shapeOf (after (pushedOn w s h u) is .memory) ≡ shapeOf w
 end-shape w s h u is =
     kept-shape (λ o. ⊥) (pushedOn w s h u .memory) _
-    (runs-kept one one-lawful mmix (λ o. ⊥) mmix-sound is (pushed s h u) (pushedOn w s h u .memory) (All-of _ (runTouches one mmix (pushed s h u) (pushedOn w s h u .memory) is) (λ b x. x)))
+    (runs-kept one one-lawful mmix (λ o. ⊥) mmix-sound is (called s h u) (pushedOn w s h u .memory) (All-of _ (runTouches one mmix (called s h u) (pushedOn w s h u .memory) is) (λ b x. x)))
     ∙ window-shape w (sp s rO) (tab 0 (h + 1) (framed s h))
 
 -- ---- two runs
@@ -165,22 +165,22 @@ pair-core w s t h u is ws wt gs gt fine hg alike fits off =
     let os : sp s rO ≡ sp t rO = ap (λ (l : List ℕ). getD l rO 0) (alike .special-same) in
     let gse : sp s rG ≡ sp t rG = ap (λ (l : List ℕ). getD l rG 0) (alike .special-same) in
     let fits-t : worst (refusing (shapeOf w)) (sp t rO) (h + 1) ≡ 0 = rw (← os) fits in
-    let st : pushed s h u ≡ pushed t h u = pushed-alike s t h u (gs .size) (gt .size) hg alike in
+    let st : called s h u ≡ called t h u = called-alike s t h u (gs .size) (gt .size) hg alike in
     let calls : Same one (Within (sp s rO) h) (pushedOn w s h u) (pushedOn w t h u)
     = rw (push-is one one-lawful (refusing (shapeOf w)) s h u w fits, push-is one one-lawful (refusing (shapeOf w)) t h u w fits-t)
     at (push-same one one-lawful (refusing (shapeOf w)) s t h u w (gs .size) (gt .size) hg alike (sound-at w) fits) in
     let ms : Agree one (Within (sp s rO) h) (pushedOn w s h u .memory) (pushedOn w t h u .memory) = calls .memory-same in
-    let touched : All (Off (Within (sp s rO) (h + 1))) (runTouches one mmix (pushed s h u) (pushedOn w s h u .memory) is)
-    = runTouches-off one one-lawful mmix (Off (Within (sp s rO) (h + 1))) is (pushed s h u) (pushedOn w s h u .memory) off in
-    let near : All (Off (Within (sp s rO) h)) (runTouches one mmix (pushed s h u) (pushedOn w s h u .memory) is) = narrow (sp s rO) h _ touched in
+    let touched : All (Off (Within (sp s rO) (h + 1))) (runTouches one mmix (called s h u) (pushedOn w s h u .memory) is)
+    = runTouches-off one one-lawful mmix (Off (Within (sp s rO) (h + 1))) is (called s h u) (pushedOn w s h u .memory) off in
+    let near : All (Off (Within (sp s rO) h)) (runTouches one mmix (called s h u) (pushedOn w s h u .memory) is) = narrow (sp s rO) h _ touched in
     let same : SameRun one mmix (Within (sp s rO) h) (after (pushedOn w s h u) is) (after (pushedOn w t h u) is)
     = subst (λ (p : State). SameRun one mmix (Within (sp s rO) h) (after (pushedOn w s h u) is) (runs one mmix p (pushedOn w t h u .memory) is)) st
-    (runs-agree one one-lawful mmix (Within (sp s rO) h) mmix-sound is (pushed s h u) (pushedOn w s h u .memory) (pushedOn w t h u .memory) ms near) in
-    let te : runTouches one mmix (pushed s h u) (pushedOn w s h u .memory) is ≡ runTouches one mmix (pushed t h u) (pushedOn w t h u .memory) is
-    = runTouches-agree one one-lawful mmix (Within (sp s rO) h) mmix-sound is (pushed s h u) (pushedOn w s h u .memory) (pushedOn w t h u .memory) ms near
+    (runs-agree one one-lawful mmix (Within (sp s rO) h) mmix-sound is (called s h u) (pushedOn w s h u .memory) (pushedOn w t h u .memory) ms near) in
+    let te : runTouches one mmix (called s h u) (pushedOn w s h u .memory) is ≡ runTouches one mmix (called t h u) (pushedOn w t h u .memory) is
+    = runTouches-agree one one-lawful mmix (Within (sp s rO) h) mmix-sound is (called s h u) (pushedOn w s h u .memory) (pushedOn w t h u .memory) ms near
     ∙ ap (λ (p : State). runTouches one mmix p (pushedOn w t h u .memory) is) st in
-    let touched-t : All (Off (Within (sp t rO) (h + 1))) (runTouches one mmix (pushed t h u) (pushedOn w t h u .memory) is)
-    = subst (λ (o : ℕ). All (Off (Within o (h + 1))) (runTouches one mmix (pushed t h u) (pushedOn w t h u .memory) is)) os
+    let touched-t : All (Off (Within (sp t rO) (h + 1))) (runTouches one mmix (called t h u) (pushedOn w t h u .memory) is)
+    = subst (λ (o : ℕ). All (Off (Within o (h + 1))) (runTouches one mmix (called t h u) (pushedOn w t h u .memory) is)) os
     (subst (λ (xs : List ℕ). All (Off (Within (sp s rO) (h + 1))) xs) te touched) in
     let ee : after (pushedOn w s h u) is .state ≡ after (pushedOn w t h u) is .state = same .state-same in
     record {
@@ -190,10 +190,10 @@ pair-core w s t h u is ws wt gs gt fine hg alike fits off =
       window-same = bytes-agree (Within (sp s rO) h) _ _ (ruled-facts _ (ap ruled (end-shape w s h u is) ∙ fine)) (same .memory-same);
       first-back = back-core w s h u is ws gs fine hg fits touched;
       second-back = λ at. back-core w t h u is wt gt fine (subst (λ (g : ℕ). h ≤ g) gse hg) fits-t touched-t
-          (subst (λ (p : State). AtPop h (sp p rO) (after (pushedOn w t h u) is .state)) st (subst (λ (p : State). AtPop h (sp (pushed s h u) rO) p) ee at));
+          (subst (λ (p : State). AtPop h (sp p rO) (after (pushedOn w t h u) is .state)) st (subst (λ (p : State). AtPop h (sp (called s h u) rO) p) ee at));
     }
 
-pushed-pc : (s : State) (h u : ℕ) → pushed s h u .pc ≡ u
+pushed-pc : (s : State) (h u : ℕ) → called s h u .pc ≡ u
 unfolding pushed pushedRule spilled withSpecial goes
 pushed-pc s h u = refl
 

@@ -45,26 +45,33 @@ slide-alike s t h n ns nt l b a =
     specials : slide s n .special ≡ slide t n .special
     specials = unfold slide in (rw (← (a .special-same)))
 
-moved-alike : (s t : State) (h n u : ℕ) → Sized s → Sized t → h ≤ sp s rG → Alike h s t → h ≤ n
-    → spilled (goes (withSpecial (slide s n) rJ (following s)) u) ≡ spilled (goes (withSpecial (slide t n) rJ (following t)) u)
-moved-alike s t h n u ns nt b a l = rw (slide-alike s t h n ns nt l b a, a .pc-same)
+moved-alike : (s t : State) (h n : ℕ) → Sized s → Sized t → h ≤ sp s rG → Alike h s t → h ≤ n
+    → spilled (withSpecial (slide s n) rJ (following s)) ≡ spilled (withSpecial (slide t n) rJ (following t))
+moved-alike s t h n ns nt b a l = rw (slide-alike s t h n ns nt l b a, a .pc-same)
 
 -- what is pushed is gone from the state: two that differ below the hole become one
-pub pushed-alike : (s t : State) (h u : ℕ) → Sized s → Sized t → h ≤ sp s rG → Alike h s t → pushed s h u ≡ pushed t h u
+pub pushed-alike : (s t : State) (h : ℕ) → Sized s → Sized t → h ≤ sp s rG → Alike h s t → pushed s h ≡ pushed t h
 unfolding pushed pushedRule
-pushed-alike s t h u ns nt b a = moved-alike s t h _ u ns nt b a (omega arith)
+pushed-alike s t h ns nt b a = moved-alike s t h _ ns nt b a (omega arith)
 
-popped-at : (s : State) (x t h : ℕ) (ls : List ℕ) (i : ℕ) → Sized s → i < sp s rG → sp s rG ≤ 255 → reg (popped s x t h ls) i ≡ restored s x h ls i
-unfolding popped spilled withSpecial goes unslide
-popped-at s x t h ls i n l g = let k : length (s .general) ≡ 256 = n .generals in
+-- the state after a call of u
+abbrev pub called : State → ℕ → ℕ → State
+called s h u = goes (pushed s h) u
+
+pub called-alike : (s t : State) (h u : ℕ) → Sized s → Sized t → h ≤ sp s rG → Alike h s t → called s h u ≡ called t h u
+called-alike s t h u ns nt b a = ap (λ (p : State). goes p u) (pushed-alike s t h ns nt b a)
+
+popped-at : (s : State) (x h : ℕ) (ls : List ℕ) (i : ℕ) → Sized s → i < sp s rG → sp s rG ≤ 255 → reg (popped s x h ls) i ≡ restored s x h ls i
+unfolding popped spilled withSpecial unslide
+popped-at s x h ls i n l g = let k : length (s .general) ≡ 256 = n .generals in
     over-in (restored s x h ls) 0 (sp s rG) (s .general) i (omega arith) l (omega arith)
 
 caller-local : (s : State) (x h : ℕ) (ls : List ℕ) (i : ℕ) → i < h → restored s x h ls i ≡ getD ls i 0
 unfolding restored
 caller-local s x h ls i l = rw (lt-ltb i h l)
 
-popped-local : (s : State) (x t h : ℕ) (ls : List ℕ) (i : ℕ) → Sized s → i < h → i < sp s rG → sp s rG ≤ 255 → reg (popped s x t h ls) i ≡ getD ls i 0
-popped-local s x t h ls i n l b g = popped-at s x t h ls i n b g ∙ caller-local s x h ls i l
+popped-local : (s : State) (x h : ℕ) (ls : List ℕ) (i : ℕ) → Sized s → i < h → i < sp s rG → sp s rG ≤ 255 → reg (popped s x h ls) i ≡ getD ls i 0
+popped-local s x h ls i n l b g = popped-at s x h ls i n b g ∙ caller-local s x h ls i l
 
 module _ {M Sh : Type 0} (st : Store M Sh) (law : Lawful st) where
   -- stores that differ only inside F
@@ -93,7 +100,7 @@ module _ {M Sh : Type 0} (st : Store M Sh) (law : Lawful st) where
       next k l d = let e : a + 8 * suc k ≡ a + 8 + 8 * k = omega arith in let z : i + suc k ≡ suc i + k = omega arith in rw e at (inside (suc k) (omega arith) (rw z d))
 
   pub push-is : (j : ℕ → ℕ) (s : State) (h u : ℕ) (m : M) → worst j (sp s rO) (h + 1) ≡ 0
-      → perform st j s (pushFrame s h u) m ≡ record { reply = 0; state = pushed s h u; memory = puts st m (sp s rO) (tab 0 (h + 1) (framed s h)) }
+      → perform st j s (pushFrame s h u) m ≡ record { reply = 0; state = called s h u; memory = puts st m (sp s rO) (tab 0 (h + 1) (framed s h)) }
   unfolding pushFrame perform
   push-is j s h u m ok = rw (length-tab (h + 1) 0 (framed s h), eq-eqb _ _ ok)
 
@@ -106,7 +113,7 @@ module _ {M Sh : Type 0} (st : Store M Sh) (law : Lawful st) where
       = puts-differ (Within (sp s rO) h) j (framed s h) (framed t h) (h + 1) 0 m m (sp s rO) snd ok inside (record { shape-same = refl; rest-same = λ b o. refl }) in
       rw (push-is j s h u m ok, push-is j t h u m (rw (← os) ok)) (record {
         reply-same = refl;
-        state-same = pushed-alike s t h u ns nt l a;
+        state-same = called-alike s t h u ns nt l a;
         memory-same = rw (← os) wt;
       })
     where
@@ -149,14 +156,14 @@ module _ {M Sh : Type 0} (st : Store M Sh) (law : Lawful st) where
     passes : (a n : ℕ) → ((i : ℕ) → i < n → (k : ℕ) × (k < h + 1) × (a + 8 * i ≡ sp s rO + 8 * k)) → worst j a n ≡ 0
     passes a n f = of-worst j n a (λ i l. let r : (k : ℕ) × (k < h + 1) × (a + 8 * i ≡ sp s rO + 8 * k) = f i l in rw (r .2) (worst-of j (h + 1) (sp s rO) (r .0) fits (r .1)))
 
-    pub pop-is : (x t : ℕ) → perform st j e (popFrame e x t) w ≡ record { reply = 0; state = popped e x t h (looks st w (sp e rO - 8 * (h + 1)) (min h (sp e rG))); memory = w }
+    pub pop-is : (x t : ℕ) → perform st j e (popFrame e x t) w ≡ record { reply = 0; state = goes (popped e x h (looks st w (sp e rO - 8 * (h + 1)) (min h (sp e rG)))) t; memory = w }
     unfolding popTo popRule
     pop-is x t =
         ap (λ (p : Plan State). perform st j e p w) (pop-open x t)
         ∙ perform-read st law j e 6 (sp e rO - 8) 1 (λ vs. popTo e x t (getD vs 0 0 % 256)) w (passes (sp e rO - 8) 1 (λ i l. (h, omega arith, omega arith)))
         ∙ ap (λ (c : ℕ). perform st j e (popTo e x t c) w) count
-        ∙ perform-read st law j e 6 (sp e rO - 8 * (h + 1)) (min h (sp e rG)) (λ ls. answer 0 (popped e x t h ls) 0 []) w (passes (sp e rO - 8 * (h + 1)) (min h (sp e rG)) (λ i l. (i, omega arith, omega arith)))
-        ∙ said (popped e x t h (looks st w (sp e rO - 8 * (h + 1)) (min h (sp e rG))))
+        ∙ perform-read st law j e 6 (sp e rO - 8 * (h + 1)) (min h (sp e rG)) (λ ls. answer 0 (goes (popped e x h ls) t) 0 []) w (passes (sp e rO - 8 * (h + 1)) (min h (sp e rG)) (λ i l. (i, omega arith, omega arith)))
+        ∙ said (goes (popped e x h (looks st w (sp e rO - 8 * (h + 1)) (min h (sp e rG)))) t)
       where
         said : (z : State) → perform st j e (answer 0 z 0 []) w ≡ record { reply = 0; state = z; memory = w }
         said z = unfold perform worst puts in refl
@@ -164,13 +171,13 @@ module _ {M Sh : Type 0} (st : Store M Sh) (law : Lawful st) where
     pub pop-reg : (x t i : ℕ) → i < h → reg (perform st j e (popFrame e x t) w .state) i ≡ reg s i
     pop-reg x t i l = rw (pop-is x t) (local (looks st w (sp e rO - 8 * (h + 1)) (min h (sp e rG))) ∙ got)
       where
-        local : (ls : List ℕ) → reg (popped e x t h ls) i ≡ getD ls i 0
-        local ls = popped-local e x t h ls i ne l (omega arith) ge
+        local : (ls : List ℕ) → reg (goes (popped e x h ls) t) i ≡ getD ls i 0
+        local ls = unfold goes in (popped-local e x h ls i ne l (omega arith) ge)
 
         got : getD (looks st w (sp e rO - 8 * (h + 1)) (min h (sp e rG))) i 0 ≡ reg s i
         got = let p : sp e rO - 8 * (h + 1) + 8 * i ≡ sp s rO + 8 * i = omega arith in
             getD-looks st law (min h (sp e rG)) w (sp e rO - 8 * (h + 1)) i (omega arith) ∙ ap (look st w) p ∙ octabyte i (omega arith) ∙ (unfold framed in rw (lt-ltb i h l))
 
-pub push-rO : (s : State) (h t : ℕ) → length (s .special) ≡ 32 → sp (pushed s h t) rO ≡ (sp s rO + 8 * (h + 1)) % 2 ^ 64
+pub push-rO : (s : State) (h t : ℕ) → length (s .special) ≡ 32 → sp (called s h t) rO ≡ (sp s rO + 8 * (h + 1)) % 2 ^ 64
 unfolding pushed pushedRule slide spilled withSpecial goes
 push-rO s h t n = simp (spec-other, spec-same, length-set, n)

@@ -143,10 +143,9 @@ slide-good s n g = let m : length (s .special) ≡ 32 = g .size .specials in let
     good-l s (slide s n) (length-over (slid s n) 0 (sp s rG) (s .general)) (simp length-set) (sp s rL - n)
     (simp spec-other) (simp (spec-other, spec-same, length-set, m)) (simp spec-other) refl (omega arith) g
 
-pub pushed-good : (s : State) (h t : ℕ) → Good s → Good (pushed s h t)
+pub pushed-good : (s : State) (h : ℕ) → Good s → Good (pushed s h)
 unfolding pushed pushedRule
-pushed-good s h t g =
-    spilled-good _ (goes-good _ t (withSpecial-good (slide s _) rJ (following s) refl refl refl (slide-good s _ g)))
+pushed-good s h g = spilled-good _ (withSpecial-good (slide s _) rJ (following s) refl refl refl (slide-good s _ g))
 
 pub unslide-good : (s : State) (x h : ℕ) (ls : List ℕ) → Good s → Good (unslide s x h ls)
 unfolding unslide
@@ -154,9 +153,9 @@ unslide-good s x h ls g = let m : length (s .special) ≡ 32 = g .size .specials
     good-l s (unslide s x h ls) (length-over (restored s x h ls) 0 (sp s rG) (s .general)) (simp length-set) (min (h + countOf s x) (sp s rG))
     (simp spec-other) (simp (spec-other, spec-same, length-set, m)) (simp spec-other) refl (omega arith) g
 
-pub popped-good : (s : State) (x t h : ℕ) (ls : List ℕ) → Good s → Good (popped s x t h ls)
+pub popped-good : (s : State) (x h : ℕ) (ls : List ℕ) → Good s → Good (popped s x h ls)
 unfolding popped
-popped-good s x t h ls g = spilled-good _ (goes-good _ t (unslide-good s x h ls g))
+popped-good s x h ls g = spilled-good _ (unslide-good s x h ls g)
 
 -- SAVE's state but for rS
 pub savedRule-good : (s : State) (x : ℕ) → Good s → Good (savedRule s x)

@@ -27,8 +27,8 @@ pub record Keeps (P : State → Type 0) : Type 0 where
   pub globals : (s : State) (v : ℕ) → 32 ≤ v → v ≤ 255 → sp s rL ≤ v → P s → P (putGlobals s v)
   pub status : (s : State) (v : ℕ) → v ≤ 0x3FFFF → P s → P (withSpecial s rA v)
   pub other : (s : State) (k v : ℕ) → eqb rG k ≡ false → eqb rL k ≡ false → eqb rA k ≡ false → P s → P (withSpecial s k v)
-  pub pushes : (s : State) (h t : ℕ) → P s → P (pushed s h t)
-  pub pops : (s : State) (x t h : ℕ) (ls : List ℕ) → P s → P (popped s x t h ls)
+  pub pushes : (s : State) (h : ℕ) → P s → P (pushed s h)
+  pub pops : (s : State) (x h : ℕ) (ls : List ℕ) → P s → P (popped s x h ls)
   pub saves : (s : State) (x : ℕ) → sp s rG ≤ x → P s → P (savedState s x)
   pub unsaves : (s : State) (o g a l : ℕ) (vs : List ℕ) → 32 ≤ g → g ≤ 255 → a ≤ 0x3FFFF → l ≤ g → P s → P (unsaved s o g a l vs)
   pub trips : (s : State) (word u v : ℕ) → P s → P (tripped s word u v)
@@ -62,10 +62,10 @@ module _ (P : State → Type 0) (k : Keeps P) where
     globals = λ v a b c d w. k .at-pc _ a (k .globals s v b c d h);
     status = λ v a b w. k .at-pc _ a (k .status s v b h);
     other = λ i v a b c d w u. k .at-pc _ a (k .other s i v b c d h);
-    pushes = λ x t w. k .pushes s (hole s x) t h;
-    pops = λ x t i ls w r. k .pops s x t i ls h;
-    saves = λ x b. k .saves s x b h;
-    unsaves = λ o g a l vs w b c d e r. k .unsaves s o g a l vs b c d e h;
+    pushes = λ x t w. k .at-pc _ t (k .pushes s (hole s x) h);
+    pops = λ x t i ls w r. k .at-pc _ t (k .pops s x i ls h);
+    saves = λ x t b w. k .at-pc _ t (k .saves s x b h);
+    unsaves = λ o g a l vs t u w b c d e r. k .at-pc _ t (k .unsaves s o g a l vs b c d e h);
   }
 
   meets-trip : (s : State) (n u v : ℕ) → P s → MeetsTrip s Any (λ r t vs. P t) n u v

@@ -146,8 +146,8 @@ answered s op x y z = record {
   other = λ k v a b c d w u. as-done s op x y z _ [] refl;
   pushes = λ k t w. as-done s op x y z _ _ refl;
   pops = λ k t h ls w r. as-done s op x y z _ [] refl;
-  saves = λ k b. as-done s op x y z _ _ refl;
-  unsaves = λ o g a l vs w b c d e r. as-done s op x y z _ [] refl;
+  saves = λ k t b w. as-done s op x y z _ _ refl;
+  unsaves = λ o g a l vs t u w b c d e r. as-done s op x y z _ [] refl;
 }
 
 answered-trip : (s : State) (op x y z : ℕ) → Sized s → MeetsTrip s Any (Answered s op x y z) (wordOf op x y z) (reg s y) (reg s z)

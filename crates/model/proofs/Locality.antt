@@ -109,8 +109,8 @@ never-six s = record {
   other = λ k v a b c d w u e. omega arith;
   pushes = λ h t w e. omega arith;
   pops = λ x t h ls w r e. omega arith;
-  saves = λ x b e. omega arith;
-  unsaves = λ o g a l vs w b c d f r e. omega arith;
+  saves = λ x t b w e. omega arith;
+  unsaves = λ o g a l vs t u w b c d f r e. omega arith;
 }
 
 step-never-six : (s : State) (w : Shape) (op x y z : ℕ) → Answers Any (λ r t vs. r ≢ 6) (stepPlan s w op x y z)

@@ -42,10 +42,10 @@ pub record Meets (s : State) (W : ℕ → Type 0) (Read : List ℕ → Type 0) (
   pub globals : (v a : ℕ) → 32 ≤ v → v ≤ 255 → sp s rL ≤ v → W a → R 0 (goes (putGlobals s v) a) []
   pub status : (v a : ℕ) → v ≤ 0x3FFFF → W a → R 0 (goes (withSpecial s rA v) a) []
   pub other : (k v a : ℕ) → eqb rG k ≡ false → eqb rL k ≡ false → eqb rA k ≡ false → W v → W a → R 0 (goes (withSpecial s k v) a) []
-  pub pushes : (x t : ℕ) → W t → R 0 (pushed s (hole s x) t) (tab 0 (hole s x + 1) (framed s (hole s x)))
-  pub pops : (x t h : ℕ) (ls : List ℕ) → W t → Read ls → R 0 (popped s x t h ls) []
-  pub saves : (x : ℕ) → sp s rG ≤ x → R 0 (savedState s x) (tab 0 (extent s) (saved s))
-  pub unsaves : (o g a l : ℕ) (vs : List ℕ) → W o → 32 ≤ g → g ≤ 255 → a ≤ 0x3FFFF → l ≤ g → Read vs → R 0 (unsaved s o g a l vs) []
+  pub pushes : (x t : ℕ) → W t → R 0 (goes (pushed s (hole s x)) t) (tab 0 (hole s x + 1) (framed s (hole s x)))
+  pub pops : (x t h : ℕ) (ls : List ℕ) → W t → Read ls → R 0 (goes (popped s x h ls) t) []
+  pub saves : (x t : ℕ) → sp s rG ≤ x → W t → R 0 (goes (savedState s x) t) (tab 0 (extent s) (saved s))
+  pub unsaves : (o g a l : ℕ) (vs : List ℕ) (t : ℕ) → W t → W o → 32 ≤ g → g ≤ 255 → a ≤ 0x3FFFF → l ≤ g → Read vs → R 0 (goes (unsaved s o g a l vs) t) []
 
 -- of an instruction op x y z whose operands are u and v: the trip, the trip that finds no vector, the trap
 pub record MeetsTrip (s : State) (W : ℕ → Type 0) (R : ℕ → State → List ℕ → Type 0) (n u v : ℕ) : Type 0 where
@@ -145,7 +145,7 @@ module _ (s : State) (W : ℕ → Type 0) (Read : List ℕ → Type 0) (R : ℕ 
 
   save-meets : (x : ℕ) → Answers Read R (saveContext s x)
   unfolding saveContext tell Answers
-  save-meets x = on (Answers Read R) (ltb x (sp s rG)) (λ e. m .halts 13 (omega arith) (omega arith)) (λ e. m .saves x (ltb-false _ _ e))
+  save-meets x = on (Answers Read R) (ltb x (sp s rG)) (λ e. m .halts 13 (omega arith) (omega arith)) (λ e. m .saves x _ (ltb-false _ _ e) (onward (savedState s x)))
 
 -- a context, for UNSAVE and for the reader
 module _ {S : Type 0} (bad : S) (found : ℕ → ℕ → ℕ → ℕ → List ℕ → S) (p : ℕ) (Read : List ℕ → Type 0) (R : ℕ → S → List ℕ → Type 0)
@@ -188,7 +188,7 @@ module _ (s : State) (W : ℕ → Type 0) (Read : List ℕ → Type 0) (R : ℕ 
   plan-meets get op x y z wz mt mr = m .writes x (sp s z) _ (m .special-is z) (onward s W Read R m (setRegister s x (sp s z)))
   plan-meets save op x y z wz mt mr = save-meets s W Read R m x
   plan-meets unsave op x y z wz mt mr =
-      context-meets (halted s) (unsaved s) (reg s z) Read R (λ n a b. m .halts n (omega arith) (omega arith)) (λ o g a l vs c. m .unsaves o g a l vs (m .word o c))
+      context-meets (halted s) _ (reg s z) Read R (λ n a b. m .halts n (omega arith) (omega arith)) (λ o g a l vs c. m .unsaves o g a l vs _ (onward s W Read R m (unsaved s o g a l vs)) (m .word o c))
   plan-meets sync op x y z wz mt mr = sync-meets s W Read R m (xyzOf x y z)
   plan-meets swym op x y z wz mt mr = m .moves (following s) (onward s W Read R m s)
   plan-meets trip op x y z wz mt mr = trip-meets s W R 0 (wordOf op x y z) (reg s y) (reg s z) (m .word _ (omega arith)) mt

@@ -27,7 +27,7 @@ use Rattle.model.proofs.Memory.{one-lawful}
 use Rattle.model.proofs.Plan.{Kept·refl}
 use Rattle.model.proofs.Runs.{octa-mod, worst-of}
 use Rattle.model.proofs.Good.{Adm, Good, adm-of, spec-same, saved-good, unsaved-good, unsaved-special}
-use Rattle.model.proofs.Unpark.{looked, Context, context-found, Saves, savedOn, save-done, save-is, savedState-address, savedSpecial-low, savedSpecial-high, saved-local, saved-global, saved-twelve, withContext, Unsaves, unsave-open, unsave-back}
+use Rattle.model.proofs.Unpark.{looked, Context, context-found, Saves, savedOn, save-done, save-is, savedState-address, savedSpecial-low, savedSpecial-high, saved-local, saved-global, saved-twelve, withContext, Unsaves, unsavedNext, unsave-open, unsave-back}
 use Rattle.model.proofs.Entry.{performOn, Inside, said-reply, sound, ruled-facts, Ruled}
 
 -- ---- the reader judges as UNSAVE does
@@ -70,7 +70,7 @@ reader-open w p r = rw r
 
 pub reader-reply : (w : Window) (s : State) (x y z : ℕ) → admissible s ≡ true → ruled (shapeOf w) ≡ true → readContext w (reg s z) .reply ≡ stepOf w s 0xFB x y z .reply
 reader-reply w s x y z a r =
-    rw (reader-open w (reg s z) r, unsave-open w s x y z a r) (context-alike w emptyPart emptyPart (partAt w) s (halted s) (unsaved s) (reg s z))
+    rw (reader-open w (reg s z) r, unsave-open w s x y z a r) (context-alike w emptyPart emptyPart (partAt w) s (halted s) (unsavedNext s) (reg s z))
 
 -- ---- the part that the reader hands back
 

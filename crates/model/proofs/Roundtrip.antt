@@ -14,7 +14,7 @@ use Rattle.model.specs.Fill.{over}
 use Rattle.model.specs.Octa.{octa}
 use Rattle.model.specs.Memory.{Window, shapeOf, ruled, offset, has, one}
 use Rattle.model.specs.Plan.{Plan, answer, read, Outcome, perform, worst, clear, named, look, looks}
-use Rattle.model.specs.Registers.{rO, rS, rG, rL, rA, rP, rR, rZ, sp, reg, Sized, Words, admissible, halted, withSpecial, stored, spilled}
+use Rattle.model.specs.Registers.{rO, rS, rG, rL, rA, rP, rR, rZ, sp, reg, Sized, Words, admissible, following, goes, next, withSpecial, stored, spilled}
 use Rattle.model.specs.Contexts.{extent, saved, contextAddress, savedRule, savedState, below, unsavedGeneral, unsavedSpecial, unsavedRule, unsaved, contextRest, contextCount, contextAt}
 use Rattle.model.specs.Step.{refusing, stepOf}
 use Rattle.model.specs.Demand.{Within}
@@ -26,7 +26,7 @@ use Rattle.model.proofs.Fill.{length-over, over-in, over-below, over-ab
 use Rattle.model.proofs.Memory.{one-lawful}
 use Rattle.model.proofs.Plan.{Kept·refl}
 use Rattle.model.proofs.Runs.{octa-mod, worst-of}
-use Rattle.model.proofs.Good.{Adm, Good, adm-of, spec-same, saved-good, unsaved-good, unsaved-special}
+use Rattle.model.proofs.Good.{Adm, Good, adm-of, spec-same, goes-good, saved-good, unsaved-good, unsaved-special}
 use Rattle.model.proofs.Unpark.{looked, Context, context-found, Saves, savedOn, save-done, save-is, savedState-address, savedSpecial-low, savedSpecial-high, saved-local, saved-global, saved-twelve, withContext, Unsaves, unsave-open, unsave-back}
 use Rattle.model.proofs.Reader.{reader-reply, reader-part}
 use Rattle.model.proofs.Entry.{performOn, Inside, said-reply, sound, ruled-facts, Ruled}
@@ -104,54 +104,72 @@ module _ (s e : State) (b : Adm s) (vs : List ℕ) (are : (i : ℕ) → i < exte
 differs : (k i : ℕ) → isSaved k ≡ false → isSaved i ≡ true → k ≢ i
 differs k i f g q = let e : k ≡ i = q in let o : _≡_ {A = ℕ} 0 1 = cc in omega arith
 
-savedState-special : (s : State) (x k : ℕ) → isSaved k ≡ false → k ≢ rS → sp (savedState s x) k ≡ sp s k
-unfolding savedState savedRule spilled withSpecial stored
-savedState-special s x k f h =
+-- the state that SAVE leaves
+abbrev parked : State → ℕ → State
+parked s x = next (savedState s x)
+
+parked-good : (s : State) (x : ℕ) → Good s → Good (parked s x)
+parked-good s x g = goes-good (savedState s x) _ (saved-good s x g)
+
+parked-special : (s : State) (x k : ℕ) → isSaved k ≡ false → k ≢ rS → sp (parked s x) k ≡ sp s k
+unfolding savedState savedRule spilled withSpecial stored goes
+parked-special s x k f h =
     getD-set-other (savedRule s x .special) rS k _ 0 h
     ∙ getD-set-other (set (s .special) rL 0) rO k _ 0 (differs k rO f (unfold isSaved in refl)) ∙ getD-set-other (s .special) rL k _ 0 (differs k rL f (unfold isSaved in refl))
 
+parked-address : (s : State) (x : ℕ) → Sized s → x < 256 → reg (parked s x) x ≡ contextAddress s
+unfolding goes
+parked-address s x n l = savedState-address s x n l
+
 module _ (s : State) (x : ℕ) (good : Good s) (vs : List ℕ) (are : (i : ℕ) → i < extent s → getD vs i 0 ≡ saved s i) where
   abbrev back : State
-  back = withContext s (savedState s x) vs
+  back = withContext s (parked s x) vs
 
   back-special : (k : ℕ) → k < 32 → Dec (k ≡ rS) → sp back k ≡ getD (set (s .special) rS (sp s rO)) k 0
-  back-special k l (yes q) = rw q (unsaved-rS s (savedState s x) (good .admits) vs are (saved-good s x good .size) ∙ sym (spec-same (s .special) rS (sp s rO) (good .size .specials) refl))
+  back-special k l (yes q) = rw q (unsaved-rS s (parked s x) (good .admits) vs are (parked-good s x good .size) ∙ sym (spec-same (s .special) rS (sp s rO) (good .size .specials) refl))
   back-special k l (no h) =
-      unsaved-specials s (savedState s x) (good .admits) vs are k (saved-good s x good .size) l h
-      ∙ on (λ (v : ℕ). v ≡ sp s k) (isSaved k) (λ f. refl) (λ f. savedState-special s x k f h)
+      unsaved-specials s (parked s x) (good .admits) vs are k (parked-good s x good .size) l h
+      ∙ on (λ (v : ℕ). v ≡ sp s k) (isSaved k) (λ f. refl) (λ f. parked-special s x k f h)
       ∙ sym (getD-set-other (s .special) rS k (sp s rO) 0 h)
 
   back-specials : back .special ≡ set (s .special) rS (sp s rO)
   back-specials =
       let b : Adm s = good .admits in
-      let n : length (back .special) ≡ 32 = unsaved-good (savedState s x) (sp s rO) (sp s rG) (sp s rA) (sp s rL) vs (b .g-low) (b .g-high) (b .a-high) (b .l-g) (saved-good s x good) .size .specials in
+      let n : length (back .special) ≡ 32 = unsaved-good (parked s x) (sp s rO) (sp s rG) (sp s rA) (sp s rL) vs (b .g-low) (b .g-high) (b .a-high) (b .l-g) (parked-good s x good) .size .specials in
       ext-getD 0 (back .special) (set (s .special) rS (sp s rO)) (n ∙ sym (length-set (s .special) rS (sp s rO) ∙ good .size .specials)) (λ k l. back-special k (omega arith) (ℕ-discrete k rS))
 
-  back-is : back ≡ unparked s
-  unfolding unparked unsaved spilled withSpecial unsavedRule savedState savedRule stored
+  back-rest : (back .pc ≡ following s) × (back .halt ≡ s .halt) × (back .marks ≡ s .marks)
+  unfolding unsaved spilled withSpecial unsavedRule savedState savedRule stored goes
+  back-rest = (refl, refl, refl)
+
+  -- two steps on
+  back-is : next back ≡ unparked s
+  unfolding unparked goes
   back-is =
-      let on-two : ((s .pc + 4) % 2 ^ 64 + 4) % 2 ^ 64 ≡ (s .pc + 8) % 2 ^ 64 = omega arith in
+      let r : (back .pc ≡ following s) × (back .halt ≡ s .halt) × (back .marks ≡ s .marks) = back-rest in
+      let p : back .pc ≡ following s = r .0 in
+      let on-two : (back .pc + 4) % 2 ^ 64 ≡ (s .pc + 8) % 2 ^ 64 = rw p (omega arith) in
       λ i. record {
-        general = unsaved-generals s (savedState s x) (good .admits) vs are (good .size) (saved-good s x good .size) i;
+        general = unsaved-generals s (parked s x) (good .admits) vs are (good .size) (parked-good s x good .size) i;
         special = back-specials i;
         pc = on-two i;
-        halt = s .halt;
-        marks = s .marks;
+        halt = r .1 i;
+        marks = r .2 i;
       }
 
 -- SAVE puts the address in $X: X is a byte
-pub save-address : (w : Window) (s : State) (x y z : ℕ) → x < 256 → Sized s → stepOf w s 0xFA x y z .reply ≡ 0 → reg (stepOf w s 0xFA x y z .state) x ≡ contextAddress s
-save-address w s x y z l n h = rw (save-is w s x y z (save-done w s x y z h)) (savedState-address s x n l)
+save-address : (w : Window) (s : State) (x y z : ℕ) → x < 256 → Sized s → stepOf w s 0xFA x y z .reply ≡ 0 → reg (stepOf w s 0xFA x y z .state) x ≡ contextAddress s
+save-address w s x y z l n h = rw (save-is w s x y z (save-done w s x y z h)) (parked-address s x n l)
 
 -- for any rO, misaligned too: X is a byte
-pub save-unsave : (w : Window) (s : State) (x y z y' z' : ℕ) → x < 256 → Sized s → Words s → stepOf w s 0xFA x y z .reply ≡ 0
+save-unsave : (w : Window) (s : State) (x y z y' z' : ℕ) → x < 256 → Sized s → Words s → stepOf w s 0xFA x y z .reply ≡ 0
     → unsaveAfter (stepOf w s 0xFA x y z) x y' z' ≡ record { reply = 0; state = unparked s; memory = stepOf w s 0xFA x y z .memory }
 save-unsave w s x y z y' z' l n words h =
     let c : Saves w s x = save-done w s x y z h in
     let good : Good s = record { size = n; admits = c .admits } in
-    let u : Unsaves s (savedState s x) (savedOn w s) (stepOf (savedOn w s) (savedState s x) 0xFB y' z' x)
-    = unsave-back w (savedOn w s) s x c words (Kept·refl one one-lawful (Within (sp s rO) (extent s)) (savedOn w s)) (savedState s x) y' z' x
-    (adm-of (savedState s x) (saved-good s x good .admits)) (savedState-address s x n l) in
+    let u : Unsaves s (parked s x) (savedOn w s) (stepOf (savedOn w s) (parked s x) 0xFB y' z' x)
+    = unsave-back w (savedOn w s) s x c words (Kept·refl one one-lawful (Within (sp s rO) (extent s)) (savedOn w s)) (parked s x) y' z' x
+    (adm-of (parked s x) (parked-good s x good .admits)) (parked-address s x n l) in
     rw (save-is w s x y z c) (u .outcome-is ∙ rw (back-is s x good (u .octas) (u .octas-are)))
 
 pub contexts-kept : ContextsKept

@@ -7,7 +7,7 @@ use native.Mathlib.Omega.{arith}
 use lib.Dec.{leb, ltb, eqb}
 use lib.ListN.{length, getD}
 use Rattle.model.specs.Fill.{tab}
-use Rattle.model.specs.Registers.{rJ, rO, rG, rL, sp, reg, admissible, halted}
+use Rattle.model.specs.Registers.{rJ, rO, rG, rL, sp, reg, admissible, goes, next, halted}
 use Rattle.model.specs.Memory.{Window, shapeOf, ruled, one}
 use Rattle.model.specs.Plan.{Plan, answer, read, Outcome, perform, ups, worst, clear, missing, look, looks, needs}
 use Rattle.model.specs.Opcodes.{Arm, forward, backward, register, immediate, branch, jump, getAddress, go, pushJump, pushGo, pop, put, get, save, unsave, sync, swym, trip, trap, none, armOf}
@@ -23,6 +23,9 @@ use Rattle.model.proofs.Bools.{on, on-both}
 use Rattle.model.proofs.Runs.{length-tab}
 use Rattle.model.proofs.Meets.{worst-six}
 use Rattle.model.proofs.Entry.{step-open, step-done}
+
+abbrev unsavedNext : State → ℕ → ℕ → ℕ → ℕ → List ℕ → State
+unsavedNext s o g a l vs = next (unsaved s o g a l vs)
 
 module _ (w : Window) where
   abbrev by : Plan State → List ℕ
@@ -46,12 +49,12 @@ module _ (w : Window) where
 
   push-needs : (s : State) (h t : ℕ) → by (pushFrame s h t) ≡ run w (sp s rO) (h + 1) []
   unfolding pushFrame
-  push-needs s h t = by-answer 0 (pushed s h t) (sp s rO) (h + 1) (framed s h)
+  push-needs s h t = by-answer 0 (goes (pushed s h) t) (sp s rO) (h + 1) (framed s h)
 
   save-needs : (s : State) (x : ℕ) → by (saveContext s x) ≡ cond (ltb x (sp s rG)) [] (run w (sp s rO) (extent s) [])
   unfolding saveContext
-  save-needs s x = by-cond (ltb x (sp s rG)) (tell (refuse 13 s)) (answer 0 (savedState s x) (sp s rO) (tab 0 (extent s) (saved s)))
-      ∙ rw (tell-none (refuse 13 s), by-answer 0 (savedState s x) (sp s rO) (extent s) (saved s))
+  save-needs s x = by-cond (ltb x (sp s rG)) (tell (refuse 13 s)) (answer 0 (next (savedState s x)) (sp s rO) (tab 0 (extent s) (saved s)))
+      ∙ rw (tell-none (refuse 13 s), by-answer 0 (next (savedState s x)) (sp s rO) (extent s) (saved s))
 
   pop-needs : (s : State) (x t : ℕ) → by (popFrame s x t) ≡ popNeeds w s
   unfolding popFrame popRule popTo popNeeds tell needs worst ups looks
@@ -59,11 +62,11 @@ module _ (w : Window) where
       by-cond (noFrame s) _ _
       ∙ on-both (λ (a b : List ℕ). a ≡ b) (noFrame s) (λ e. refl) (λ e. by-cond (misplaced s) _ _ ∙ on-both (λ (a b : List ℕ). a ≡ b) (misplaced s) (λ e. refl) (λ e. refl))
 
-  rest-needs : (s : State) (p g a l : ℕ) → by (contextRest (halted s) (unsaved s) p g a l) ≡ unsaveNeedsRest w p g l
+  rest-needs : (s : State) (p g a l : ℕ) → by (contextRest (halted s) (unsavedNext s) p g a l) ≡ unsaveNeedsRest w p g l
   unfolding contextRest unsaveNeedsRest tell needs worst ups
   rest-needs s p g a l = by-cond (leb l g) _ _
 
-  count-needs : (s : State) (p g a : ℕ) → by (contextCount (halted s) (unsaved s) p g a) ≡ unsaveNeedsCount w p g a
+  count-needs : (s : State) (p g a : ℕ) → by (contextCount (halted s) (unsavedNext s) p g a) ≡ unsaveNeedsCount w p g a
   unfolding contextCount unsaveNeedsCount tell needs worst ups looks
   count-needs s p g a =
       by-cond (leb 32 g && leb g 255) _ _
@@ -125,14 +128,14 @@ entry-stored w s t op x y z a n f e p d =
 push-done : (w : Window) (s : State) (op x y z t : ℕ) → refusalOf (armOf op) x y z ≡ 0 → planOf s (armOf op) op x y z ≡ pushFrame s (hole s x) t
     → stepOf w s op x y z .reply ≡ 0 → stepNeeds w s op x y z ≡ ups (sp s rO) (hole s x + 1)
 unfolding pushFrame
-push-done w s op x y z t e p d = entry-stored w s (pushed s (hole s x) t) op x y z (sp s rO) _ (framed s (hole s x)) e (λ a b. p) d
+push-done w s op x y z t e p d = entry-stored w s (goes (pushed s (hole s x)) t) op x y z (sp s rO) _ (framed s (hole s x)) e (λ a b. p) d
 
 -- a SAVE that is done was not refused by 13
 pub save-global : (w : Window) (s : State) (x : ℕ) → perform one (refusing (shapeOf w)) s (saveContext s x) w .reply ≡ 0
-    → saveContext s x ≡ answer 0 (savedState s x) (sp s rO) (tab 0 (extent s) (saved s))
+    → saveContext s x ≡ answer 0 (next (savedState s x)) (sp s rO) (tab 0 (extent s) (saved s))
 unfolding saveContext
 save-global w s x =
-    on (λ (p : Plan State). perform one (refusing (shapeOf w)) s p w .reply ≡ 0 → p ≡ answer 0 (savedState s x) (sp s rO) (tab 0 (extent s) (saved s))) (ltb x (sp s rG))
+    on (λ (p : Plan State). perform one (refusing (shapeOf w)) s p w .reply ≡ 0 → p ≡ answer 0 (next (savedState s x)) (sp s rO) (tab 0 (extent s) (saved s))) (ltb x (sp s rG))
     (λ e d. absurd (let z : _≡_ {A = ℕ} 13 0 = sym (told w s (refuse 13 s)) ∙ d in omega arith)) (λ e d. refl)
   where
     told : (w : Window) (s : State) (d : Said) → perform one (refusing (shapeOf w)) s (tell d) w .reply ≡ d .reply
@@ -142,7 +145,7 @@ save-done : (w : Window) (s : State) (x y z : ℕ) → stepOf w s 0xFA x y z .re
 unfolding planOf armOf refusalOf
 save-done w s x y z d =
     let j : (admissible s ≡ true) × (ruled (shapeOf w) ≡ true) = step-done w s 0xFA x y z d in
-    entry-stored w s (savedState s x) 0xFA x y z (sp s rO) (extent s) (saved s) refl
+    entry-stored w s (next (savedState s x)) 0xFA x y z (sp s rO) (extent s) (saved s) refl
     (λ a b. save-global w s x (ap (λ (o : Outcome State Window). o .reply) (sym (step-open w s 0xFA x y z (j .0) (j .1) refl)) ∙ d)) d
 
 pub needs-are : NeedsAre

@@ -13,7 +13,7 @@ use borrow.Author.Tests.{ltb-false, le-leb, lt-ltb, le-ltb, lt-leb, eq-eqb, ne-e
 use Rattle.model.specs.Fill.{over, tab}
 use Rattle.model.specs.Memory.{Window, Shape, shapeOf, ruled, one}
 use Rattle.model.specs.Plan.{Plan, answer, Outcome, perform, worst, look, looks, puts}
-use Rattle.model.specs.Registers.{rO, rG, rL, rA, rP, rR, sp, reg, Sized, Words, admissible, halted, withSpecial, stored, spilled}
+use Rattle.model.specs.Registers.{rO, rG, rL, rA, rP, rR, sp, reg, Sized, Words, admissible, next, halted, withSpecial, stored, spilled}
 use Rattle.model.specs.Opcodes.{armOf}
 use Rattle.model.specs.Said.{tell}
 use Rattle.model.specs.Contexts.{extent, savedSpecial, saved, contextAddress, savedRule, savedState, saveContext, below, unsaved, contextRest, contextCount, contextAt, unsaveContext}
@@ -97,7 +97,7 @@ unfolding saveContext tell
 save-fits w s x =
     on (λ (p : Plan State). performOn w s p .reply ≡ 0 → (sp s rG ≤ x) × Inside w (sp s rO) (extent s)) (ltb x (sp s rG))
     (λ e h. absurd (omega (arith, said-reply w s (halted s) 13, h)))
-    (λ e h. (ltb-false _ _ e, rw (length-tab (extent s) 0 (saved s)) at (answered (refusing (shapeOf w)) s (savedState s x) 0 (sp s rO) (tab 0 (extent s) (saved s)) w h)))
+    (λ e h. (ltb-false _ _ e, rw (length-tab (extent s) 0 (saved s)) at (answered (refusing (shapeOf w)) s (next (savedState s x)) 0 (sp s rO) (tab 0 (extent s) (saved s)) w h)))
 
 pub save-done : (w : Window) (s : State) (x y z : ℕ) → stepOf w s 0xFA x y z .reply ≡ 0 → Saves w s x
 save-done w s x y z h =
@@ -106,10 +106,10 @@ save-done w s x y z h =
     = save-fits w s x (ap (λ (o : Outcome State Window). o .reply) (sym (save-open w s x y z (j .0) (j .1))) ∙ h) in
     record { admits = adm s (j .0); fine = j .1; global = f .0; fits = f .1 }
 
-pub save-is : (w : Window) (s : State) (x y z : ℕ) → Saves w s x → stepOf w s 0xFA x y z ≡ record { reply = 0; state = savedState s x; memory = savedOn w s }
+pub save-is : (w : Window) (s : State) (x y z : ℕ) → Saves w s x → stepOf w s 0xFA x y z ≡ record { reply = 0; state = next (savedState s x); memory = savedOn w s }
 save-is w s x y z c = save-open w s x y z (adm-of s (c .admits)) (c .fine) ∙ performed
   where
-    performed : performOn w s (saveContext s x) ≡ record { reply = 0; state = savedState s x; memory = savedOn w s }
+    performed : performOn w s (saveContext s x) ≡ record { reply = 0; state = next (savedState s x); memory = savedOn w s }
     performed = unfold saveContext perform in rw (le-ltb x (sp s rG) (c .global), length-tab (extent s) 0 (saved s), eq-eqb _ _ (c .fits))
 
 -- the address that it puts in $X, where X is a byte
@@ -198,6 +198,10 @@ part-passes w a n b m i h e l =
 
 -- ---- the UNSAVE after it
 
+-- what UNSAVE leaves of e
+abbrev pub unsavedNext : State → ℕ → ℕ → ℕ → ℕ → List ℕ → State
+unsavedNext e o g a l vs = next (unsaved e o g a l vs)
+
 -- e with the registers of s's context in it, vs its octabytes
 abbrev pub withContext : State → State → List ℕ → State
 withContext s e vs = unsaved e (sp s rO) (sp s rG) (sp s rA) (sp s rL) vs
@@ -206,10 +210,10 @@ withContext s e vs = unsaved e (sp s rO) (sp s rG) (sp s rA) (sp s rL) vs
 pub record Unsaves (s e : State) (v : Window) (o : Outcome State Window) : Type 0 where
   pub octas : List ℕ
   pub octas-are : (i : ℕ) → i < extent s → getD octas i 0 ≡ saved s i
-  pub outcome-is : o ≡ record { reply = 0; state = withContext s e octas; memory = v }
+  pub outcome-is : o ≡ record { reply = 0; state = next (withContext s e octas); memory = v }
 
 pub unsave-open : (w : Window) (s : State) (x y z : ℕ) → admissible s ≡ true → ruled (shapeOf w) ≡ true
-    → stepOf w s 0xFB x y z ≡ performOn w s (contextAt (halted s) (unsaved s) (reg s z))
+    → stepOf w s 0xFB x y z ≡ performOn w s (contextAt (halted s) (unsavedNext s) (reg s z))
 unfolding planOf armOf refusalOf unsaveContext
 unsave-open w s x y z a r = step-open w s 0xFB x y z a r refl
 
@@ -259,5 +263,5 @@ module _ (w v : Window) (s : State) (x : ℕ) (done : Saves w s x) (words : Word
         octas-are = λ k l. getD-looks one one-lawful (extent s) v (below (contextAddress s) (sp s rL + 269 - sp s rG)) k l
             ∙ stored-at k _ l (further (sp s rO) (below (contextAddress s) (sp s rL + 269 - sp s rG)) 0 k first ∙ rw (zero-add k));
         outcome-is = unsave-open v e i j z a (rw shape-same (done .fine))
-            ∙ rw p (context-found v e (halted e) (unsaved e) (contextAddress s) (sp s rG) (sp s rA) (sp s rL) stored-context ∙ rw o);
+            ∙ rw p (context-found v e (halted e) (unsavedNext e) (contextAddress s) (sp s rG) (sp s rA) (sp s rL) stored-context ∙ rw o);
       }

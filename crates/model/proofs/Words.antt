@@ -135,9 +135,9 @@ slide-words s n h = let l : sp s rL < 2 ^ 64 = h .special-word rL in
     (set-below (2 ^ 64) _ rO ((sp s rO + 8 * n) % 2 ^ 64) (set-below (2 ^ 64) (s .special) rL (sp s rL - n) (specials s h) (omega arith)) (omega arith))
     (h .pc-word) (h .halt-word) (h .marks-word)
 
-pushed-words : (s : State) (h t : ℕ) → Word t → Words s → Words (pushed s h t)
+pushed-words : (s : State) (h : ℕ) → Words s → Words (pushed s h)
 unfolding pushed pushedRule
-pushed-words s h t b w = spilled-words _ (goes-words _ t b (special-words (slide s _) rJ (following s) (omega arith) (slide-words s _ w)))
+pushed-words s h w = spilled-words _ (special-words (slide s _) rJ (following s) (omega arith) (slide-words s _ w))
 
 restored-word : (s : State) (x h : ℕ) (ls : List ℕ) (i : ℕ) → Below (2 ^ 64) ls → Words s → Word (restored s x h ls i)
 unfolding restored lastOutput
@@ -146,9 +146,9 @@ restored-word s x h ls i b w =
     on Word (eqb i h) (λ e. on Word (ltb (sp s rL) x) (λ e. omega arith) (λ e. on Word (eqb x 0) (λ e. omega arith) (λ e. w .general-word _))) (λ e.
     on Word (ltb i (h + countOf s x)) (λ e. w .general-word _) (λ e. omega arith)))
 
-popped-words : (s : State) (x t h : ℕ) (ls : List ℕ) → Word t → Below (2 ^ 64) ls → Words s → Words (popped s x t h ls)
+popped-words : (s : State) (x h : ℕ) (ls : List ℕ) → Below (2 ^ 64) ls → Words s → Words (popped s x h ls)
 unfolding popped
-popped-words s x t h ls b ws w = spilled-words _ (goes-words _ t b moved)
+popped-words s x h ls ws w = spilled-words _ moved
   where
     moved : Words (unslide s x h ls)
     moved = unfold unslide in (
@@ -164,7 +164,7 @@ unfolding savedState savedRule stored
 saved-words s x w = spilled-words _ (words-by _
     (set-below (2 ^ 64) _ x (contextAddress s) (over-bound (2 ^ 64) (λ i. 0) 0 (sp s rG) (s .general) (omega arith) (generals s w) (λ i. omega arith)) (omega arith))
     (set-below (2 ^ 64) _ rO ((sp s rO + 8 * extent s) % 2 ^ 64) (set-below (2 ^ 64) (s .special) rL 0 (specials s w) (omega arith)) (omega arith))
-    (omega arith) (w .halt-word) (w .marks-word))
+    (w .pc-word) (w .halt-word) (w .marks-word))
 
 unsaved-word : (s : State) (o g a l : ℕ) (vs : List ℕ) (k : ℕ) → Word o → g ≤ 255 → a ≤ 0x3FFFF → l ≤ g → Below (2 ^ 64) vs → Words s → Word (unsavedSpecial s o g a l vs k)
 unfolding unsavedSpecial
@@ -178,7 +178,7 @@ unsaved-words s o g a l vs wo b c d ws w = spilled-words _ (words-by _
     (over-bound (2 ^ 64) (unsavedGeneral g l vs) 0 256 (s .general) (omega arith) (generals s w)
     (λ i. unfold unsavedGeneral in (on Word (ltb i l) (λ e. ws .at _) (λ e. on Word (ltb i g) (λ e. omega arith) (λ e. ws .at _)))))
     (over-bound (2 ^ 64) (unsavedSpecial s o g a l vs) 0 32 (s .special) (omega arith) (specials s w) (λ k. unsaved-word s o g a l vs k wo b c d ws w))
-    (omega arith) (w .halt-word) (w .marks-word))
+    (w .pc-word) (w .halt-word) (w .marks-word))
 
 interrupted-words : (s : State) (b w x y z word u v : ℕ) → Word word → Word u → Word v → Words s → Words (interrupted s b w x y z word u v)
 unfolding interrupted
@@ -262,10 +262,10 @@ meets-words s h = record {
   globals = λ v a b c d w. goes-words _ a w (globals-words s v c h);
   status = λ v a b w. goes-words _ a w (special-words s rA v (omega arith) h);
   other = λ k v a b c d w u. goes-words _ a u (special-words s k v w h);
-  pushes = λ x t w. pushed-words s (hole s x) t w h;
-  pops = λ x t i ls w r. popped-words s x t i ls w r h;
-  saves = λ x b. saved-words s x h;
-  unsaves = λ o g a l vs w b c d e r. unsaved-words s o g a l vs w c d e r h;
+  pushes = λ x t w. goes-words _ t w (pushed-words s (hole s x) h);
+  pops = λ x t i ls w r. goes-words _ t w (popped-words s x i ls r h);
+  saves = λ x t b w. goes-words _ t w (saved-words s x h);
+  unsaves = λ o g a l vs t u w b c d e r. goes-words _ t u (unsaved-words s o g a l vs w c d e r h);
 }
 
 meets-trip : (s : State) (n u v : ℕ) → Word n → Word u → Word v → Words s → MeetsTrip s Word (λ r t vs. Words t) n u v

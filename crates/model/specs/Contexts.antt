@@ -7,7 +7,7 @@ use lib.ListN.{getD, set}
 use Rattle.model.specs.Fill.{over, tab}
 use Rattle.model.specs.Plan.{Plan, answer, read}
 use Rattle.model.specs.Said.{refuse, tell}
-use Rattle.model.specs.Registers.{rR, rO, rG, rL, rA, rP, rZ, sp, reg, following, halted, stored, spilled}
+use Rattle.model.specs.Registers.{rR, rO, rG, rL, rA, rP, rZ, sp, reg, next, halted, stored, spilled}
 use Rattle.model.specs.declared.State.{State}
 
 -- ---- SAVE
@@ -38,7 +38,7 @@ unfoldable pub savedRule : State → ℕ → State
 savedRule s x = stored (record {
   general = over (λ i. 0) 0 (sp s rG) (s .general);
   special = set (set (s .special) rL 0) rO ((sp s rO + 8 * extent s) % 2 ^ 64);
-  pc = following s;
+  pc = s .pc;
   halt = s .halt;
   marks = s .marks;
 }) x (contextAddress s)
@@ -49,7 +49,7 @@ savedState s x = spilled (savedRule s x)
 
 -- "SAVE $X with X ≥ rG"; "SAVE judges 13 before 6"
 unfoldable pub saveContext : State → ℕ → Plan State
-saveContext s x = cond (ltb x (sp s rG)) (tell (refuse 13 s)) (answer 0 (savedState s x) (sp s rO) (tab 0 (extent s) (saved s)))
+saveContext s x = cond (ltb x (sp s rG)) (tell (refuse 13 s)) (answer 0 (next (savedState s x)) (sp s rO) (tab 0 (extent s) (saved s)))
 
 -- ---- UNSAVE: a context of l locals and threshold g, vs its octabytes from the first local up
 
@@ -73,7 +73,7 @@ unfoldable pub unsavedRule : State → ℕ → ℕ → ℕ → ℕ → List ℕ 
 unsavedRule s o g a l vs = record {
   general = over (unsavedGeneral g l vs) 0 256 (s .general);
   special = over (unsavedSpecial s o g a l vs) 0 32 (s .special);
-  pc = following s;
+  pc = s .pc;
   halt = s .halt;
   marks = s .marks;
 }
@@ -105,4 +105,4 @@ contextAt bad found p = read 6 p 1 (λ v. contextCount bad found p (getD v 0 0 /
 
 -- "UNSAVE reads this layout backward from the address in $Z"
 unfoldable pub unsaveContext : State → ℕ → Plan State
-unsaveContext s p = contextAt (halted s) (unsaved s) p
+unsaveContext s p = contextAt (halted s) (λ o g a l vs. next (unsaved s o g a l vs)) p

@@ -40,16 +40,17 @@ slide s n = record {
   marks = s .marks;
 }
 
--- Knuth's PUSH to t with hole h: ".. rJ is @ + 4"
-unfoldable pub pushedRule : State → ℕ → ℕ → State
-pushedRule s h t = goes (withSpecial (slide s (h + 1)) rJ (following s)) t
+-- Knuth's PUSH with hole h: ".. rJ is @ + 4"
+unfoldable pub pushedRule : State → ℕ → State
+pushedRule s h = withSpecial (slide s (h + 1)) rJ (following s)
 
 -- the step: rS moves with rO
-unfoldable pub pushed : State → ℕ → ℕ → State
-pushed s h t = spilled (pushedRule s h t)
+unfoldable pub pushed : State → ℕ → State
+pushed s h = spilled (pushedRule s h)
 
+-- a call of t
 unfoldable pub pushFrame : State → ℕ → ℕ → Plan State
-pushFrame s h t = answer 0 (pushed s h t) (sp s rO) (tab 0 (h + 1) (framed s h))
+pushFrame s h t = answer 0 (goes (pushed s h) t) (sp s rO) (tab 0 (h + 1) (framed s h))
 
 -- ---- POP
 
@@ -77,12 +78,12 @@ unslide s x h ls = record {
 }
 
 -- the step: rS moves with rO
-unfoldable pub popped : State → ℕ → ℕ → ℕ → List ℕ → State
-popped s x t h ls = spilled (goes (unslide s x h ls) t)
+unfoldable pub popped : State → ℕ → ℕ → List ℕ → State
+popped s x h ls = spilled (unslide s x h ls)
 
 -- "$i for each i below both H and rG"
 unfoldable pub popTo : State → ℕ → ℕ → ℕ → Plan State
-popTo s x t h = read 6 (sp s rO - 8 * (h + 1)) (min h (sp s rG)) (λ ls. answer 0 (popped s x t h ls) 0 [])
+popTo s x t h = read 6 (sp s rO - 8 * (h + 1)) (min h (sp s rG)) (λ ls. answer 0 (goes (popped s x h ls) t) 0 [])
 
 -- Knuth's POP to t: "H is the octabyte below rO modulo 256"
 unfoldable pub popRule : State → ℕ → ℕ → Plan State

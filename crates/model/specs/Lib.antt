@@ -15,6 +15,7 @@ pub mod Lists
 pub mod Step
 pub mod Reader
 pub mod Numbers
+pub mod Parts
 -- theorems: statements; proofs/ has the proofs
 pub mod Leaves
 pub mod Keeps
