@@ -1,21 +1,21 @@
 -- "Registers from rL to rG − 1 are marginal; once all zero, they stay zero through every step and every exception."
-use mathlib.Core.Path.{_≡_, refl, sym, ap, _∙_}
-use mathlib.Core.Logic.{⊎-elim, _⊎_, inl, inr}
-use mathlib.Core.Bool.{Bool, true, false, cond, not, _&&_, _||_}
-use mathlib.Core.List.{List, [], _∷_}
-use Prim.Native.Nat.{ℕ, zero, suc, _+_, _-_, _*_, _/_, _%_, _^_, _≤_, _<_, min, max}
+use mathlib.Core.Path.{_≡_, refl, _∙_}
+use mathlib.Core.Logic.{⊎-elim, _⊎_}
+use mathlib.Core.Bool.{Bool, true, false, cond, _&&_}
+use mathlib.Core.List.{List}
+use Prim.Native.Nat.{ℕ, _+_, _-_, _≤_, _<_, min, max}
 use native.Mathlib.Omega.{arith}
 use lib.Dec.{leb, ltb, eqb}
-use lib.ListN.{length, getD, set, length-set}
-use lib.Seq.{getD-set-same, getD-set-other}
-use borrow.Author.Tests.{leb-true, leb-false, ltb-true, ltb-false, eqb-true, eqb-false, le-leb, lt-ltb, le-ltb, lt-leb, eq-eqb, ne-eqb}
+use lib.ListN.{length, length-set}
+use lib.Seq.{getD-set-other}
+use borrow.Author.Tests.{leb-true, leb-false, ltb-true, ltb-false, eqb-true, eqb-false, lt-ltb, le-ltb}
 use Rattle.model.specs.Fill.{over}
 use Rattle.model.specs.Registers.{rB, rJ, rBB, rO, rS, rG, rL, rA, rW, rX, rY, rZ, rWW, rXX, rYY, rZZ, sp, reg, following, goes, halted, withSpecial, cleared, claimLocal, stored, setRegister, putLocals, putGlobals, spilled}
 use Rattle.model.specs.Frames.{slid, slide, pushedRule, pushed, countOf, lastOutput, restored, unslide, popped}
 use Rattle.model.specs.Contexts.{contextAddress, savedRule, savedState, unsavedSpecial, unsavedGeneral, unsavedRule, unsaved}
 use Rattle.model.specs.Trips.{interrupted, withAdded}
 use Rattle.model.specs.declared.State.{State}
-use Rattle.model.proofs.Fill.{length-over, over-in, over-below, over-above, lt-or-le}
+use Rattle.model.proofs.Fill.{over-in, over-below, over-above, lt-or-le}
 use Rattle.model.proofs.Good.{Good, spec-other, spec-same, goes-good, halted-good, stored-good, cleared-good, withLocal-good, putLocals-good, putGlobals-good, withStatus-good, withSpecial-good, slide-good, unslide-good, savedRule-good, unsavedRule-good, unsaved-special, tripped-good, trapped-good, added-good}
 use Rattle.model.proofs.Bools.{on, on-both}
 use Rattle.model.proofs.Keeps.{Keeps}

@@ -1,23 +1,21 @@
 -- Demand 3, whole: over `stepOf` and `exceptionOf` with every arm in them.
 use mathlib.Core.Path.{_≡_, refl, sym, ap, _∙_, subst}
-use mathlib.Core.Bool.{Bool, true, false, cond, _&&_}
-use mathlib.Core.List.{List, [], _∷_, _++_}
-use Prim.Native.Nat.{ℕ, zero, suc, _+_, _-_, _*_, _/_, _%_, _^_, _≤_, _<_, max, min}
+use mathlib.Core.Bool.{Bool, true, false, cond}
+use mathlib.Core.List.{List}
+use Prim.Native.Nat.{ℕ, _+_, _-_, _*_, _%_, _^_, _≤_, _<_}
 use native.Mathlib.Omega.{arith}
-use lib.ListN.{length, getD}
-use lib.Dec.{leb, ltb, eqb}
-use borrow.Author.Tests.{leb-true, leb-false, ltb-true, ltb-false, eqb-true, eqb-false, eq-eqb}
+use lib.ListN.{getD}
+use lib.Dec.{leb, eqb}
+use borrow.Author.Tests.{leb-false, eqb-true}
 use Rattle.model.specs.Fill.{tab}
-use Rattle.model.specs.Octa.{octa}
-use Rattle.model.specs.Registers.{rJ, rO, rG, rL, stackStart, sp, reg, Sized, Words, admissible, goes, withSpecial, spilled}
-use Rattle.model.specs.Memory.{Store, Window, Shape, shapeOf, has, one, ruled}
-use Rattle.model.specs.Plan.{Plan, answer, read, Outcome, perform, ups, All, Off, worst, clear, look, looks, puts, Agree}
+use Rattle.model.specs.Registers.{rJ, rO, rG, rL, stackStart, sp, reg, Words, admissible, goes, withSpecial, spilled}
+use Rattle.model.specs.Memory.{Window, Shape, shapeOf, one, ruled}
+use Rattle.model.specs.Plan.{Plan, Outcome, perform, All, Off, worst, puts, Agree}
 use Rattle.model.specs.Opcodes.{forward, backward, register, immediate, armOf}
-use Rattle.model.specs.Said.{say, tell}
 use Rattle.model.specs.Control.{near, sumOf, yzOf}
 use Rattle.model.specs.Frames.{hole, framed, pushedRule, pushed, pushFrame, popFrame}
-use Rattle.model.specs.Lists.{Machine, Ran, stepOn, runs, runNeeds}
-use Rattle.model.specs.Step.{refusalOf, judged, planOf, stepPlan, refusing, stepOf, Item, step, exception, itemPlan, mmix}
+use Rattle.model.specs.Lists.{runs}
+use Rattle.model.specs.Step.{refusalOf, planOf, refusing, stepOf, Item, mmix}
 use Rattle.model.specs.Demand.{Within, Call, PUSHJ, PUSHJB, PUSHGO, PUSHGOI, opcodeOf, Alike, AtPop, GivesBack, after, afterNeeds, popAfter, Private, Demand3, Demand3Wider}
 use Rattle.model.proofs.Plan.{Kept, Same, Always, All-map, All-of, puts-shape}
 use Rattle.model.proofs.Entry.{step-open, step-done, sound-at, mmix-sound, ruled-facts, bytes-agree}

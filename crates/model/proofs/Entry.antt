@@ -1,8 +1,8 @@
 -- The entries once 1 to 5 have passed; the window's judge; a ruled window; and windows equal octabyte by octabyte, which are equal byte by byte.
 use mathlib.Core.Path.{_≡_, refl, sym, ap, _∙_, subst}
 use mathlib.Core.Logic.{_⊎_, inl, inr}
-use mathlib.Core.Bool.{Bool, true, false, cond, _&&_}
-use mathlib.Core.List.{List, [], _∷_}
+use mathlib.Core.Bool.{true, _&&_}
+use mathlib.Core.List.{List, []}
 use Prim.Native.Nat.{ℕ, zero, suc, _+_, _-_, _*_, _/_, _%_, _^_, _≤_, _<_}
 use native.Mathlib.Omega.{arith}
 use native.Mathlib.Decide.{decLt}
@@ -15,7 +15,7 @@ use Rattle.model.specs.Plan.{Plan, answer, Outcome, perform, worst, clea
 use Rattle.model.specs.Registers.{admissible}
 use Rattle.model.specs.Opcodes.{Arm, armOf}
 use Rattle.model.specs.Said.{tell}
-use Rattle.model.specs.Step.{refusalOf, judged, refusing, planOf, stepPlan, stepOf, Item, itemPlan, mmix}
+use Rattle.model.specs.Step.{refusalOf, judged, refusing, planOf, stepPlan, stepOf, Item, mmix}
 use Rattle.model.specs.Demand.{SameOutside}
 use Rattle.model.specs.declared.State.{State}
 use Rattle.model.proofs.Bools.{and-left, and-right, on}

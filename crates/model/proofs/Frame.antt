@@ -1,29 +1,27 @@
 -- PUSH and POP as plans, over any Store and judge: two calls that differ below the hole, and the POP that brings a frame below.
 use mathlib.Core.Path.{_≡_, refl, sym, ap, _∙_, subst}
-use mathlib.Core.Logic.{_≢_}
-use mathlib.Core.Bool.{Bool, true, false, cond, _&&_}
-use mathlib.Core.List.{List, [], _∷_, _++_}
-use Prim.Native.Nat.{ℕ, zero, suc, _+_, _-_, _*_, _/_, _%_, _^_, _≤_, _<_, max, min}
+use mathlib.Core.Bool.{Bool, true, false, cond}
+use mathlib.Core.List.{List, []}
+use Prim.Native.Nat.{ℕ, zero, suc, _+_, _-_, _*_, _%_, _^_, _≤_, _<_, min}
 use native.Mathlib.Omega.{arith}
 use native.Mathlib.Decide.{ℕ-discrete, decLt}
-use lib.ListN.{length, getD, set, length-set}
-use lib.Seq.{getD-set-same, getD-set-other}
-use lib.Dec.{leb, ltb, eqb}
-use borrow.Author.Tests.{leb-true, leb-false, ltb-true, ltb-false, eqb-true, eqb-false, le-leb, lt-ltb, le-ltb, lt-leb, eq-eqb, ne-eqb}
+use lib.ListN.{length, getD, length-set}
+use lib.Dec.{ltb}
+use borrow.Author.Tests.{ltb-true, lt-ltb, le-ltb, lt-leb, eq-eqb}
 use Rattle.model.specs.Fill.{over, tab}
 use Rattle.model.specs.Octa.{octa}
-use Rattle.model.specs.Registers.{rJ, rO, rS, rG, rL, stackStart, sp, reg, following, Sized, goes, withSpecial, spilled}
+use Rattle.model.specs.Registers.{rJ, rO, rG, rL, stackStart, sp, reg, following, Sized, goes, withSpecial, spilled}
 use Rattle.model.specs.Memory.{Store}
-use Rattle.model.specs.Plan.{Plan, answer, read, Outcome, perform, ups, All, Off, worst, clear, named, look, looks, puts, Agree}
-use Rattle.model.specs.Frames.{framed, slid, slide, pushedRule, pushed, pushFrame, countOf, restored, unslide, popped, popTo, popRule, noFrame, misplaced, popFrame}
+use Rattle.model.specs.Plan.{Plan, answer, perform, worst, look, looks, puts, Agree}
+use Rattle.model.specs.Frames.{framed, slid, slide, pushedRule, pushed, pushFrame, restored, unslide, popped, popTo, popRule, noFrame, misplaced, popFrame}
 use Rattle.model.specs.Demand.{Within, Alike}
-use Rattle.model.proofs.Plan.{worst-head, worst-tail, Kept, Same, Sound, put-agree, puts-agree}
+use Rattle.model.proofs.Plan.{worst-head, worst-tail, Kept, Same, Sound, put-agree}
 use Rattle.model.proofs.Memory.{Lawful}
-use Rattle.model.proofs.Runs.{getD-tab, length-tab, octa-mod, worst-of, of-worst, getD-looks, look-mod, stands, perform-read}
+use Rattle.model.proofs.Runs.{length-tab, worst-of, of-worst, getD-looks, stands, perform-read}
 use Rattle.model.specs.declared.State.{State}
 use Rattle.model.proofs.Fill.{over-cong, over-in}
 use Rattle.model.proofs.Good.{spec-other, spec-same}
-use Rattle.model.proofs.Bools.{on, on-both}
+use Rattle.model.proofs.Bools.{on-both}
 
 slide-alike : (s t : State) (h n : ℕ) → Sized s → Sized t → h ≤ n → h ≤ sp s rG → Alike h s t → slide s n ≡ slide t n
 unfolding slide

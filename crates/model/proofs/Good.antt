@@ -1,16 +1,16 @@
 -- Sized and admissible: what `admissible` says as facts, reads of a special after writes, and that each state builder keeps both.
-use mathlib.Core.Path.{_≡_, refl, sym, ap, _∙_}
-use mathlib.Core.Bool.{Bool, true, false, cond, not, _&&_, _||_}
-use mathlib.Core.List.{List, [], _∷_}
-use Prim.Native.Nat.{ℕ, zero, suc, _+_, _-_, _*_, _/_, _%_, _^_, _≤_, _<_, min, max}
+use mathlib.Core.Path.{_≡_, refl, _∙_}
+use mathlib.Core.Bool.{Bool, true, false, cond, _&&_}
+use mathlib.Core.List.{List}
+use Prim.Native.Nat.{ℕ, _+_, _-_, _%_, _^_, _≤_, _<_, min, max}
 use native.Mathlib.Omega.{arith}
 use lib.Dec.{leb, ltb, eqb}
 use lib.ListN.{length, getD, set, length-set}
 use lib.Seq.{getD-set-same, getD-set-other}
 use lib.Bits.{bitAnd, bitOr, or-lt, and-le-r}
-use borrow.Author.Tests.{leb-true, leb-false, ltb-true, ltb-false, eqb-true, eqb-false, le-leb, lt-ltb, le-ltb, lt-leb, eq-eqb, ne-eqb}
+use borrow.Author.Tests.{leb-true, ltb-true, eqb-false, le-leb, lt-ltb}
 use Rattle.model.specs.Fill.{over}
-use Rattle.model.specs.Registers.{rJ, rO, rS, rG, rL, rA, sp, reg, following, Sized, admissible, goes, halted, withSpecial, cleared, claimLocal, stored, setRegister, putLocals, putGlobals, spilled}
+use Rattle.model.specs.Registers.{rJ, rO, rS, rG, rL, rA, sp, following, Sized, admissible, goes, halted, withSpecial, cleared, claimLocal, stored, setRegister, putLocals, putGlobals, spilled}
 use Rattle.model.specs.Frames.{slid, slide, pushedRule, pushed, countOf, restored, unslide, popped}
 use Rattle.model.specs.Contexts.{savedRule, savedState, unsavedSpecial, unsavedGeneral, unsavedRule, unsaved}
 use Rattle.model.specs.Trips.{interrupted, tripped, trapped, enables, added, withAdded}

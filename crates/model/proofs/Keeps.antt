@@ -1,22 +1,22 @@
 -- A property of states that every state builder keeps is kept by every step and every exception.
-use mathlib.Core.Path.{_≡_, refl}
+use mathlib.Core.Path.{_≡_}
 use mathlib.Core.Bool.{true, false}
-use mathlib.Core.List.{List, []}
-use Prim.Native.Nat.{ℕ, _+_, _*_, _≤_}
+use mathlib.Core.List.{List}
+use Prim.Native.Nat.{ℕ, _≤_}
 use lib.Dec.{eqb}
-use Rattle.model.specs.Registers.{rG, rL, rA, sp, reg, admissible, goes, halted, withSpecial, setRegister, putLocals, putGlobals}
+use Rattle.model.specs.Registers.{rG, rL, rA, sp, admissible, goes, halted, withSpecial, setRegister, putLocals, putGlobals}
 use Rattle.model.specs.Memory.{Window, Shape, one}
 use Rattle.model.specs.Plan.{Plan, answer, read}
 use Rattle.model.specs.Opcodes.{armOf}
 use Rattle.model.specs.Said.{tell}
 use Rattle.model.specs.Frames.{hole, pushed, popped}
 use Rattle.model.specs.Contexts.{savedState, unsaved}
-use Rattle.model.specs.Trips.{wordOf, tripped, trapped, withAdded}
+use Rattle.model.specs.Trips.{tripped, trapped, withAdded}
 use Rattle.model.specs.Lists.{stepOn}
-use Rattle.model.specs.Step.{planOf, stepPlan, exceptionOf, Item, step, exception, itemPlan, mmix}
+use Rattle.model.specs.Step.{planOf, stepPlan, Item, step, exception, itemPlan, mmix}
 use Rattle.model.specs.declared.State.{State}
 use Rattle.model.proofs.Memory.{one-lawful}
-use Rattle.model.proofs.Plan.{Always, Always-map, perform-always}
+use Rattle.model.proofs.Plan.{Always, perform-always}
 use Rattle.model.proofs.Meets.{Answers, Meets, MeetsTrip, plan-meets, step-meets, exception-meets}
 
 pub record Keeps (P : State → Type 0) : Type 0 where

@@ -1,10 +1,8 @@
 -- Theorem 2: what every step and every exception keeps.
-use mathlib.Core.Path.{_≡_, refl}
+use mathlib.Core.Path.{_≡_}
 use mathlib.Core.Bool.{true}
-use Prim.Native.Nat.{ℕ}
 use Rattle.model.specs.Registers.{Sized, admissible, MarginalZero}
-use Rattle.model.specs.Memory.{Window, one}
-use Rattle.model.specs.Step.{Item, itemPlan}
+use Rattle.model.specs.Memory.{one}
 use Rattle.model.specs.Keeps.{ItemsKeep}
 use Rattle.model.specs.declared.State.{State}
 use Rattle.model.proofs.Keeps.{Keeps, item-keeps, item-always}

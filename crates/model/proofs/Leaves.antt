@@ -1,29 +1,28 @@
 -- Theorem 1: which replies there are, and what each leaves.
-use mathlib.Core.Path.{_≡_, refl, sym, ap, _∙_}
+use mathlib.Core.Path.{_≡_, refl, _∙_}
 use mathlib.Core.Logic.{_⊎_, inl, inr, _≢_}
-use mathlib.Core.Bool.{Bool, true, false, cond}
+use mathlib.Core.Bool.{Bool, true, false}
 use mathlib.Core.List.{List, []}
-use Prim.Native.Nat.{ℕ, _+_, _≤_, _<_, _^_}
+use Prim.Native.Nat.{ℕ, _≤_, _<_}
 use native.Mathlib.Omega.{arith}
-use lib.Dec.{eqb, ltb}
-use lib.ListN.{length, getD, set, length-set}
+use lib.Dec.{eqb}
+use lib.ListN.{length, set, length-set}
 use lib.Seq.{getD-set-same, getD-set-other}
-use borrow.Author.Tests.{eqb-true, eqb-false, ltb-true}
-use Rattle.model.specs.Registers.{rB, rJ, rBB, rG, rL, rA, rW, rX, rY, rZ, rWW, rXX, rYY, rZZ, sp, reg, following, Sized, goes, halted, withSpecial, cleared, claimLocal, stored, setRegister, putLocals, putGlobals, isMarginal, spilled}
+use borrow.Author.Tests.{eqb-true, eqb-false}
+use Rattle.model.specs.Registers.{rB, rJ, rBB, rA, rW, rX, rY, rZ, rWW, rXX, rYY, rZZ, sp, reg, following, Sized, goes, halted, withSpecial, cleared, claimLocal, stored, setRegister, putLocals, putGlobals, isMarginal, spilled}
 use Rattle.model.specs.Memory.{Window, shapeOf, ruled, one}
-use Rattle.model.specs.Plan.{Outcome, perform, puts}
+use Rattle.model.specs.Plan.{puts}
 use Rattle.model.specs.Opcodes.{armOf}
-use Rattle.model.specs.Said.{Said}
-use Rattle.model.specs.Frames.{hole, slide, pushedRule, pushed, unslide, popped}
+use Rattle.model.specs.Frames.{slide, pushedRule, pushed, unslide, popped}
 use Rattle.model.specs.Contexts.{contextAt, savedRule, savedState, unsavedRule, unsaved}
 use Rattle.model.specs.Trips.{interrupted, tripped, trapped, wordOf, withAdded}
-use Rattle.model.specs.Step.{refusing, planOf, stepPlan, stepOf, exceptionOf}
+use Rattle.model.specs.Step.{stepPlan, stepOf, exceptionOf}
 use Rattle.model.specs.Reader.{Part, emptyPart, partAt, readContext}
 use Rattle.model.specs.Leaves.{Interrupted, Tripped, Trapped, StepLeaves, ExceptionLeaves, ReaderLeaves, RepliesLeave}
 use Rattle.model.specs.declared.State.{State}
 use Rattle.model.proofs.Bools.{on}
 use Rattle.model.proofs.Keeps.{Any}
-use Rattle.model.proofs.Meets.{Answers, Meets, MeetsTrip, plan-meets, step-meets, exception-meets, context-meets, perform-meets}
+use Rattle.model.proofs.Meets.{Meets, MeetsTrip, plan-meets, step-meets, exception-meets, context-meets, perform-meets}
 
 -- ---- the trip and trap registers
 

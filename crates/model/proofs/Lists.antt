@@ -1,9 +1,9 @@
 -- Laws of lists of steps, over any lawful store and any machine: each carries a law of plans through a list.
-use mathlib.Core.Path.{_≡_, refl, sym, ap, _∙_}
+use mathlib.Core.Path.{_≡_, refl, ap}
 use mathlib.Core.List.{List, [], _∷_, _++_}
 use Prim.Native.Nat.{ℕ}
 use Rattle.model.specs.Memory.{Store}
-use Rattle.model.specs.Plan.{Plan, Outcome, perform, needs, widerNeeds, All, Off, Agree}
+use Rattle.model.specs.Plan.{All, Off, Agree}
 use Rattle.model.specs.Lists.{Machine, Ran, stepOn, needsOf, widerNeedsOf, runs, runNeedsBy}
 use Rattle.model.proofs.Memory.{Lawful}
 use Rattle.model.proofs.Plan.{touches, touches-off, touches-agree, wider-off, All-left, All-right, All-both, Kept, Same, Sound, Kept·refl, Kept·trans, perform-agree, perform-kept, Always, perform-always}

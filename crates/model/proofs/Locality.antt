@@ -2,7 +2,7 @@
 -- The first by the laws of plans, with F the octabytes that are not needed.
 use mathlib.Core.Path.{_≡_, refl, sym, ap, _∙_, subst}
 use mathlib.Core.Logic.{_≢_}
-use mathlib.Core.Bool.{Bool, true, false, cond, not, _&&_}
+use mathlib.Core.Bool.{Bool, true, false, cond, not}
 use mathlib.Core.List.{List, [], _∷_, _++_}
 use Prim.Native.Nat.{ℕ, zero, suc, _+_, max}
 use native.Mathlib.Omega.{arith}
@@ -12,7 +12,7 @@ use lib.ListN.{length}
 use borrow.Author.Tests.{eqb-true, eqb-false, eq-eqb, ne-eqb}
 use Rattle.model.specs.Octa.{octa}
 use Rattle.model.specs.Memory.{Window, Shape, shapeOf, has, octaBytes, one}
-use Rattle.model.specs.Plan.{Plan, answer, read, Outcome, perform, needs, ups, worst, clear, missing, named, looks, puts, All, Off, Agree}
+use Rattle.model.specs.Plan.{Plan, answer, read, Outcome, perform, needs, ups, worst, clear, missing, named, looks, All, Off, Agree}
 use Rattle.model.specs.Opcodes.{armOf}
 use Rattle.model.specs.Step.{refusing, stepPlan, stepOf, stepNeeds}
 use Rattle.model.specs.Locality.{SameAt, SameStep, allInside, StepIsLocal}
@@ -20,8 +20,8 @@ use Rattle.model.specs.declared.State.{State}
 use Rattle.model.proofs.Bools.{and-left, and-right, on-both}
 use Rattle.model.proofs.Keeps.{Any}
 use Rattle.model.proofs.Memory.{bytes-octa, one-lawful}
-use Rattle.model.proofs.Plan.{All-map, Same, Kept, worst-head, worst-tail, touches, touches-off, perform-agree, needs-agree, perform-kept, perform-shape}
-use Rattle.model.proofs.Meets.{Answers, Meets, MeetsTrip, worst-six, plan-meets, step-meets}
+use Rattle.model.proofs.Plan.{All-map, Same, worst-head, worst-tail, touches, touches-off, perform-agree, needs-agree, perform-kept, perform-shape}
+use Rattle.model.proofs.Meets.{Answers, Meets, worst-six, plan-meets, step-meets}
 use Rattle.model.proofs.Entry.{sound-at, judged-inside, inside-judged}
 
 -- ---- octabytes among the needs

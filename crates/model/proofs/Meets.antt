@@ -1,28 +1,28 @@
 -- A property R of every answer that a step or an exception may give: its reply, its state, the octabytes that it stores.
 -- The one place that goes by arms: `Meets` asks R of each state builder, `step-meets` gives it of every step.
 -- W is a property of the numbers that a state comes to hold, Read of the octabytes that are read: both may say nothing.
-use mathlib.Core.Path.{_≡_, refl, sym, ap, _∙_}
+use mathlib.Core.Path.{_≡_, refl, ap, _∙_}
 use mathlib.Core.Logic.{_⊎_, inl, inr}
-use mathlib.Core.Bool.{Bool, true, false, cond, not, _&&_, _||_}
-use mathlib.Core.List.{List, [], _∷_}
-use Prim.Native.Nat.{ℕ, zero, suc, _+_, _-_, _*_, _/_, _%_, _^_, _≤_, _<_, max}
+use mathlib.Core.Bool.{Bool, true, false, cond, _&&_, _||_}
+use mathlib.Core.List.{List, []}
+use Prim.Native.Nat.{ℕ, zero, suc, _+_, _-_, _*_, _%_, _^_, _≤_, _<_, max}
 use native.Mathlib.Omega.{arith}
 use lib.Dec.{leb, ltb, eqb}
-use lib.ListN.{length, getD}
+use lib.ListN.{length}
 use lib.Count.{leadingZeros, leading-le}
 use borrow.Author.Tests.{leb-true, ltb-false, eqb-true, eqb-false}
 use Rattle.model.specs.Fill.{tab}
-use Rattle.model.specs.Registers.{rO, rG, rL, rA, rJ, sp, reg, admissible, goes, following, next, halted, withSpecial, setRegister, putLocals, putGlobals}
+use Rattle.model.specs.Registers.{rG, rL, rA, rJ, sp, reg, admissible, goes, following, next, halted, withSpecial, setRegister, putLocals, putGlobals}
 use Rattle.model.specs.Memory.{Window, Shape, shapeOf, ruled, has, one}
 use Rattle.model.specs.Plan.{Plan, answer, read, Outcome, perform, worst, clear, looks, puts, named}
 use Rattle.model.specs.Opcodes.{Arm, Way, forward, backward, Operand, register, immediate, branch, jump, getAddress, go, pushJump, pushGo, pop, put, get, save, unsave, sync, swym, trip, trap, none, armOf}
-use Rattle.model.specs.Said.{Said, say, refuse, tell}
+use Rattle.model.specs.Said.{Said, tell}
 use Rattle.model.specs.Control.{targetOf, near, far, yzOf, xyzOf, sumOf, operandOf, holds}
 use Rattle.model.specs.Frames.{hole, framed, pushed, pushFrame, popped, popTo, popRule, noFrame, misplaced, popFrame}
-use Rattle.model.specs.Contexts.{extent, saved, savedState, saveContext, below, unsaved, contextRest, contextCount, contextAt, unsaveContext}
+use Rattle.model.specs.Contexts.{extent, saved, savedState, saveContext, unsaved, contextRest, contextCount, contextAt, unsaveContext}
 use Rattle.model.specs.System.{isPrivileged, isIllegal, putRefusal, putState, putSpecial, got, syncOf}
 use Rattle.model.specs.Trips.{wordOf, tripped, trapped, isLoaded, tripRule, tripTo, trapOf, enabled, withAdded, raised}
-use Rattle.model.specs.Step.{isNamed, refusalOf, judged, refusing, planOf, stepPlan, stepOf, exceptionOf}
+use Rattle.model.specs.Step.{isNamed, refusalOf, judged, refusing, planOf, stepPlan, exceptionOf}
 use Rattle.model.specs.declared.State.{State}
 use Rattle.model.proofs.Bools.{and-left, and-right, or-left, or-right, eqb-swap, on}
 

@@ -1,14 +1,13 @@
 -- The laws of a store, and that a window has them.
-use mathlib.Core.Path.{_≡_, refl, sym, ap, _∙_}
-use mathlib.Core.Logic.{_≢_, _⊎_, inl, inr}
+use mathlib.Core.Path.{_≡_}
+use mathlib.Core.Logic.{_≢_}
 use mathlib.Core.Bool.{true}
-use Prim.Native.Nat.{ℕ, _+_, _-_, _*_, _/_, _%_, _^_, _≤_, _<_}
+use Prim.Native.Nat.{ℕ, _+_, _-_, _≤_, _<_}
 use native.Mathlib.Omega.{arith}
 use native.Mathlib.Decide.{decLe}
 use lib.ListN.{length, getD}
-use lib.Dec.{leb}
 use borrow.Author.Tests.{leb-true}
-use Rattle.model.specs.Octa.{octa, part, written, bytesOf}
+use Rattle.model.specs.Octa.{octa, written, bytesOf}
 use Rattle.model.specs.Memory.{Store, Window, Shape, shapeOf, offset, has, octaBytes, writeOcta, one}
 use Rattle.model.proofs.Octa.{part-cong, length-written, written-below, written-above, part-written}
 

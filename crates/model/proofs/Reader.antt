@@ -1,34 +1,25 @@
 -- The context reader: it judges as UNSAVE does, and what it hands back is the context's own bytes, first local to packed octabyte.
 use mathlib.Core.Path.{_≡_, refl, sym, ap, _∙_}
-use mathlib.Core.Logic.{_≢_}
-use mathlib.Core.Bool.{Bool, true, false, cond, _&&_, _||_}
+use mathlib.Core.Bool.{true, _&&_}
 use mathlib.Core.List.{List, []}
 use Prim.Native.Nat.{ℕ, zero, suc, _+_, _-_, _*_, _/_, _%_, _^_, _≤_, _<_}
 use native.Mathlib.Omega.{arith}
-use native.Mathlib.Decide.{ℕ-discrete}
-use lib.Dec.{leb, ltb, eqb}
-use lib.ListN.{length, getD, set, length-set}
-use lib.Seq.{ext-getD, getD-set-other}
-use borrow.Author.Tests.{leb-true, ltb-true, ltb-false, eqb-true, eqb-false}
-use Rattle.model.specs.Fill.{over}
+use lib.Dec.{leb, eqb}
+use lib.ListN.{length, getD}
+use borrow.Author.Tests.{leb-true, eqb-true, eqb-false}
 use Rattle.model.specs.Octa.{octa}
 use Rattle.model.specs.Memory.{Window, shapeOf, ruled, offset, has, one}
 use Rattle.model.specs.Plan.{Plan, answer, read, Outcome, perform, worst, clear, named, look, looks}
-use Rattle.model.specs.Registers.{rO, rS, rG, rL, rA, rP, rR, rZ, sp, reg, Sized, Words, admissible, halted, withSpecial, spilled}
-use Rattle.model.specs.Contexts.{extent, saved, contextAddress, savedRule, savedState, below, unsavedGeneral, unsavedSpecial, unsavedRule, unsaved, contextRest, contextCount, contextAt}
+use Rattle.model.specs.Registers.{reg, admissible, halted}
+use Rattle.model.specs.Contexts.{below, contextRest, contextCount, contextAt}
 use Rattle.model.specs.Step.{refusing, stepOf}
-use Rattle.model.specs.Demand.{Within}
 use Rattle.model.specs.Reader.{Part, emptyPart, partAt, readContext}
-use Rattle.model.specs.Roundtrip.{thresholdAt, countAt, octasAt, FromFirstToPacked, unparked, unsaveAfter}
+use Rattle.model.specs.Roundtrip.{thresholdAt, countAt, octasAt, FromFirstToPacked}
 use Rattle.model.specs.declared.State.{State}
 use Rattle.model.proofs.Bools.{and-left, and-right, on, on-both}
-use Rattle.model.proofs.Fill.{length-over, over-in, over-below, over-above}
-use Rattle.model.proofs.Memory.{one-lawful}
-use Rattle.model.proofs.Plan.{Kept·refl}
 use Rattle.model.proofs.Runs.{octa-mod, worst-of}
-use Rattle.model.proofs.Good.{Adm, Good, adm-of, spec-same, saved-good, unsaved-good, unsaved-special}
-use Rattle.model.proofs.Unpark.{looked, Context, context-found, Saves, savedOn, save-done, save-is, savedState-address, savedSpecial-low, savedSpecial-high, saved-local, saved-global, saved-twelve, withContext, Unsaves, unsavedNext, unsave-open, unsave-back}
-use Rattle.model.proofs.Entry.{performOn, Inside, said-reply, sound, ruled-facts, Ruled}
+use Rattle.model.proofs.Unpark.{looked, Context, context-found, unsavedNext, unsave-open}
+use Rattle.model.proofs.Entry.{performOn, Inside, said-reply, sound, ruled-facts}
 
 -- ---- the reader judges as UNSAVE does
 

@@ -2,34 +2,29 @@
 use mathlib.Core.Path.{_≡_, refl, sym, ap, _∙_}
 use mathlib.Core.Logic.{_≢_}
 use mathlib.Core.Bool.{Bool, true, false, cond, _&&_, _||_}
-use mathlib.Core.List.{List, []}
-use Prim.Native.Nat.{ℕ, zero, suc, _+_, _-_, _*_, _/_, _%_, _^_, _≤_, _<_}
+use mathlib.Core.List.{List}
+use Prim.Native.Nat.{ℕ, _+_, _-_, _%_, _^_, _≤_, _<_}
 use native.Mathlib.Omega.{arith}
 use native.Mathlib.Decide.{ℕ-discrete}
 use lib.Dec.{leb, ltb, eqb}
 use lib.ListN.{length, getD, set, length-set}
 use lib.Seq.{ext-getD, getD-set-other}
-use borrow.Author.Tests.{leb-true, ltb-true, ltb-false, eqb-true, eqb-false}
+use borrow.Author.Tests.{leb-true, ltb-true, ltb-false, eqb-true}
 use Rattle.model.specs.Fill.{over}
-use Rattle.model.specs.Octa.{octa}
-use Rattle.model.specs.Memory.{Window, shapeOf, ruled, offset, has, one}
-use Rattle.model.specs.Plan.{Plan, answer, read, Outcome, perform, worst, clear, named, look, looks}
-use Rattle.model.specs.Registers.{rO, rS, rG, rL, rA, rP, rR, rZ, sp, reg, Sized, Words, admissible, following, goes, next, withSpecial, stored, spilled}
-use Rattle.model.specs.Contexts.{extent, saved, contextAddress, savedRule, savedState, below, unsavedGeneral, unsavedSpecial, unsavedRule, unsaved, contextRest, contextCount, contextAt}
-use Rattle.model.specs.Step.{refusing, stepOf}
+use Rattle.model.specs.Memory.{Window, one}
+use Rattle.model.specs.Registers.{rO, rS, rG, rL, rA, rP, rR, rZ, sp, reg, Sized, Words, following, goes, next, withSpecial, stored, spilled}
+use Rattle.model.specs.Contexts.{extent, saved, contextAddress, savedRule, savedState, unsavedGeneral, unsavedSpecial, unsavedRule, unsaved}
+use Rattle.model.specs.Step.{stepOf}
 use Rattle.model.specs.Demand.{Within}
-use Rattle.model.specs.Reader.{Part, emptyPart, partAt, readContext}
-use Rattle.model.specs.Roundtrip.{thresholdAt, countAt, octasAt, FromFirstToPacked, unparked, unsaveAfter, ContextsKept}
+use Rattle.model.specs.Roundtrip.{unparked, unsaveAfter, ContextsKept}
 use Rattle.model.specs.declared.State.{State}
 use Rattle.model.proofs.Bools.{and-left, and-right, on, on-both}
 use Rattle.model.proofs.Fill.{length-over, over-in, over-below, over-above}
 use Rattle.model.proofs.Memory.{one-lawful}
 use Rattle.model.proofs.Plan.{Kept·refl}
-use Rattle.model.proofs.Runs.{octa-mod, worst-of}
 use Rattle.model.proofs.Good.{Adm, Good, adm-of, spec-same, goes-good, saved-good, unsaved-good, unsaved-special}
-use Rattle.model.proofs.Unpark.{looked, Context, context-found, Saves, savedOn, save-done, save-is, savedState-address, savedSpecial-low, savedSpecial-high, saved-local, saved-global, saved-twelve, withContext, Unsaves, unsave-open, unsave-back}
+use Rattle.model.proofs.Unpark.{Saves, savedOn, save-done, save-is, savedState-address, savedSpecial-low, savedSpecial-high, saved-local, saved-global, saved-twelve, withContext, Unsaves, unsave-back}
 use Rattle.model.proofs.Reader.{reader-reply, reader-part}
-use Rattle.model.proofs.Entry.{performOn, Inside, said-reply, sound, ruled-facts, Ruled}
 
 -- ---- the registers that UNSAVE leaves
 

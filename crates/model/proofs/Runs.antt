@@ -1,19 +1,17 @@
 -- A run of octabytes that is stored, kept and read below: the one fact behind POP after PUSH and UNSAVE after SAVE.
-use mathlib.Core.Path.{_≡_, refl, sym, ap, _∙_, subst}
+use mathlib.Core.Path.{_≡_, refl, sym, ap, _∙_}
 use mathlib.Core.Logic.{_≢_}
-use mathlib.Core.Bool.{Bool, true, false, cond}
-use mathlib.Core.List.{List, [], _∷_, _++_}
-use Prim.Native.Nat.{ℕ, zero, suc, _+_, _-_, _*_, _/_, _%_, _^_, _≤_, _<_, max}
+use mathlib.Core.List.{List, [], _∷_}
+use Prim.Native.Nat.{ℕ, zero, suc, _+_, _-_, _*_, _/_, _%_, _^_, _≤_, _<_}
 use native.Mathlib.Omega.{arith}
 use native.Mathlib.Nat.{zero-add}
-use native.Mathlib.Decide.{ℕ-discrete, decLe}
+use native.Mathlib.Decide.{decLe}
 use lib.ListN.{length, getD}
-use lib.Dec.{eqb}
-use borrow.Author.Tests.{eqb-true, eq-eqb}
+use borrow.Author.Tests.{eq-eqb}
 use Rattle.model.specs.Fill.{tab}
 use Rattle.model.specs.Octa.{octa, valueOf, bytesOf}
 use Rattle.model.specs.Memory.{Store}
-use Rattle.model.specs.Plan.{Plan, answer, read, Outcome, perform, ups, All, Off, worst, clear, named, look, looks, puts}
+use Rattle.model.specs.Plan.{Plan, read, perform, ups, All, worst, look, looks, puts}
 use Rattle.model.specs.Demand.{Within}
 use Rattle.model.proofs.Octa.{value-bytes}
 use Rattle.model.proofs.Plan.{worst-head, worst-tail, Kept, Sound, puts-kept}

@@ -1,22 +1,21 @@
 -- Theorem 4: the needs of every arm, by equations; bytes that an arm does not use.
 use mathlib.Core.Path.{_≡_, refl, sym, ap, _∙_}
 use mathlib.Core.Bool.{Bool, true, false, cond, _&&_}
-use mathlib.Core.List.{List, [], _∷_, _++_, append-nil}
-use Prim.Native.Nat.{ℕ, _+_, _-_, _*_, _/_, _%_, _^_, min}
+use mathlib.Core.List.{List, [], append-nil}
+use Prim.Native.Nat.{ℕ, _+_, _-_, _/_, _%_, _^_}
 use native.Mathlib.Omega.{arith}
 use lib.Dec.{leb, ltb, eqb}
-use lib.ListN.{length, getD}
 use Rattle.model.specs.Fill.{tab}
-use Rattle.model.specs.Registers.{rJ, rO, rG, rL, sp, reg, admissible, goes, next, halted}
+use Rattle.model.specs.Registers.{rO, rG, rL, sp, reg, admissible, goes, next, halted}
 use Rattle.model.specs.Memory.{Window, shapeOf, ruled, one}
-use Rattle.model.specs.Plan.{Plan, answer, read, Outcome, perform, ups, worst, clear, missing, look, looks, needs}
+use Rattle.model.specs.Plan.{Plan, answer, read, Outcome, perform, ups, worst, clear, look, looks, needs}
 use Rattle.model.specs.Opcodes.{Arm, forward, backward, register, immediate, branch, jump, getAddress, go, pushJump, pushGo, pop, put, get, save, unsave, sync, swym, trip, trap, none, armOf}
 use Rattle.model.specs.Said.{Said, say, refuse, tell}
 use Rattle.model.specs.Control.{near, sumOf}
-use Rattle.model.specs.Frames.{hole, framed, pushed, pushFrame, popped, popTo, popRule, noFrame, misplaced, popFrame}
+use Rattle.model.specs.Frames.{hole, framed, pushed, pushFrame, popTo, popRule, noFrame, misplaced, popFrame}
 use Rattle.model.specs.Contexts.{extent, saved, savedState, saveContext, below, unsaved, contextRest, contextCount, contextAt, unsaveContext}
 use Rattle.model.specs.Lists.{needsOf}
-use Rattle.model.specs.Step.{refusalOf, judged, refusing, planOf, stepPlan, stepOf, stepNeeds, exceptionOf, exception, itemPlan, mmix}
+use Rattle.model.specs.Step.{refusalOf, judged, refusing, planOf, stepPlan, stepOf, stepNeeds, exceptionOf, itemPlan, mmix}
 use Rattle.model.specs.StepNeeds.{run, popNeeds, unsaveNeedsRest, unsaveNeedsCount, unsaveNeeds, armNeeds, NeedsAre, BytesUnused}
 use Rattle.model.specs.declared.State.{State}
 use Rattle.model.proofs.Bools.{on, on-both}

@@ -1,9 +1,9 @@
 -- Words stay words, and bytes bytes: each state builder keeps a state's numbers below 2^64 where what it writes is below 2^64.
-use mathlib.Core.Path.{_≡_, refl, sym, ap, _∙_, subst}
-use mathlib.Core.Logic.{⊎-elim, _⊎_, inl, inr}
-use mathlib.Core.Bool.{Bool, true, false, cond, _&&_}
+use mathlib.Core.Path.{_≡_, sym, ap, _∙_, subst}
+use mathlib.Core.Logic.{_⊎_, inl, inr}
+use mathlib.Core.Bool.{_&&_}
 use mathlib.Core.List.{List, [], _∷_}
-use Prim.Native.Nat.{ℕ, zero, suc, _+_, _-_, _*_, _/_, _%_, _^_, _≤_, _<_, min, max}
+use Prim.Native.Nat.{ℕ, zero, suc, _+_, _-_, _*_, _%_, _^_, _≤_, _<_, min, max}
 use native.Mathlib.Omega.{arith}
 use native.Mathlib.Decide.{ℕ-discrete}
 use native.Mathlib.Nat.{mul-assoc, pow-succ'}
@@ -12,25 +12,23 @@ use lib.ListN.{length, getD, set, length-set, List·getD-eq-default}
 use lib.Seq.{getD-set-same, getD-set-other}
 use lib.Bits.{bitOr, or-lt}
 use borrow.Author.Tests.{ltb-true}
-use Rattle.model.specs.Fill.{over, tab}
-use Rattle.model.specs.Octa.{octa, part, written, valueOf, bytesOf}
+use Rattle.model.specs.Fill.{over}
+use Rattle.model.specs.Octa.{part, written, valueOf, bytesOf}
 use Rattle.model.specs.Registers.{rB, rJ, rBB, rO, rS, rG, rL, rA, rR, rP, rW, rX, rY, rZ, rWW, rXX, rYY, rZZ, sp, reg, following, Words, goes, halted, withSpecial, cleared, claimLocal, isMarginal, stored, setRegister, putLocals, putGlobals, spilled}
 use Rattle.model.specs.Memory.{Window, shapeOf, offset, octaBytes, writeOcta, one}
 use Rattle.model.specs.Plan.{Plan, answer, read, Outcome, perform, clear, look, looks, puts}
 use Rattle.model.specs.Opcodes.{armOf}
-use Rattle.model.specs.Said.{Said, tell}
+use Rattle.model.specs.Said.{tell}
 use Rattle.model.specs.Frames.{hole, slid, slide, pushedRule, pushed, countOf, lastOutput, restored, unslide, popped}
 use Rattle.model.specs.Contexts.{extent, contextAddress, savedRule, savedState, unsavedGeneral, unsavedSpecial, unsavedRule, unsaved}
-use Rattle.model.specs.Trips.{wordOf, interrupted, tripped, trapped, added, withAdded}
+use Rattle.model.specs.Trips.{wordOf, interrupted, added, withAdded}
 use Rattle.model.specs.Lists.{stepOn}
-use Rattle.model.specs.Step.{refusing, planOf, stepPlan, exceptionOf, Item, step, exception, itemPlan, mmix}
+use Rattle.model.specs.Step.{stepPlan, exceptionOf, Item, step, exception, itemPlan, mmix}
 use Rattle.model.specs.Keeps.{InstructionFits, Fits, Bytes}
 use Rattle.model.specs.declared.State.{State}
 use Rattle.model.proofs.Bools.{on, and-right}
 use Rattle.model.proofs.Fill.{length-over, over-in, over-below, over-above, lt-or-le}
-use Rattle.model.proofs.Octa.{length-written, written-below, written-above}
 use Rattle.model.proofs.Good.{added-byte}
-use Rattle.model.proofs.Keeps.{Any}
 use Rattle.model.proofs.Meets.{Answers, Meets, MeetsTrip, plan-meets, step-meets, exception-meets, perform-meets}
 
 -- ---- lists of numbers below a bound

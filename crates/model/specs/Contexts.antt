@@ -1,6 +1,6 @@
 -- 01, 'Steps', SAVE and UNSAVE (stack.rs, `save_context`, `unsave_context`). Knuth: mmix-doc on SAVE and UNSAVE, the picture of a context.
 use Prim.Native.Nat.{ℕ, _+_, _-_, _*_, _/_, _%_, _^_}
-use mathlib.Core.Bool.{Bool, cond, _&&_}
+use mathlib.Core.Bool.{cond, _&&_}
 use mathlib.Core.List.{List, []}
 use lib.Dec.{leb, ltb, eqb}
 use lib.ListN.{getD, set}

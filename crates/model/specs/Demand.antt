@@ -1,6 +1,6 @@
 -- Theorem 5, demand 3: what a caller keeps below the hole is private to it and comes back, whatever the list after the call does
 -- that needs no octabyte of the call's frame. One theorem about the whole list, over `stepOf` and `exceptionOf`.
-use Prim.Native.Nat.{ℕ, _+_, _*_, _%_, _^_, _≤_, _<_}
+use Prim.Native.Nat.{ℕ, _+_, _*_, _%_, _≤_, _<_}
 use mathlib.Core.Path.{_≡_}
 use mathlib.Core.List.{List}
 use lib.ListN.{length, getD}

@@ -1,12 +1,11 @@
 -- Where the steps depart from Knuth's rules: outside the condition named with each departure, step and rule are equal.
 -- docs/DIFFERENCES.md has the smallest example of each.
-use Prim.Native.Nat.{ℕ, _<_, _≤_}
+use Prim.Native.Nat.{ℕ}
 use mathlib.Core.Path.{_≡_}
 use mathlib.Core.Logic.{_≢_}
 use mathlib.Core.Bool.{true, false, _&&_}
 use lib.Dec.{eqb}
-use lib.Bits.{bitAnd}
-use Rattle.model.specs.Registers.{rO, rS, rL, rK, sp, Sized, MarginalZero, isMarginal, spilled, halted}
+use Rattle.model.specs.Registers.{rO, rS, rL, rK, sp, Sized, MarginalZero, isMarginal, spilled}
 use Rattle.model.specs.Said.{say}
 use Rattle.model.specs.Frames.{hole, framed, framedRule, noFrame, misplaced, popRule, popFrame}
 use Rattle.model.specs.System.{got, gotRule}

@@ -1,6 +1,5 @@
 -- 01, 'State and window': the window, and what a step may know of memory.
 -- A `Store` is a shape, which no write changes, and octabytes; a window is one.
-use mathlib.Core.Path.{_≡_}
 use mathlib.Core.Bool.{Bool, _&&_}
 use mathlib.Core.List.{List}
 use Prim.Native.Nat.{ℕ, _+_, _-_, _%_, _^_}

@@ -3,7 +3,6 @@
 use Prim.Native.Nat.{ℕ, _+_, _%_, _^_, min, max, _<_, _≤_}
 use mathlib.Core.Path.{_≡_}
 use mathlib.Core.Bool.{Bool, cond, _&&_}
-use mathlib.Core.List.{List}
 use lib.Dec.{leb, ltb}
 use lib.ListN.{length, getD, set, replicate}
 use Rattle.model.specs.Fill.{over}

@@ -2,10 +2,8 @@
 use Prim.Native.Nat.{ℕ, _+_, _-_, _*_, _/_, _%_, _^_, _<_}
 use mathlib.Core.Path.{_≡_}
 use mathlib.Core.Bool.{true}
-use mathlib.Core.List.{List}
-use lib.ListN.{getD, set}
+use lib.ListN.{set}
 use Rattle.model.specs.Fill.{over}
-use Rattle.model.specs.Octa.{part}
 use Rattle.model.specs.Memory.{Window, shapeOf, ruled, offset, one}
 use Rattle.model.specs.Plan.{Outcome, look}
 use Rattle.model.specs.Registers.{rO, rS, rG, rL, sp, reg, admissible, Sized, Words}

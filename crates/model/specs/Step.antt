@@ -1,7 +1,7 @@
 -- The entries' own definitions, `stepOf` and `exceptionOf`: 01's steps under 01's order of judging; and lists of them.
 use Prim.Native.Nat.{ℕ, _+_, _*_, _%_, _^_}
 use mathlib.Core.Bool.{Bool, cond, _&&_, _||_}
-use mathlib.Core.List.{List, [], _∷_}
+use mathlib.Core.List.{List}
 use lib.Dec.{leb, ltb, eqb}
 use Rattle.model.specs.Memory.{Window, Shape, shapeOf, ruled, has, one}
 use Rattle.model.specs.Plan.{Plan, Outcome, perform, needs}

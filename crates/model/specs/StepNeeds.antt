@@ -1,11 +1,11 @@
 -- Theorem 4. What a step needs, arm by arm, as 01 says it; and that bytes which an arm does not use are not looked at.
 use Prim.Native.Nat.{ℕ, _+_, _-_, _*_, _/_, _%_, _^_, min}
 use mathlib.Core.Path.{_≡_}
-use mathlib.Core.Bool.{Bool, cond, _&&_}
+use mathlib.Core.Bool.{cond, _&&_}
 use mathlib.Core.List.{List, [], _++_}
 use lib.Dec.{leb, ltb, eqb}
-use Rattle.model.specs.Memory.{Window, Shape, shapeOf, one}
-use Rattle.model.specs.Plan.{ups, clear, missing, look, needs}
+use Rattle.model.specs.Memory.{Window, shapeOf, one}
+use Rattle.model.specs.Plan.{ups, clear, missing, look}
 use Rattle.model.specs.Lists.{needsOf}
 use Rattle.model.specs.Registers.{rO, rG, rL, sp, reg}
 use Rattle.model.specs.Opcodes.{Arm, branch, jump, getAddress, go, pushJump, pushGo, pop, put, get, save, unsave, sync, swym, trip, trap, none, armOf}
