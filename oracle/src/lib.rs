@@ -1,0 +1,24 @@
+//! Differential harness: the Rust register machine, unchanged, beside another one that must equal it.
+//!
+//! - `state`, `case`: a machine state with its image of bytes; one call with all that it is given, and its
+//!   one-line text.
+//! - `reference`: the Rust's answer to a case, with the octabytes that it touched.
+//! - `subject`: the six functions that are compared; `model` (01 as a program) and `library` (C) offer them.
+//! - `compare`: one case on both sides. `shrink`: a smaller case that still differs.
+//! - `random`, `states`, `windows`, `rounds`: the cases. `tally`: the counts.
+
+pub mod case;
+pub mod compare;
+#[cfg(feature = "library")]
+pub mod library;
+pub mod model;
+pub mod random;
+pub mod reference;
+pub mod rounds;
+pub mod shrink;
+pub mod state;
+pub mod states;
+pub mod subject;
+pub mod sweep;
+pub mod tally;
+pub mod windows;
