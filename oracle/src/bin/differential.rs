@@ -3,7 +3,7 @@
 //!     differential [--cases N] [--seed S] [--threads T]
 //!     differential --replay LINE
 //!
-//! Prints how often each opcode met each reply. A case that differs is printed as one line, made small, that
+//! Runs N drawn cases and then the sweeps, and prints how often each opcode met each reply. A case that differs is printed as one line, made small, that
 //! `--replay` runs again; the exit status is then 1.
 
 use std::process::ExitCode;
@@ -82,18 +82,18 @@ impl Runner<'_> {
         self.found.lock().unwrap().push(difference);
     }
 
-    /// A part of all rounds, and the sweeps on the first thread.
+    /// A part of all rounds, and then on the first thread the sweeps.
     fn work(&mut self, options: &Options, part: u64) -> Option<()> {
-        if part == 0 {
-            sweep::exceptions(&mut |case| self.run(case))?;
-            sweep::frames(&mut |case| self.run(case))?;
-        }
         for number in (part..options.cases.div_ceil(ROUND)).step_by(options.threads as usize) {
             round(options.seed, number, &mut |case| self.run(case))?;
             if number % 64 == 0 && !self.reference.memory_is_followed() {
                 self.found.lock().unwrap().push("the harness lost track of the Rust's memory".to_string());
                 return None;
             }
+        }
+        if part == 0 {
+            sweep::exceptions(&mut |case| self.run(case))?;
+            sweep::frames(&mut |case| self.run(case))?;
         }
         Some(())
     }
