@@ -18,6 +18,12 @@ impl MMix {
         self.dispatch_system(opcode(op), op, x, y, z)
     }
 
+    /// Enter the arm of an opcode that is already decoded: what `speed` measures.
+    #[inline]
+    pub fn enter(&mut self, opcode: Opcode, op: u8, x: u8, y: u8, z: u8) -> bool {
+        self.dispatch(opcode, op, x, y, z)
+    }
+
     /// Enter `raise_exceptions`.
     #[allow(clippy::too_many_arguments)]
     pub fn enter_exceptions(&mut self, flags: u8, op: u8, x: u8, y: u8, z: u8, y_val: u64, z_val: u64) -> bool {
@@ -35,6 +41,11 @@ impl MMix {
         self.special_regs = *special;
         self.pc = pc;
         self.exit_code = halt;
+    }
+
+    /// Place rA alone.
+    pub fn place_ra(&mut self, value: u64) {
+        self.set_special(super::SpecialReg::RA, value);
     }
 
     pub fn general(&self) -> &[u64; 256] {
@@ -73,6 +84,7 @@ impl MMix {
         self.dispatch(opcode, op, x, y, z)
     }
 
+    #[inline]
     fn dispatch(&mut self, opcode: Opcode, op: u8, x: u8, y: u8, z: u8) -> bool {
         match op {
             0x40..=0x5F | 0x9E | 0x9F | 0xBE | 0xBF | 0xF0..=0xF5 | 0xF8 => {
