@@ -10,6 +10,7 @@ use std::sync::OnceLock;
 
 use facade::touches::{self, Touch};
 use taken::mmix::{Host, MMix, SpecialReg, TrapCode};
+use taken::mmixal::Opcode;
 
 use crate::case::{Call, Case, Instruction};
 use crate::state::{IMAGE_LEN, RG, RL, RO, State, WINDOW_MAX, octabyte};
@@ -228,8 +229,8 @@ fn enter(machine: &mut MMix, call: &Call) -> bool {
             true
         }
         Call::Step(Instruction { op, x, y, z }) => match arms()[op as usize] {
-            Arm::Control => machine.enter_control(op, x, y, z),
-            Arm::System => machine.enter_system(op, x, y, z),
+            Arm::Control => machine.enter_control(opcode(op), op, x, y, z),
+            Arm::System => machine.enter_system(opcode(op), op, x, y, z),
             Arm::None => unreachable!("judged 3"),
         },
         Call::Exceptions { flags, of: Instruction { op, x, y, z }, y_val, z_val } => {
@@ -237,6 +238,10 @@ fn enter(machine: &mut MMix, call: &Call) -> bool {
         }
         Call::Context { address } => machine.enter_unsave(address),
     }
+}
+
+fn opcode(op: u8) -> Opcode {
+    Opcode::try_from(op).expect("every byte names an opcode")
 }
 
 /// 01's number of a diagnostic.
@@ -273,8 +278,8 @@ fn arms() -> &'static [Arm; 256] {
             panic::catch_unwind(AssertUnwindSafe(|| f(&mut machine, op))).is_ok()
         };
         let arms = std::array::from_fn(|op| {
-            let control = enters(|m, op| m.enter_control(op, 1, 1, 1), op as u8);
-            let system = enters(|m, op| m.enter_system(op, 1, 1, 1), op as u8);
+            let control = enters(|m, op| m.enter_control(opcode(op), op, 1, 1, 1), op as u8);
+            let system = enters(|m, op| m.enter_system(opcode(op), op, 1, 1, 1), op as u8);
             assert!(!(control && system), "two arms for {op:#x}");
             if control {
                 Arm::Control
@@ -285,7 +290,8 @@ fn arms() -> &'static [Arm; 256] {
             }
         });
         for z in 0..=255 {
-            assert_eq!(enters(|m, z| m.enter_system(GET, 1, 0, z), z), SpecialReg::from_u8(z).is_some(), "GET {z}");
+            let named = enters(|m, z| m.enter_system(opcode(GET), GET, 1, 0, z), z);
+            assert_eq!(named, SpecialReg::from_u8(z).is_some(), "GET {z}");
         }
         panic::set_hook(hook);
         arms

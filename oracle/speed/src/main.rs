@@ -23,7 +23,9 @@ const SUBJECT: (&str, oracle::library::Library) = ("library", oracle::library::L
 #[cfg(not(feature = "library"))]
 const SUBJECT: (&str, oracle::model::Model) = ("model", oracle::model::Model);
 
-const REPEATS: usize = 400;
+/// The whole table is measured so often, each time with so many repeats: a slow spell meets all columns alike.
+const PASSES: usize = 6;
+const REPEATS: usize = 80;
 const WINDOW_LEN: usize = 8192;
 const CODE_START: u64 = 0x1000;
 
@@ -43,10 +45,11 @@ impl Host for Silent {
 
 /// The least time of one call, in nanoseconds.
 fn least(mut f: impl FnMut()) -> f64 {
+    const TRIAL: u64 = 32;
+    (0..TRIAL).for_each(|_| f());
     let began = Instant::now();
-    f();
-    let once = began.elapsed().as_nanos().max(1) as u64;
-    let calls = (20_000 / once).clamp(1, 2_000);
+    (0..TRIAL).for_each(|_| f());
+    let calls = (50_000 * TRIAL / began.elapsed().as_nanos().max(1) as u64).clamp(1, 10_000);
     let times = (0..REPEATS).map(|_| {
         let began = Instant::now();
         for _ in 0..calls {
@@ -71,15 +74,26 @@ fn machine(point: &Point) -> MMix {
     machine
 }
 
+fn opcode(i: &Instruction) -> Opcode {
+    Opcode::try_from(i.op).expect("every byte names an opcode")
+}
+
+/// The arm of a decoded instruction.
+#[inline]
+fn enter(machine: &mut MMix, opcode: Opcode, i: &Instruction) -> bool {
+    let Instruction { op, x, y, z } = *i;
+    let system = matches!(op, 0x00 | 0xF6 | 0xF7 | 0xF9..);
+    if system { machine.enter_system(opcode, op, x, y, z) } else { machine.enter_control(opcode, op, x, y, z) }
+}
+
 fn rust_arm(point: &Point) -> f64 {
     let mut machine = machine(point);
     match &point.work {
         Work::Steps(code) => {
-            let decoded: Vec<(Opcode, Instruction)> =
-                code.iter().map(|i| (Opcode::try_from(i.op).expect("an opcode"), *i)).collect();
+            let decoded: Vec<(Opcode, Instruction)> = code.iter().map(|i| (opcode(i), *i)).collect();
             least(|| {
-                for (opcode, i) in black_box(&decoded) {
-                    black_box(machine.enter(*opcode, i.op, i.x, i.y, i.z));
+                for (opcode, i) in &decoded {
+                    black_box(enter(&mut machine, *opcode, i));
                 }
             })
         }
@@ -90,42 +104,42 @@ fn rust_arm(point: &Point) -> f64 {
     }
 }
 
-fn rust_fetched(point: &Point) -> Option<f64> {
-    let Work::Steps(code) = &point.work else { return None };
+fn rust_fetched(point: &Point) -> f64 {
+    let Work::Steps(code) = &point.work else { return f64::INFINITY };
     let mut machine = machine(point);
-    Some(least(|| {
+    least(|| {
         for k in 0..code.len() as u64 {
             machine.set_pc(black_box(CODE_START + 4 * k));
             black_box(machine.execute_instruction());
         }
-    }))
+    })
 }
 
-fn on_parts(subject: &impl Subject, point: &Point) -> Option<f64> {
-    let Work::Steps(code) = &point.work else { return None };
+fn on_parts(subject: &impl Subject, point: &Point) -> f64 {
+    let Work::Steps(code) = &point.work else { return f64::INFINITY };
     let (mut state, mut window) = (point.state.clone(), vec![0; WINDOW_LEN]);
-    Some(least(|| {
-        for i in black_box(code) {
+    least(|| {
+        for i in code {
             black_box(subject.step_parts(STACK_START, *i, &mut state, &mut window));
         }
-    }))
+    })
 }
 
-fn on_lent(subject: &impl Subject, point: &Point) -> Option<f64> {
-    let Work::Steps(code) = &point.work else { return None };
+fn on_lent(subject: &impl Subject, point: &Point) -> f64 {
+    let Work::Steps(code) = &point.work else { return f64::INFINITY };
     let (mut state, mut window) = (point.state.clone(), vec![0; WINDOW_LEN]);
-    Some(least(|| {
-        for i in black_box(code) {
+    least(|| {
+        for i in code {
             black_box(subject.step_lent(STACK_START, *i, &mut state, &mut window));
         }
-    }))
+    })
 }
 
 fn on_image(subject: &impl Subject, point: &Point) -> f64 {
     let (mut image, mut window) = (point.state.image(), vec![0; WINDOW_LEN]);
     match &point.work {
         Work::Steps(code) => least(|| {
-            for i in black_box(code) {
+            for i in code {
                 black_box(subject.step(STACK_START, *i, &mut image, &mut window));
             }
         }),
@@ -144,30 +158,44 @@ fn check(subject: &impl Subject, point: &Point) {
     let (mut state, mut window) = (point.state.clone(), vec![0; WINDOW_LEN]);
     let Work::Steps(code) = &point.work else { return };
     for i in code {
-        let goes_on = machine.enter(Opcode::try_from(i.op).expect("an opcode"), i.op, i.x, i.y, i.z);
+        let goes_on = enter(&mut machine, opcode(i), i);
         let reply = subject.step_lent(STACK_START, *i, &mut state, &mut window);
         assert!(goes_on && reply == 0, "{}: {i:?} is refused", point.name);
     }
     assert!(machine.general() == &state.general && machine.special() == &state.special, "{}: differs", point.name);
 }
 
+/// The five columns of a point, once.
+fn measured(subject: &impl Subject, point: &Point) -> [f64; 5] {
+    [
+        rust_arm(point),
+        rust_fetched(point),
+        on_parts(subject, point),
+        on_lent(subject, point),
+        on_image(subject, point),
+    ]
+}
+
 fn main() {
     let only = std::env::args().nth(1).unwrap_or_default();
     let (name, subject) = SUBJECT;
+    let points: Vec<Point> = points().into_iter().filter(|p| p.name.contains(&only)).collect();
+    points.iter().for_each(|point| check(&subject, point));
+
     let (from, mut to) = (State::zero().image(), State::zero().image());
-    let copy = least(|| black_box(&mut to).copy_from_slice(black_box(&from)));
-    println!("memcpy of an image {copy:.1} ns; subject: {name}");
+    let mut copy = f64::INFINITY;
+    let mut table = vec![[f64::INFINITY; 5]; points.len()];
+    for _ in 0..PASSES {
+        copy = copy.min(least(|| black_box(&mut to).copy_from_slice(black_box(&from))));
+        for (row, point) in table.iter_mut().zip(&points) {
+            row.iter_mut().zip(measured(&subject, point)).for_each(|(old, new)| *old = old.min(new));
+        }
+    }
+
+    println!("nanoseconds, the least of {PASSES} x {REPEATS}; memcpy of an image {copy:.1}; subject: {name}");
     println!("{:<26}{:>10}{:>10}{:>10}{:>10}{:>10}", "point", "arm", "fetched", "parts", "lent", "image");
-    for point in points().iter().filter(|p| p.name.contains(&only)) {
-        check(&subject, point);
-        let times = [
-            Some(rust_arm(point)),
-            rust_fetched(point),
-            on_parts(&subject, point),
-            on_lent(&subject, point),
-            Some(on_image(&subject, point)),
-        ];
-        let columns = times.map(|t| t.map_or_else(|| format!("{:>10}", "-"), |t| format!("{t:>10.1}")));
+    for (row, point) in table.iter().zip(&points) {
+        let columns = row.map(|t| if t.is_finite() { format!("{t:>10.1}") } else { format!("{:>10}", "-") });
         println!("{:<26}{}", point.name, columns.concat());
     }
 }

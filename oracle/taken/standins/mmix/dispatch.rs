@@ -9,19 +9,15 @@ mod system;
 
 impl MMix {
     /// Enter `dispatch_control`. An opcode that has no arm there panics.
-    pub fn enter_control(&mut self, op: u8, x: u8, y: u8, z: u8) -> bool {
-        self.dispatch_control(opcode(op), op, x, y, z)
+    #[inline]
+    pub fn enter_control(&mut self, opcode: Opcode, op: u8, x: u8, y: u8, z: u8) -> bool {
+        self.dispatch_control(opcode, op, x, y, z)
     }
 
     /// Enter `dispatch_system`. An opcode that has no arm there panics.
-    pub fn enter_system(&mut self, op: u8, x: u8, y: u8, z: u8) -> bool {
-        self.dispatch_system(opcode(op), op, x, y, z)
-    }
-
-    /// Enter the arm of an opcode that is already decoded: what `speed` measures.
     #[inline]
-    pub fn enter(&mut self, opcode: Opcode, op: u8, x: u8, y: u8, z: u8) -> bool {
-        self.dispatch(opcode, op, x, y, z)
+    pub fn enter_system(&mut self, opcode: Opcode, op: u8, x: u8, y: u8, z: u8) -> bool {
+        self.dispatch_system(opcode, op, x, y, z)
     }
 
     /// Enter `raise_exceptions`.
@@ -84,7 +80,6 @@ impl MMix {
         self.dispatch(opcode, op, x, y, z)
     }
 
-    #[inline]
     fn dispatch(&mut self, opcode: Opcode, op: u8, x: u8, y: u8, z: u8) -> bool {
         match op {
             0x40..=0x5F | 0x9E | 0x9F | 0xBE | 0xBF | 0xF0..=0xF5 | 0xF8 => {
@@ -94,8 +89,4 @@ impl MMix {
             _ => false,
         }
     }
-}
-
-fn opcode(op: u8) -> Opcode {
-    Opcode::try_from(op).expect("every byte names an opcode")
 }
