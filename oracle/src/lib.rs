@@ -5,7 +5,7 @@
 //! - `reference`: the Rust's answer to a case, with the octabytes that it touched.
 //! - `subject`: the six functions that are compared; `model` (01 as a program) and `library` (C) offer them.
 //! - `compare`: one case on both sides. `shrink`: a smaller case that still differs.
-//! - `random`, `states`, `windows`, `rounds`: the cases. `tally`: the counts.
+//! - `random`, `states`, `windows`, `rounds`, `sweep`: the cases. `tally`, `situations`: the counts.
 
 pub mod case;
 pub mod compare;
@@ -16,6 +16,7 @@ pub mod random;
 pub mod reference;
 pub mod rounds;
 pub mod shrink;
+pub mod situations;
 pub mod state;
 pub mod states;
 pub mod subject;

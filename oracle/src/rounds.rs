@@ -34,6 +34,18 @@ const LINKS: [u8; 40] = [
     0x42, 0x4B,
 ];
 
+/// rO just inside and just outside of what POP takes.
+const POP_LIMITS: [u64; 8] = [
+    STACK_START,
+    STACK_START + 1,
+    STACK_START + 7,
+    STACK_START + 8,
+    (1 << 63) - 8,
+    (1 << 63) - 1,
+    1 << 63,
+    (1 << 63) + 8,
+];
+
 /// Hand every case of a round to `run`, which gives the Rust's answer; `None` ends the round.
 pub fn round(seed: u64, number: u64, run: &mut dyn FnMut(&Case) -> Option<Answer>) -> Option<()> {
     let random = &mut Random::new(seed, number);
@@ -71,21 +83,24 @@ pub fn round(seed: u64, number: u64, run: &mut dyn FnMut(&Case) -> Option<Answer
 /// One step with a state and window made for it.
 pub fn single(random: &mut Random, op: u8) -> Case {
     let mut state = states::admissible(random);
-    if op == 0xF8 && random.one_in(3) {
-        state.special[RO] = STACK_START + 8 * random.range(1, 400);
-    }
-    let i = instruction(random, op, &mut state);
+    let mut i = instruction(random, op, &mut state);
     let mut case = match op {
         0xBE | 0xBF | 0xF2 | 0xF3 => {
             let x = i.x as u64;
             let hole = if x >= state.special[RG] { state.special[RL] } else { x };
-            windowed(random, i, &state, state.special[RO], hole + 1)
+            stored(random, i, state, hole + 1)
         }
         0xFA => {
             let n = state.special[RL] + 270 - state.special[RG];
-            windowed(random, i, &state, state.special[RO], n)
+            stored(random, i, state, n)
         }
         0xF8 => {
+            match random.below(12) {
+                0..4 => state.special[RO] = STACK_START + 8 * random.range(1, 400),
+                4 | 5 => state.special[RO] = random.pick(&POP_LIMITS),
+                6 => (state.special[RG], state.special[RL], i.x) = (255, random.range(254, 255), 255),
+                _ => {}
+            }
             let (ro, hole) = (state.special[RO], windows::hole(random, &state));
             let mut case = windowed(random, i, &state, ro.wrapping_sub(8 * (hole + 1)), hole + 1);
             let above = if random.one_in(2) { random.value() << 8 } else { 0 };
@@ -93,7 +108,7 @@ pub fn single(random: &mut Random, op: u8) -> Case {
             case
         }
         0xFB => {
-            let packed = states::stack_offset(random);
+            let packed = if random.one_in(8) { random.below(8 * 300) } else { states::stack_offset(random) };
             let saved = Saved::draw(random, packed);
             state.general[i.z as usize] = saved.packed;
             let mut case = windowed(random, i, &state, saved.first(), saved.octabytes());
@@ -109,6 +124,14 @@ pub fn single(random: &mut Random, op: u8) -> Case {
     };
     case.partly = states::partly(random);
     case
+}
+
+/// A step that stores octabytes from rO, at times across the end of memory.
+fn stored(random: &mut Random, i: Instruction, mut state: State, octabytes: u64) -> Case {
+    if random.one_in(8) {
+        state.special[RO] = 0u64.wrapping_sub(random.range(1, 8 * octabytes));
+    }
+    windowed(random, i, &state, state.special[RO], octabytes)
 }
 
 fn windowed(random: &mut Random, i: Instruction, state: &State, first: u64, octabytes: u64) -> Case {
@@ -158,7 +181,13 @@ fn instruction(random: &mut Random, op: u8, state: &mut State) -> Instruction {
             };
             (x, y, z) = ((xyz >> 16) as u8, (xyz >> 8) as u8, xyz as u8);
         }
-        0xFE => z = if random.one_in(4) { random.pick(&[31, 32, 33, 64, 255]) } else { random.below(32) as u8 },
+        0xFE => {
+            z = match random.below(6) {
+                0 => random.pick(&[31, 32, 33, 64, 255]),
+                1 => random.pick(&[RL as u8, RL as u8, RG as u8]),
+                _ => random.below(40) as u8,
+            }
+        }
         0xFF => y = if random.one_in(4) { 255 } else { y },
         _ => {}
     }
@@ -218,8 +247,10 @@ pub fn context(random: &mut Random) -> Case {
 /// Any image, with no window.
 fn initialize(random: &mut Random) -> Case {
     let mut case = Case::new(Call::Initialize, states::admissible(random), 0, Vec::new());
-    if random.one_in(2) {
-        states::spoil(random, &mut case);
+    match random.below(3) {
+        0 => states::spoil(random, &mut case),
+        1 => case.image_len = random.pick(&states::WRONG_LENGTHS),
+        _ => {}
     }
     case
 }

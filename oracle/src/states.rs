@@ -7,6 +7,10 @@ use crate::state::{IMAGE_LEN, MARKS_MAX, RA, RA_MAX, RG, RL, RO, RS, STACK_START
 
 const TOP_BIT: u64 = 1 << 63;
 
+/// Lengths that an image may not have.
+pub const WRONG_LENGTHS: [usize; 8] =
+    [0, 1, 8, IMAGE_LEN - 8, IMAGE_LEN - 1, IMAGE_LEN + 1, IMAGE_LEN + 8, 2 * IMAGE_LEN];
+
 pub fn admissible(random: &mut Random) -> State {
     let mut state = State::zero();
     let rg = if random.one_in(2) { random.pick(&[32, 33, 254, 255]) } else { random.range(32, 255) };
@@ -80,6 +84,6 @@ pub fn spoil(random: &mut Random, case: &mut Case) {
         }
         3 => special[RA] = random.pick(&[RA_MAX + 1, RA_MAX + 2, 1 << 32, TOP_BIT, u64::MAX]),
         4 => case.state.marks |= random.pick(&[0x200, 0x400, 1 << 32, TOP_BIT]),
-        _ => case.image_len = random.pick(&[0, 1, 8, IMAGE_LEN - 8, IMAGE_LEN - 1, IMAGE_LEN + 1, IMAGE_LEN + 8]),
+        _ => case.image_len = random.pick(&WRONG_LENGTHS),
     }
 }

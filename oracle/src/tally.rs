@@ -1,7 +1,8 @@
-//! How often each opcode met each reply.
+//! How often each opcode met each reply, and how often each situation was met.
 
 use crate::case::{Call, Case};
-use crate::reference::has_arm;
+use crate::reference::{Answer, has_arm};
+use crate::situations::{self, SITUATIONS};
 
 const REPLIES: usize = 21;
 
@@ -11,24 +12,27 @@ pub struct Tally {
     exceptions: [u64; REPLIES],
     contexts: [u64; REPLIES],
     initialized: [u64; REPLIES],
+    situations: [u64; SITUATIONS.len()],
 }
 
 impl Default for Tally {
     fn default() -> Self {
         let none = [0; REPLIES];
-        Self { steps: vec![none; 256], exceptions: none, contexts: none, initialized: none }
+        let situations = [0; SITUATIONS.len()];
+        Self { steps: vec![none; 256], exceptions: none, contexts: none, initialized: none, situations }
     }
 }
 
 impl Tally {
-    pub fn count(&mut self, case: &Case, reply: u64) {
+    pub fn count(&mut self, case: &Case, answer: &Answer) {
         let row = match case.call {
             Call::Step(i) => &mut self.steps[i.op as usize],
             Call::Exceptions { .. } => &mut self.exceptions,
             Call::Context { .. } => &mut self.contexts,
             Call::Initialize => &mut self.initialized,
         };
-        row[reply as usize] += 1;
+        row[answer.reply as usize] += 1;
+        situations::count(case, answer, &mut self.situations);
     }
 
     fn rows(&self) -> impl Iterator<Item = &[u64; REPLIES]> {
@@ -40,13 +44,14 @@ impl Tally {
         for (row, more) in own.zip(other.rows()) {
             row.iter_mut().zip(more).for_each(|(a, b)| *a += b);
         }
+        self.situations.iter_mut().zip(&other.situations).for_each(|(a, b)| *a += b);
     }
 
     pub fn cases(&self) -> u64 {
         self.rows().flatten().sum()
     }
 
-    /// One line an opcode, `reply:count`, and the pairs met least.
+    /// One line an opcode, `reply:count`; the situations; the pairs met least.
     pub fn print(&self) {
         let line = |name: &str, row: &[u64; REPLIES]| {
             let met: Vec<String> =
@@ -60,6 +65,9 @@ impl Tally {
         line("context", &self.contexts);
         line("initialize", &self.initialized);
 
+        for ((name, _), n) in SITUATIONS.iter().zip(&self.situations) {
+            println!("{n:>9} {name}");
+        }
         let mut pairs: Vec<(u64, usize, usize)> = Vec::new();
         for (op, row) in self.steps.iter().enumerate() {
             pairs.extend(row.iter().enumerate().filter(|(_, n)| **n > 0).map(|(r, n)| (*n, op, r)));

@@ -78,7 +78,7 @@ pub struct Saved {
 }
 
 impl Saved {
-    /// A context at an address: whole, or with one of its three numbers wrong.
+    /// A context at an address: whole, or with some of its three numbers wrong.
     pub fn draw(random: &mut Random, packed: u64) -> Self {
         let rg = if random.one_in(2) { random.pick(&[32, 33, 254, 255]) } else { random.range(32, 255) };
         let ra = if random.one_in(4) { random.pick(&[0, RA_MAX]) } else { random.below(RA_MAX + 1) };
@@ -88,13 +88,22 @@ impl Saved {
             _ => random.range(0, rg),
         };
         let mut saved = Self { packed, rg, ra, count };
-        match random.below(9) {
-            0 => saved.rg = if random.one_in(2) { random.pick(&[0, 1, 30, 31]) } else { random.below(32) },
-            1 => saved.ra = random.pick(&[RA_MAX + 1, 1 << 18, 1 << 24, 1 << 32, 1 << 55, (1 << 56) - 1]),
-            2 => {
-                saved.count = random.pick(&[rg + 1, rg + 2, 256, 256 + rg, 256 + 5, 1 << 32, (1 << 32) + 3, 1 << 63, u64::MAX])
-            }
-            _ => {}
+        let (bad_rg, bad_ra, bad_count) = match random.below(10) {
+            0 => (true, false, false),
+            1 => (false, true, false),
+            2 => (false, false, true),
+            3 => (random.one_in(2), random.one_in(2), random.one_in(2)),
+            _ => (false, false, false),
+        };
+        if bad_rg {
+            saved.rg = if random.one_in(2) { random.pick(&[0, 1, 30, 31]) } else { random.below(32) };
+        }
+        if bad_ra {
+            saved.ra = random.pick(&[RA_MAX + 1, RA_MAX + 2, 1 << 24, 1 << 32, 1 << 55, (1 << 56) - 1]);
+        }
+        if bad_count {
+            let wide = [rg + 1, rg + 2, 256, 256 + rg, 256 + 5, 1 << 32, (1 << 32) + 3, 1 << 63, u64::MAX];
+            saved.count = random.pick(&wide);
         }
         saved
     }

@@ -62,7 +62,7 @@ impl Runner<'_> {
         }
         match compare(&mut self.reference, self.subject, case) {
             Ok(answer) => {
-                self.tally.count(case, answer.reply);
+                self.tally.count(case, &answer);
                 Some(answer)
             }
             Err(_) => {

@@ -49,8 +49,9 @@ pub fn pop(state: &State, x: u8, yz: u64, window: &Window) -> Outcome {
     let hole = window.read(below) % 256;
     let first = ro.wrapping_sub(8 * (hole + 1));
     let locals = run(first, hole.min(rg));
-    let missing = window.missing(&locals);
+    let mut missing = window.missing(&locals);
     if !missing.is_empty() {
+        missing.push(below);
         return Outcome::missing(state, missing);
     }
 
@@ -150,11 +151,10 @@ pub fn find_context(window: &Window, packed: u64) -> Result<Context, (u64, Vec<u
         return Err((15, needs));
     }
     let marker = packed.wrapping_sub(8 * (12 + (256 - rg) + 1));
+    needs.push(octabyte_of(marker));
     if !window.holds(marker) {
-        needs.push(octabyte_of(marker));
         return Err((6, needs));
     }
-    needs.push(octabyte_of(marker));
     let rl = window.read(marker);
     if rl > rg {
         return Err((16, needs));
