@@ -106,10 +106,6 @@ impl Subject for Library {
         let Instruction { op, x, y, z } = i;
         let State { general, special, pc, halt, marks } = state;
         let (general, special) = (general.as_mut_ptr(), special.as_mut_ptr());
-        unsafe {
-            mmix_step_parts(
-                base, op, x, y, z, general, special, pc, halt, *marks, lent(window), window.len(),
-            )
-        }
+        unsafe { mmix_step_parts(base, op, x, y, z, general, special, pc, halt, *marks, lent(window), window.len()) }
     }
 }

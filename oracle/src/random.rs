@@ -6,11 +6,11 @@ impl Random {
     /// A stream of its own for each round of a seed.
     pub fn new(seed: u64, round: u64) -> Self {
         let mut random = Self(seed ^ round.wrapping_mul(0xD6E8_FEB8_6659_FD93));
-        random.next();
+        random.any();
         random
     }
 
-    pub fn next(&mut self) -> u64 {
+    pub fn any(&mut self) -> u64 {
         self.0 = self.0.wrapping_add(0x9E37_79B9_7F4A_7C15);
         let mut v = self.0;
         v = (v ^ (v >> 30)).wrapping_mul(0xBF58_476D_1CE4_E5B9);
@@ -20,7 +20,7 @@ impl Random {
 
     /// Below `n`, which is not 0.
     pub fn below(&mut self, n: u64) -> u64 {
-        ((self.next() as u128 * n as u128) >> 64) as u64
+        ((self.any() as u128 * n as u128) >> 64) as u64
     }
 
     /// From `a` to `b`, both included.
@@ -38,7 +38,7 @@ impl Random {
     }
 
     pub fn byte(&mut self) -> u8 {
-        self.next() as u8
+        self.any() as u8
     }
 
     /// A byte of an instruction: any, or at a limit.
@@ -58,7 +58,7 @@ impl Random {
             2 => self.pick(&[1, 2, 1 << 63, (1 << 63) - 1, u64::MAX, u64::MAX - 1, (1 << 63) + 1]),
             3 => 0u64.wrapping_sub(self.below(300)),
             4 => 1 << self.below(64),
-            _ => self.next(),
+            _ => self.any(),
         }
     }
 }

@@ -198,7 +198,7 @@ impl Reference {
 fn judged(case: &Case) -> Option<u64> {
     let bad_state = case.image_len != IMAGE_LEN || !case.state.admissible();
     let len = case.window.len();
-    let bad_window = len % 8 != 0 || len > WINDOW_MAX || case.base % 8 != 0;
+    let bad_window = !len.is_multiple_of(8) || len > WINDOW_MAX || !case.base.is_multiple_of(8);
     match case.call {
         Call::Initialize => (case.image_len != IMAGE_LEN).then_some(1),
         Call::Exceptions { .. } => bad_state.then_some(1),

@@ -76,7 +76,7 @@ pub fn round(seed: u64, number: u64, run: &mut dyn FnMut(&Case) -> Option<Answer
         run(&exception(random))?;
     }
     run(&context(random))?;
-    run(&if number % 8 == 0 { initialize(random) } else { context(random) })?;
+    run(&if number.is_multiple_of(4) { initialize(random) } else { context(random) })?;
     chain(random, run)
 }
 
@@ -116,8 +116,8 @@ pub fn single(random: &mut Random, op: u8) -> Case {
             case
         }
         _ => {
-            let any = random.next();
-            let at = random.pick(&[state.special[RO], state.pc, any]);
+            let anywhere = random.any();
+            let at = random.pick(&[state.special[RO], state.pc, anywhere]);
             let octabytes = random.below(40);
             windowed(random, i, &state, at, octabytes)
         }

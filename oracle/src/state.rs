@@ -43,8 +43,8 @@ pub const RYY: usize = 30;
 pub const RZZ: usize = 31;
 
 pub const SPECIAL_NAMES: [&str; 32] = [
-    "rB", "rD", "rE", "rH", "rJ", "rM", "rR", "rBB", "rC", "rN", "rO", "rS", "rI", "rT", "rTT", "rK", "rQ", "rU",
-    "rV", "rG", "rL", "rA", "rF", "rP", "rW", "rX", "rY", "rZ", "rWW", "rXX", "rYY", "rZZ",
+    "rB", "rD", "rE", "rH", "rJ", "rM", "rR", "rBB", "rC", "rN", "rO", "rS", "rI", "rT", "rTT", "rK", "rQ", "rU", "rV",
+    "rG", "rL", "rA", "rF", "rP", "rW", "rX", "rY", "rZ", "rWW", "rXX", "rYY", "rZZ",
 ];
 
 #[repr(C)]
@@ -65,10 +65,7 @@ impl State {
     /// 32 ≤ rG ≤ 255, rL ≤ rG, rA ≤ 0x3FFFF, no mark bit above 8.
     pub fn admissible(&self) -> bool {
         let rg = self.special[RG];
-        (32..=255).contains(&rg)
-            && self.special[RL] <= rg
-            && self.special[RA] <= RA_MAX
-            && self.marks <= MARKS_MAX
+        (32..=255).contains(&rg) && self.special[RL] <= rg && self.special[RA] <= RA_MAX && self.marks <= MARKS_MAX
     }
 
     pub fn octabytes(&self) -> impl Iterator<Item = u64> + '_ {

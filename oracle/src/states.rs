@@ -32,12 +32,12 @@ pub fn admissible(random: &mut Random) -> State {
     }
 
     let mixed = random.one_in(2);
-    state.general.fill_with(|| if mixed { random.value() } else { random.next() });
+    state.general.fill_with(|| if mixed { random.value() } else { random.any() });
     if random.one_in(2) {
         state.general[rl as usize..rg as usize].fill(0);
     }
     state.pc = match random.below(4) {
-        0 => random.next(),
+        0 => random.any(),
         1 => random.pick(&[0, 4, u64::MAX - 3, u64::MAX, TOP_BIT - 4, TOP_BIT, 0x40000]),
         _ => 4 * random.below(1 << 20),
     };
@@ -60,7 +60,7 @@ pub fn stack_offset(random: &mut Random) -> u64 {
         3 => TOP_BIT + octabytes,
         4 => 0u64.wrapping_sub(octabytes),
         5 => octabytes,
-        6 => random.next(),
+        6 => random.any(),
         7 => STACK_START + 8 * random.range(1, 3),
         _ => STACK_START + octabytes,
     };
@@ -69,7 +69,7 @@ pub fn stack_offset(random: &mut Random) -> u64 {
 
 /// Loaded bytes of vectors that are not marked.
 pub fn partly(random: &mut Random) -> u64 {
-    if random.one_in(2) { 0 } else { random.next() & ((1 << 36) - 1) }
+    if random.one_in(2) { 0 } else { random.any() & ((1 << 36) - 1) }
 }
 
 /// Break one rule of an admissible state, or the image's length.

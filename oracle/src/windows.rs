@@ -38,7 +38,7 @@ pub fn fill(random: &mut Random, window: &mut [u8]) {
         0 => {}
         1 if octabytes <= 600 => {
             for bytes in window.chunks_exact_mut(8) {
-                bytes.copy_from_slice(&random.next().to_be_bytes());
+                bytes.copy_from_slice(&random.any().to_be_bytes());
             }
         }
         _ => {

@@ -32,16 +32,8 @@ const STAND_INS: [&str; 9] = [
 ];
 
 /// Parts of the assembler of which nothing is needed.
-const EMPTY: [&str; 8] = [
-    "diagnostics",
-    "directives",
-    "expressions",
-    "location",
-    "operands",
-    "passes",
-    "symbols",
-    "tree",
-];
+const EMPTY: [&str; 8] =
+    ["diagnostics", "directives", "expressions", "location", "operands", "passes", "symbols", "tree"];
 
 fn main() {
     println!("cargo:rerun-if-env-changed=MMIX_RUST_SRC");
@@ -65,6 +57,7 @@ fn main() {
 fn place(from: &Path, to: &Path) {
     println!("cargo:rerun-if-changed={}", from.display());
     fs::create_dir_all(to.parent().unwrap()).unwrap();
-    let text = fs::read(from).unwrap_or_else(|e| panic!("{}: {e}; MMIX_RUST_SRC names the folder of the Rust", from.display()));
+    let text = fs::read(from)
+        .unwrap_or_else(|e| panic!("{}: {e}; MMIX_RUST_SRC names the folder of the Rust", from.display()));
     fs::write(to, text).unwrap();
 }

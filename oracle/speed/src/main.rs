@@ -167,13 +167,7 @@ fn check(subject: &impl Subject, point: &Point) {
 
 /// The five columns of a point, once.
 fn measured(subject: &impl Subject, point: &Point) -> [f64; 5] {
-    [
-        rust_arm(point),
-        rust_fetched(point),
-        on_parts(subject, point),
-        on_lent(subject, point),
-        on_image(subject, point),
-    ]
+    [rust_arm(point), rust_fetched(point), on_parts(subject, point), on_lent(subject, point), on_image(subject, point)]
 }
 
 fn main() {

@@ -3,8 +3,8 @@
 //!     differential [--cases N] [--seed S] [--threads T]
 //!     differential --replay LINE
 //!
-//! Runs N drawn cases and then the sweeps, and prints how often each opcode met each reply. A case that differs is printed as one line, made small, that
-//! `--replay` runs again; the exit status is then 1.
+//! Runs N drawn cases (200,000 unless told) and then the sweeps, and prints how often each opcode met each reply.
+//! A case that differs is printed as one line, made small, that `--replay` runs again; the exit status is then 1.
 
 use std::process::ExitCode;
 use std::sync::Mutex;

@@ -32,7 +32,7 @@ fn holds(condition: u8, value: u64) -> bool {
         4 => !negative,
         5 => value != 0,
         6 => negative || value == 0,
-        _ => value % 2 == 0,
+        _ => value.is_multiple_of(2),
     }
 }
 

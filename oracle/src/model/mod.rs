@@ -89,7 +89,7 @@ fn fresh() -> State {
 
 /// The window's length is a multiple of 8 up to 65,536, its base a multiple of 8.
 fn window_rule(base: u64, len: usize) -> bool {
-    len % 8 == 0 && len <= WINDOW_MAX && base % 8 == 0
+    len.is_multiple_of(8) && len <= WINDOW_MAX && base.is_multiple_of(8)
 }
 
 /// Judge 1 and 2, then do the step.
