@@ -1,6 +1,6 @@
 //! Differential harness: the Rust register machine, unchanged, beside another one that must equal it.
 //!
-//! - `state`, `case`: a machine state with its image of bytes; one call with all that it is given, and its
+//! - `state`, `opcodes`, `case`: a machine state with its image of bytes; opcodes by name; one call with all that it is given, and its
 //!   one-line text.
 //! - `reference`: the Rust's answer to a case, with the octabytes that it touched.
 //! - `subject`: the six functions that are compared; `model` (01 as a program) and `library` (C) offer them.
@@ -12,6 +12,7 @@ pub mod compare;
 #[cfg(feature = "library")]
 pub mod library;
 pub mod model;
+pub mod opcodes;
 pub mod random;
 pub mod reference;
 pub mod rounds;

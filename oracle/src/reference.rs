@@ -13,11 +13,9 @@ use taken::mmix::{Host, MMix, SpecialReg, TrapCode};
 use taken::mmixal::Opcode;
 
 use crate::case::{Call, Case, Instruction};
+use crate::opcodes::{GET, RESUME, TRAP};
 use crate::state::{IMAGE_LEN, RG, RL, RO, State, WINDOW_MAX, octabyte};
 use crate::subject::Part;
-
-const RESUME: u8 = 0xF9;
-const GET: u8 = 0xFE;
 
 /// What the Rust leaves. The window is as before where the reply is 1 to 6.
 #[derive(Clone)]
@@ -210,7 +208,7 @@ fn judged(case: &Case) -> Option<u64> {
                 Some(2)
             } else if arms()[op as usize] == Arm::None || op == RESUME {
                 Some(3)
-            } else if op == 0 && x == 0 && TrapCode::from_u8(y).is_some() {
+            } else if op == TRAP && x == 0 && TrapCode::from_u8(y).is_some() {
                 Some(4)
             } else if op == GET && SpecialReg::from_u8(z).is_none() {
                 Some(5)

@@ -1,7 +1,10 @@
 //! Cases in rounds of `ROUND`: what a round holds is fixed, so that each opcode meets each of its replies often
 //! enough; the opcode goes on from round to round, all else is drawn.
 
+use std::sync::LazyLock;
+
 use crate::case::{Call, Case, Instruction};
+use crate::opcodes::*;
 use crate::random::Random;
 use crate::reference::{Answer, has_arm};
 use crate::state::*;
@@ -18,21 +21,70 @@ const EXCEPTIONS: u64 = 2;
 const CONTEXTS: u64 = 2;
 const CHAIN: u64 = 10;
 
-/// The opcodes of single steps; one with many ways to go stands here more than once.
-const AIMS: [u8; 84] = [
-    0x00, 0x00, 0x40, 0x41, 0x42, 0x43, 0x44, 0x45, 0x46, 0x47, 0x48, 0x49, 0x4A, 0x4B, 0x4C, 0x4D, 0x4E, 0x4F, 0x50,
-    0x51, 0x52, 0x53, 0x54, 0x55, 0x56, 0x57, 0x58, 0x59, 0x5A, 0x5B, 0x5C, 0x5D, 0x5E, 0x5F, 0x9E, 0x9F, 0xBE, 0xBE,
-    0xBF, 0xBF, 0xF0, 0xF1, 0xF2, 0xF2, 0xF3, 0xF3, 0xF4, 0xF5, 0xF6, 0xF6, 0xF6, 0xF6, 0xF6, 0xF7, 0xF7, 0xF7, 0xF7,
-    0xF8, 0xF8, 0xF8, 0xF8, 0xF8, 0xF8, 0xF8, 0xFA, 0xFA, 0xFA, 0xFA, 0xFB, 0xFB, 0xFB, 0xFB, 0xFB, 0xFB, 0xFB, 0xFC,
-    0xFC, 0xFD, 0xFE, 0xFE, 0xFE, 0xFF, 0xFF, 0xFF,
+/// The opcodes of single steps beside the branches, and how often each stands in a turn: the more ways to go, the
+/// more often.
+const AIMS: [(u8, usize); 20] = [
+    (TRAP, 2),
+    (GO, 1),
+    (GOI, 1),
+    (PUSHGO, 2),
+    (PUSHGOI, 2),
+    (JMP, 1),
+    (JMPB, 1),
+    (PUSHJ, 2),
+    (PUSHJB, 2),
+    (GETA, 1),
+    (GETAB, 1),
+    (PUT, 5),
+    (PUTI, 4),
+    (POP, 7),
+    (SAVE, 4),
+    (UNSAVE, 7),
+    (SYNC, 2),
+    (SWYM, 1),
+    (GET, 3),
+    (TRIP, 3),
 ];
 
-/// The opcodes of a chain, calls and returns first.
-const LINKS: [u8; 40] = [
-    0xF2, 0xF2, 0xF2, 0xF2, 0xF3, 0xBE, 0xBF, 0xF2, 0xF8, 0xF8, 0xF8, 0xF8, 0xF8, 0xF8, 0xF8, 0xF8, 0xFA, 0xFA, 0xFA,
-    0xFB, 0xFB, 0xFB, 0xF6, 0xF6, 0xF7, 0xF7, 0xF7, 0xF4, 0xF5, 0xF4, 0xFE, 0xFE, 0x9E, 0x9F, 0xFF, 0xFD, 0xFC, 0xF0,
-    0x42, 0x4B,
+/// The opcodes of a chain, calls and returns before all.
+const LINKS: [(u8, usize); 20] = [
+    (PUSHJ, 5),
+    (PUSHJB, 1),
+    (PUSHGO, 1),
+    (PUSHGOI, 1),
+    (POP, 8),
+    (SAVE, 3),
+    (UNSAVE, 3),
+    (PUT, 2),
+    (PUTI, 3),
+    (GETA, 2),
+    (GETAB, 1),
+    (GET, 2),
+    (GO, 1),
+    (GOI, 1),
+    (TRIP, 1),
+    (SWYM, 1),
+    (SYNC, 1),
+    (JMP, 1),
+    (BZ, 1),
+    (BNZ, 1),
 ];
+
+/// The lists drawn from: opcodes of single steps, of chains, and those without an arm.
+struct Opcodes {
+    aims: Vec<u8>,
+    links: Vec<u8>,
+    without: Vec<u8>,
+}
+
+static OPCODES: LazyLock<Opcodes> = LazyLock::new(|| {
+    let often = |weights: &[(u8, usize)]| weights.iter().flat_map(|(op, n)| vec![*op; *n]).collect::<Vec<u8>>();
+    Opcodes {
+        aims: (BN..=PBEVB).chain(often(&AIMS)).collect(),
+        links: often(&LINKS),
+        without: (0..=255).filter(|op| !has_arm(*op)).collect(),
+    }
+});
 
 /// rO just inside and just outside of what POP takes.
 const POP_LIMITS: [u64; 8] = [
@@ -63,13 +115,13 @@ pub fn round(seed: u64, number: u64, run: &mut dyn FnMut(&Case) -> Option<Answer
         windows::spoil(random, &mut case);
         run(&case)?;
     }
-    let without: Vec<u8> = (0..=255).filter(|op| !has_arm(*op)).collect();
+    let Opcodes { aims, without, .. } = &*OPCODES;
     for j in 0..NO_ARMS {
         let op = without[(place(j, NO_ARMS) % without.len() as u64) as usize];
         run(&single(random, op))?;
     }
     for j in 0..SINGLES {
-        let op = AIMS[(place(j, SINGLES) % AIMS.len() as u64) as usize];
+        let op = aims[(place(j, SINGLES) % aims.len() as u64) as usize];
         run(&single(random, op))?;
     }
     for _ in 0..EXCEPTIONS {
@@ -85,16 +137,16 @@ pub fn single(random: &mut Random, op: u8) -> Case {
     let mut state = states::admissible(random);
     let mut i = instruction(random, op, &mut state);
     let mut case = match op {
-        0xBE | 0xBF | 0xF2 | 0xF3 => {
+        PUSHGO | PUSHGOI | PUSHJ | PUSHJB => {
             let x = i.x as u64;
             let hole = if x >= state.special[RG] { state.special[RL] } else { x };
             stored(random, i, state, hole + 1)
         }
-        0xFA => {
+        SAVE => {
             let n = state.special[RL] + 270 - state.special[RG];
             stored(random, i, state, n)
         }
-        0xF8 => {
+        POP => {
             match random.below(12) {
                 0..4 => state.special[RO] = STACK_START + 8 * random.range(1, 400),
                 4 | 5 => state.special[RO] = random.pick(&POP_LIMITS),
@@ -107,7 +159,7 @@ pub fn single(random: &mut Random, op: u8) -> Case {
             windows::store(&mut case, ro.wrapping_sub(8), above | hole);
             case
         }
-        0xFB => {
+        UNSAVE => {
             let packed = if random.one_in(8) { random.below(8 * 300) } else { states::stack_offset(random) };
             let saved = Saved::draw(random, packed);
             state.general[i.z as usize] = saved.packed;
@@ -150,11 +202,11 @@ fn instruction(random: &mut Random, op: u8, state: &mut State) -> Instruction {
     };
     let (mut x, mut y, mut z) = (near(random), random.operand(), random.operand());
     match op {
-        0x00 => {
+        TRAP => {
             x = if random.one_in(2) { 0 } else { x };
             y = if random.one_in(2) { random.pick(&[0, 1, 5, 10, 11, 12, 0x7F, 0x80, 0x82, 0x83]) } else { y };
         }
-        0xF6 | 0xF7 => {
+        PUT | PUTI => {
             x = match random.below(6) {
                 0 => random.pick(&[32, 33, 64, 255, 32 + 19]),
                 1 => random.pick(&[8, 12, 13, 14, 15, 16, 17, 18]),
@@ -165,15 +217,15 @@ fn instruction(random: &mut Random, op: u8, state: &mut State) -> Instruction {
                 _ => random.below(32) as u8,
             };
             let value = put_value(random, x as usize, rg, rl);
-            if op == 0xF7 {
+            if op == PUTI {
                 z = value as u8;
             } else {
                 state.general[z as usize] = value;
             }
         }
-        0xF8 => x = if random.one_in(3) { random.pick(&[0, 1, rl, (rl + 1).min(255)]) as u8 } else { x },
-        0xFA => x = if random.one_in(5) { x } else { random.range(rg, 255) as u8 },
-        0xFC => {
+        POP => x = if random.one_in(3) { random.pick(&[0, 1, rl, (rl + 1).min(255)]) as u8 } else { x },
+        SAVE => x = if random.one_in(5) { x } else { random.range(rg, 255) as u8 },
+        SYNC => {
             let xyz = match random.below(4) {
                 0 | 1 => random.below(4),
                 2 => random.range(4, 7),
@@ -181,14 +233,14 @@ fn instruction(random: &mut Random, op: u8, state: &mut State) -> Instruction {
             };
             (x, y, z) = ((xyz >> 16) as u8, (xyz >> 8) as u8, xyz as u8);
         }
-        0xFE => {
+        GET => {
             z = match random.below(6) {
                 0 => random.pick(&[31, 32, 33, 64, 255]),
                 1 => random.pick(&[RL as u8, RL as u8, RG as u8]),
                 _ => random.below(40) as u8,
             }
         }
-        0xFF => y = if random.one_in(4) { 255 } else { y },
+        TRIP => y = if random.one_in(4) { 255 } else { y },
         _ => {}
     }
     Instruction { op, x, y, z }
@@ -235,7 +287,7 @@ pub fn exception(random: &mut Random) -> Case {
 }
 
 pub fn context(random: &mut Random) -> Case {
-    let mut case = single(random, 0xFB);
+    let mut case = single(random, UNSAVE);
     let Call::Step(i) = case.call else { unreachable!() };
     case.call = Call::Context { address: case.state.general[i.z as usize] };
     if random.one_in(16) {
@@ -280,13 +332,13 @@ fn link(random: &mut Random, state: &mut State, parked: &mut u8) -> Call {
     if random.one_in(12) {
         return exception(random).call;
     }
-    let op = if random.one_in(16) { random.byte() } else { random.pick(&LINKS) };
+    let op = if random.one_in(16) { random.byte() } else { random.pick(&OPCODES.links) };
     let mut i = instruction(random, op, &mut state.clone());
     match op {
-        0xF2 | 0xF3 | 0xBE | 0xBF if random.one_in(2) => i.x = random.below(6) as u8,
-        0xF6 => i.z = random.operand(),
-        0xFA => *parked = i.x,
-        0xFB if !random.one_in(6) => i.z = *parked,
+        PUSHGO | PUSHGOI | PUSHJ | PUSHJB if random.one_in(2) => i.x = random.below(6) as u8,
+        PUT => i.z = random.operand(),
+        SAVE => *parked = i.x,
+        UNSAVE if !random.one_in(6) => i.z = *parked,
         _ => {}
     }
     Call::Step(i)

@@ -1,6 +1,7 @@
 //! Situations inside one reply that a run has to meet: which octabyte was missing, which limit was touched.
 
 use crate::case::{Call, Case, Instruction};
+use crate::opcodes::*;
 use crate::reference::Answer;
 use crate::state::*;
 
@@ -26,7 +27,7 @@ impl Met<'_> {
 
     fn branch(&self, taken: bool) -> bool {
         let on = self.case.state.pc.wrapping_add(4);
-        self.is(&BRANCHES, 0) && (self.answer.state.pc != on) == taken
+        (BN..=PBEVB).contains(&self.i.op) && self.answer.reply == 0 && (self.answer.state.pc != on) == taken
     }
 
     fn pushed(&self) -> bool {
@@ -78,21 +79,8 @@ impl Met<'_> {
     }
 }
 
-const POP: u8 = 0xF8;
-const SAVE: u8 = 0xFA;
-const UNSAVE: u8 = 0xFB;
-const GET: u8 = 0xFE;
-const PUSHES: [u8; 4] = [0xBE, 0xBF, 0xF2, 0xF3];
-const CLAIMS: [u8; 5] = [0x9E, 0x9F, 0xF4, 0xF5, GET];
-const BRANCHES: [u8; 32] = {
-    let mut branches = [0; 32];
-    let mut k = 0;
-    while k < 32 {
-        branches[k] = 0x40 + k as u8;
-        k += 1;
-    }
-    branches
-};
+const PUSHES: [u8; 4] = [PUSHGO, PUSHGOI, PUSHJ, PUSHJB];
+const CLAIMS: [u8; 5] = [GO, GOI, GETA, GETAB, GET];
 
 type Test = fn(&Met) -> bool;
 

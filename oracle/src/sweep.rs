@@ -2,11 +2,9 @@
 //! with every X at the thresholds' limits.
 
 use crate::case::{Call, Case, Instruction};
+use crate::opcodes::{POP, PUSHJ};
 use crate::reference::Answer;
 use crate::state::*;
-
-const PUSHJ: u8 = 0xF2;
-const POP: u8 = 0xF8;
 
 pub fn exceptions(run: &mut dyn FnMut(&Case) -> Option<Answer>) -> Option<()> {
     let mut state = State::zero();

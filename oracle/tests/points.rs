@@ -2,15 +2,10 @@
 
 use oracle::case::{Call, Case, Instruction};
 use oracle::compare::compare;
+use oracle::opcodes::{BNB, POP, PUSHJ, PUT, SAVE};
 use oracle::reference::{Answer, Reference};
 use oracle::state::*;
 use oracle::subject::chosen;
-
-const PUSHJ: u8 = 0xF2;
-const PUT: u8 = 0xF6;
-const POP: u8 = 0xF8;
-const SAVE: u8 = 0xFA;
-const BNB: u8 = 0x41;
 
 /// The fresh state with all vectors loaded, and 2,048 bytes at the stack start.
 fn start() -> Case {

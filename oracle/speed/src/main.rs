@@ -12,6 +12,7 @@ use std::hint::black_box;
 use std::time::Instant;
 
 use oracle::case::Instruction;
+use oracle::opcodes::{PUT, PUTI, RESUME, TRAP};
 use oracle::state::{STACK_START, State};
 use oracle::subject::Subject;
 use points::{Point, Work, points};
@@ -82,7 +83,7 @@ fn opcode(i: &Instruction) -> Opcode {
 #[inline]
 fn enter(machine: &mut MMix, opcode: Opcode, i: &Instruction) -> bool {
     let Instruction { op, x, y, z } = *i;
-    let system = matches!(op, 0x00 | 0xF6 | 0xF7 | 0xF9..);
+    let system = matches!(op, TRAP | PUT | PUTI | RESUME..);
     if system { machine.enter_system(opcode, op, x, y, z) } else { machine.enter_control(opcode, op, x, y, z) }
 }
 

@@ -2,6 +2,7 @@
 //! return, a SAVE by its UNSAVE.
 
 use oracle::case::Instruction;
+use oracle::opcodes::*;
 use oracle::state::{MARKS_MAX, RA, RG, RL, RO, RS, STACK_START, State};
 
 pub enum Work {
@@ -41,27 +42,27 @@ fn exceptions(name: &str, enables: u64, flags: u8) -> Point {
 pub fn points() -> Vec<Point> {
     let plain = || start(32, 10);
     let mut points = vec![
-        steps("branch taken", plain(), &[[0x4A, 1, 0, 5]]),
-        steps("branch not taken", plain(), &[[0x42, 1, 0, 5]]),
-        steps("JMP", plain(), &[[0xF0, 0, 0, 5]]),
-        steps("GETA", plain(), &[[0xF4, 3, 0, 5]]),
-        steps("GO", plain(), &[[0x9F, 3, 1, 5]]),
-        steps("GET rD", plain(), &[[0xFE, 3, 0, 1]]),
-        steps("PUT rD", plain(), &[[0xF6, 1, 0, 2]]),
-        steps("PUT rG 64 + 32", start(32, 0), &[[0xF7, 19, 0, 64], [0xF7, 19, 0, 32]]),
-        steps("PUT rL", plain(), &[[0xF7, 20, 0, 10]]),
-        steps("SWYM", plain(), &[[0xFD, 0, 0, 0]]),
-        steps("TRIP", plain(), &[[0xFF, 1, 2, 3]]),
+        steps("branch taken", plain(), &[[BNZ, 1, 0, 5]]),
+        steps("branch not taken", plain(), &[[BZ, 1, 0, 5]]),
+        steps("JMP", plain(), &[[JMP, 0, 0, 5]]),
+        steps("GETA", plain(), &[[GETA, 3, 0, 5]]),
+        steps("GO", plain(), &[[GOI, 3, 1, 5]]),
+        steps("GET rD", plain(), &[[GET, 3, 0, 1]]),
+        steps("PUT rD", plain(), &[[PUT, 1, 0, 2]]),
+        steps("PUT rG 64 + 32", start(32, 0), &[[PUTI, RG as u8, 0, 64], [PUTI, RG as u8, 0, 32]]),
+        steps("PUT rL", plain(), &[[PUTI, RL as u8, 0, 10]]),
+        steps("SWYM", plain(), &[[SWYM, 0, 0, 0]]),
+        steps("TRIP", plain(), &[[TRIP, 1, 2, 3]]),
         exceptions("exception taken", 0x80, 0x80),
         exceptions("exception not taken", 0, 0x80),
     ];
     for hole in [0, 8, 31, 200] {
         let name = format!("PUSHJ + POP, H {hole}");
-        points.push(steps(&name, start(255, hole as u64), &[[0xF2, hole, 0, 5], [0xF8, 0, 0, 0]]));
+        points.push(steps(&name, start(255, hole as u64), &[[PUSHJ, hole, 0, 5], [POP, 0, 0, 0]]));
     }
     for rg in [32, 255] {
         let name = format!("SAVE + UNSAVE, rG {rg}");
-        points.push(steps(&name, start(rg, 10), &[[0xFA, 255, 0, 0], [0xFB, 0, 0, 255]]));
+        points.push(steps(&name, start(rg, 10), &[[SAVE, 255, 0, 0], [UNSAVE, 0, 0, 255]]));
     }
     points
 }

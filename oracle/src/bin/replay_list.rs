@@ -22,16 +22,18 @@ use std::process::ExitCode;
 use std::{env, fs};
 
 use oracle::case::{Call, Case, Instruction};
+use oracle::opcodes::*;
 use oracle::random::Random;
 use oracle::reference::Reference;
 use oracle::rounds::{exception, single};
 use oracle::state::{RA, RG, RL, RO, RS, State, octabyte};
 use oracle::subject::chosen;
 
-/// The opcodes of the list, in turn; those with the most ways to go stand here most often.
+/// The opcodes of the list, in turn; those with the most ways to go stand here most often. Five are branches and
+/// two have no arm.
 const OPCODES: [u8; 32] = [
-    0xF2, 0xF8, 0xFA, 0xFB, 0xF3, 0xF8, 0xBE, 0xFB, 0xF2, 0xF8, 0xBF, 0xFB, 0xF6, 0xF7, 0xFE, 0xF4, 0xF5, 0x9E, 0x9F,
-    0xF0, 0xF1, 0xFC, 0xFD, 0xFF, 0x00, 0x40, 0x43, 0x44, 0x57, 0x5D, 0x20, 0xF9,
+    PUSHJ, POP, SAVE, UNSAVE, PUSHJB, POP, PUSHGO, UNSAVE, PUSHJ, POP, PUSHGOI, UNSAVE, PUT, PUTI, GET, GETA, GETAB,
+    GO, GOI, JMP, JMPB, SYNC, SWYM, TRIP, TRAP, BN, BNB, BZ, BNZ, PBEVB, 0x20, RESUME,
 ];
 const WINDOW_PLACES: u64 = 4096;
 const FIELDS: usize = 19;
@@ -132,8 +134,8 @@ impl Start {
 /// The addresses whose octabytes decide what POP and UNSAVE do.
 fn about(case: &Case) -> Vec<u64> {
     match case.call {
-        Call::Step(Instruction { op: 0xF8, .. }) => vec![case.state.special[RO].wrapping_sub(8)],
-        Call::Step(Instruction { op: 0xFB, z, .. }) => {
+        Call::Step(Instruction { op: POP, .. }) => vec![case.state.special[RO].wrapping_sub(8)],
+        Call::Step(Instruction { op: UNSAVE, z, .. }) => {
             let packed = case.state.general[z as usize];
             let at = (packed & !7).wrapping_sub(case.base) as usize;
             let rg = case.window.get(at).copied().unwrap_or(0);

@@ -3,6 +3,7 @@
 use super::memory::Window;
 use super::{Outcome, stack};
 use crate::case::Instruction;
+use crate::opcodes::*;
 use crate::state::*;
 
 /// The values of Y that name a system call of TRAP.
@@ -45,36 +46,36 @@ pub fn step(state: &State, i: Instruction, window: &Window) -> Outcome {
     let backward = op % 2 == 1;
     let second = if op % 2 == 1 { z as u64 } else { register(z) };
     match op {
-        0x00 => trap(state, i),
-        0x40..=0x5F => {
+        TRAP => trap(state, i),
+        BN..=PBEVB => {
             let taken = holds(op / 2 % 8, register(x));
             let pc = if taken { target(state, yz, 16, backward) } else { state.pc.wrapping_add(4) };
             Outcome::done(state.clone().go_to(pc))
         }
-        0x9E | 0x9F => {
+        GO | GOI => {
             let mut after = state.clone();
             after.write_register(x, state.pc.wrapping_add(4));
             Outcome::done(after.go_to(register(y).wrapping_add(second)))
         }
-        0xBE | 0xBF => stack::push(state, x, register(y).wrapping_add(second), window),
-        0xF0 | 0xF1 => Outcome::done(state.clone().go_to(target(state, xyz, 24, backward))),
-        0xF2 | 0xF3 => stack::push(state, x, target(state, yz, 16, backward), window),
-        0xF4 | 0xF5 => {
+        PUSHGO | PUSHGOI => stack::push(state, x, register(y).wrapping_add(second), window),
+        JMP | JMPB => Outcome::done(state.clone().go_to(target(state, xyz, 24, backward))),
+        PUSHJ | PUSHJB => stack::push(state, x, target(state, yz, 16, backward), window),
+        GETA | GETAB => {
             let mut after = state.clone();
             after.write_register(x, target(state, yz, 16, backward));
             Outcome::done(after.go_on())
         }
-        0xF6 | 0xF7 => put(state, x as usize, second),
-        0xF8 => stack::pop(state, x, yz, window),
-        0xFA => stack::save(state, x, window),
-        0xFB => stack::unsave(state, register(z), window),
-        0xFC => match xyz {
+        PUT | PUTI => put(state, x as usize, second),
+        POP => stack::pop(state, x, yz, window),
+        SAVE => stack::save(state, x, window),
+        UNSAVE => stack::unsave(state, register(z), window),
+        SYNC => match xyz {
             0..=3 => Outcome::done(state.clone().go_on()),
             4..=7 => Outcome::refused(17, state),
             _ => Outcome::refused(18, state),
         },
-        0xFD => Outcome::done(state.clone().go_on()),
-        0xFE => {
+        SWYM => Outcome::done(state.clone().go_on()),
+        GET => {
             if z > 31 {
                 return Outcome::refused(5, state);
             }
@@ -82,7 +83,7 @@ pub fn step(state: &State, i: Instruction, window: &Window) -> Outcome {
             after.write_register(x, state.special[z as usize]);
             Outcome::done(after.go_on())
         }
-        0xFF => trip(state.clone(), 0, i, register(y), register(z)),
+        TRIP => trip(state.clone(), 0, i, register(y), register(z)),
         _ => Outcome::refused(3, state),
     }
 }
