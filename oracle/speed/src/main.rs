@@ -1,0 +1,196 @@
+//! How long the Rust's arms take, and the subject's entries beside them: nanoseconds, the least of many repeats.
+//!
+//!     speed [TEXT]      only the points whose name holds TEXT
+//!
+//! The subject is the proved library with the feature `library`, else the model. Columns: the Rust's arm in place;
+//! the same instruction fetched from the Rust's memory and decoded; the subject's step on parts, on a lent state
+//! and on an image. A point of two instructions has the sum of both.
+
+mod points;
+
+use std::hint::black_box;
+use std::time::Instant;
+
+use oracle::case::Instruction;
+use oracle::opcodes::{PUT, PUTI, RESUME, TRAP};
+use oracle::state::{STACK_START, State};
+use oracle::subject::Subject;
+use points::{Point, Work, points};
+use taken_plain::mmix::{Host, MMix};
+use taken_plain::mmixal::Opcode;
+
+#[cfg(feature = "library")]
+const SUBJECT: (&str, oracle::library::Library) = ("library", oracle::library::Library);
+#[cfg(not(feature = "library"))]
+const SUBJECT: (&str, oracle::model::Model) = ("model", oracle::model::Model);
+
+/// The whole table is measured so often, each time with so many repeats: a slow spell meets all columns alike.
+const PASSES: usize = 6;
+const REPEATS: usize = 80;
+const WINDOW_LEN: usize = 8192;
+const CODE_START: u64 = 0x1000;
+
+struct Silent;
+
+impl Host for Silent {
+    fn write(&mut self, _fd: u8, _bytes: &[u8]) -> std::io::Result<()> {
+        Ok(())
+    }
+
+    fn now_micros(&mut self) -> u64 {
+        0
+    }
+
+    fn diagnostic(&mut self, _message: &str) {}
+}
+
+/// The least time of one call, in nanoseconds.
+fn least(mut f: impl FnMut()) -> f64 {
+    const TRIAL: u64 = 32;
+    (0..TRIAL).for_each(|_| f());
+    let began = Instant::now();
+    (0..TRIAL).for_each(|_| f());
+    let calls = (50_000 * TRIAL / began.elapsed().as_nanos().max(1) as u64).clamp(1, 10_000);
+    let times = (0..REPEATS).map(|_| {
+        let began = Instant::now();
+        for _ in 0..calls {
+            f();
+        }
+        began.elapsed().as_nanos() as f64 / calls as f64
+    });
+    times.fold(f64::INFINITY, f64::min)
+}
+
+/// The Rust's machine at a point, its instructions in memory at `CODE_START`.
+fn machine(point: &Point) -> MMix {
+    let mut machine = MMix::with_host(Silent);
+    let State { general, special, pc, halt, .. } = &point.state;
+    machine.place(general, special, *pc, *halt);
+    machine.place_loaded((0..9).flat_map(|k| 16 * k..16 * k + 4));
+    if let Work::Steps(code) = &point.work {
+        for (k, i) in code.iter().enumerate() {
+            machine.write_tetra(CODE_START + 4 * k as u64, u32::from_be_bytes([i.op, i.x, i.y, i.z]));
+        }
+    }
+    machine
+}
+
+fn opcode(i: &Instruction) -> Opcode {
+    Opcode::try_from(i.op).expect("every byte names an opcode")
+}
+
+/// The arm of a decoded instruction.
+#[inline]
+fn enter(machine: &mut MMix, opcode: Opcode, i: &Instruction) -> bool {
+    let Instruction { op, x, y, z } = *i;
+    let system = matches!(op, TRAP | PUT | PUTI | RESUME..);
+    if system { machine.enter_system(opcode, op, x, y, z) } else { machine.enter_control(opcode, op, x, y, z) }
+}
+
+fn rust_arm(point: &Point) -> f64 {
+    let mut machine = machine(point);
+    match &point.work {
+        Work::Steps(code) => {
+            let decoded: Vec<(Opcode, Instruction)> = code.iter().map(|i| (opcode(i), *i)).collect();
+            least(|| {
+                for (opcode, i) in &decoded {
+                    black_box(enter(&mut machine, *opcode, i));
+                }
+            })
+        }
+        Work::Exceptions(flags) => least(|| {
+            machine.place_ra(point.state.special[oracle::state::RA]);
+            black_box(machine.enter_exceptions(black_box(*flags), 0x20, 1, 2, 3, 7, 9));
+        }),
+    }
+}
+
+fn rust_fetched(point: &Point) -> f64 {
+    let Work::Steps(code) = &point.work else { return f64::INFINITY };
+    let mut machine = machine(point);
+    least(|| {
+        for k in 0..code.len() as u64 {
+            machine.set_pc(black_box(CODE_START + 4 * k));
+            black_box(machine.execute_instruction());
+        }
+    })
+}
+
+fn on_parts(subject: &impl Subject, point: &Point) -> f64 {
+    let Work::Steps(code) = &point.work else { return f64::INFINITY };
+    let (mut state, mut window) = (point.state.clone(), vec![0; WINDOW_LEN]);
+    least(|| {
+        for i in code {
+            black_box(subject.step_parts(STACK_START, *i, &mut state, &mut window));
+        }
+    })
+}
+
+fn on_lent(subject: &impl Subject, point: &Point) -> f64 {
+    let Work::Steps(code) = &point.work else { return f64::INFINITY };
+    let (mut state, mut window) = (point.state.clone(), vec![0; WINDOW_LEN]);
+    least(|| {
+        for i in code {
+            black_box(subject.step_lent(STACK_START, *i, &mut state, &mut window));
+        }
+    })
+}
+
+fn on_image(subject: &impl Subject, point: &Point) -> f64 {
+    let (mut image, mut window) = (point.state.image(), vec![0; WINDOW_LEN]);
+    match &point.work {
+        Work::Steps(code) => least(|| {
+            for i in code {
+                black_box(subject.step(STACK_START, *i, &mut image, &mut window));
+            }
+        }),
+        Work::Exceptions(flags) => {
+            let of = Instruction { op: 0x20, x: 1, y: 2, z: 3 };
+            least(|| {
+                black_box(subject.exceptions(black_box(*flags), of, 7, 9, &mut image));
+            })
+        }
+    }
+}
+
+/// After one round the Rust and the subject agree, and every instruction was done.
+fn check(subject: &impl Subject, point: &Point) {
+    let mut machine = machine(point);
+    let (mut state, mut window) = (point.state.clone(), vec![0; WINDOW_LEN]);
+    let Work::Steps(code) = &point.work else { return };
+    for i in code {
+        let goes_on = enter(&mut machine, opcode(i), i);
+        let reply = subject.step_lent(STACK_START, *i, &mut state, &mut window);
+        assert!(goes_on && reply == 0, "{}: {i:?} is refused", point.name);
+    }
+    assert!(machine.general() == &state.general && machine.special() == &state.special, "{}: differs", point.name);
+}
+
+/// The five columns of a point, once.
+fn measured(subject: &impl Subject, point: &Point) -> [f64; 5] {
+    [rust_arm(point), rust_fetched(point), on_parts(subject, point), on_lent(subject, point), on_image(subject, point)]
+}
+
+fn main() {
+    let only = std::env::args().nth(1).unwrap_or_default();
+    let (name, subject) = SUBJECT;
+    let points: Vec<Point> = points().into_iter().filter(|p| p.name.contains(&only)).collect();
+    points.iter().for_each(|point| check(&subject, point));
+
+    let (from, mut to) = (State::zero().image(), State::zero().image());
+    let mut copy = f64::INFINITY;
+    let mut table = vec![[f64::INFINITY; 5]; points.len()];
+    for _ in 0..PASSES {
+        copy = copy.min(least(|| black_box(&mut to).copy_from_slice(black_box(&from))));
+        for (row, point) in table.iter_mut().zip(&points) {
+            row.iter_mut().zip(measured(&subject, point)).for_each(|(old, new)| *old = old.min(new));
+        }
+    }
+
+    println!("nanoseconds, the least of {PASSES} x {REPEATS}; memcpy of an image {copy:.1}; subject: {name}");
+    println!("{:<26}{:>10}{:>10}{:>10}{:>10}{:>10}", "point", "arm", "fetched", "parts", "lent", "image");
+    for (row, point) in table.iter().zip(&points) {
+        let columns = row.map(|t| if t.is_finite() { format!("{t:>10.1}") } else { format!("{:>10}", "-") });
+        println!("{:<26}{}", point.name, columns.concat());
+    }
+}

@@ -1,0 +1,68 @@
+//! What is measured. Each point leaves the machine so that it can be run again: a call is followed by its
+//! return, a SAVE by its UNSAVE.
+
+use oracle::case::Instruction;
+use oracle::opcodes::*;
+use oracle::state::{MARKS_MAX, RA, RG, RL, RO, RS, STACK_START, State};
+
+pub enum Work {
+    Steps(Vec<Instruction>),
+    Exceptions(u8),
+}
+
+pub struct Point {
+    pub name: String,
+    pub state: State,
+    pub work: Work,
+}
+
+fn start(rg: u64, rl: u64) -> State {
+    let mut state = State::zero();
+    state.special[RG] = rg;
+    state.special[RL] = rl;
+    state.special[RO] = STACK_START;
+    state.special[RS] = STACK_START;
+    state.marks = MARKS_MAX;
+    state.pc = 0x1_0000_0000;
+    (0..rl as usize).chain(rg as usize..256).for_each(|k| state.general[k] = k as u64 + 1);
+    state
+}
+
+fn steps(name: &str, state: State, code: &[[u8; 4]]) -> Point {
+    let code = code.iter().map(|&[op, x, y, z]| Instruction { op, x, y, z }).collect();
+    Point { name: name.to_string(), state, work: Work::Steps(code) }
+}
+
+fn exceptions(name: &str, enables: u64, flags: u8) -> Point {
+    let mut state = start(32, 10);
+    state.special[RA] = enables << 8;
+    Point { name: name.to_string(), state, work: Work::Exceptions(flags) }
+}
+
+pub fn points() -> Vec<Point> {
+    let plain = || start(32, 10);
+    let mut points = vec![
+        steps("branch taken", plain(), &[[BNZ, 1, 0, 5]]),
+        steps("branch not taken", plain(), &[[BZ, 1, 0, 5]]),
+        steps("JMP", plain(), &[[JMP, 0, 0, 5]]),
+        steps("GETA", plain(), &[[GETA, 3, 0, 5]]),
+        steps("GO", plain(), &[[GOI, 3, 1, 5]]),
+        steps("GET rD", plain(), &[[GET, 3, 0, 1]]),
+        steps("PUT rD", plain(), &[[PUT, 1, 0, 2]]),
+        steps("PUT rG 64 + 32", start(32, 0), &[[PUTI, RG as u8, 0, 64], [PUTI, RG as u8, 0, 32]]),
+        steps("PUT rL", plain(), &[[PUTI, RL as u8, 0, 10]]),
+        steps("SWYM", plain(), &[[SWYM, 0, 0, 0]]),
+        steps("TRIP", plain(), &[[TRIP, 1, 2, 3]]),
+        exceptions("exception taken", 0x80, 0x80),
+        exceptions("exception not taken", 0, 0x80),
+    ];
+    for hole in [0, 8, 31, 200] {
+        let name = format!("PUSHJ + POP, H {hole}");
+        points.push(steps(&name, start(255, hole as u64), &[[PUSHJ, hole, 0, 5], [POP, 0, 0, 0]]));
+    }
+    for rg in [32, 255] {
+        let name = format!("SAVE + UNSAVE, rG {rg}");
+        points.push(steps(&name, start(rg, 10), &[[SAVE, 255, 0, 0], [UNSAVE, 0, 0, 255]]));
+    }
+    points
+}

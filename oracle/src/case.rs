@@ -1,0 +1,191 @@
+//! One call with everything it is given, and its text of one line.
+//!
+//! The line is the call's name and then fields `name=value` in hexadecimal: op x y z, flags yv zv (exceptions),
+//! address (context), base, len (of the window), image (length of the image), pc, halt, marks, partly,
+//! g and s (registers that are not zero, `number:value`), w (octabytes of the window that are not zero,
+//! `offset:bytes`). What is left out is zero; `image` left out is 2,328 bytes.
+
+use std::fmt::{self, Display, Write};
+
+use crate::state::{IMAGE_LEN, State};
+
+#[derive(Clone, Copy, PartialEq, Eq, Debug)]
+pub struct Instruction {
+    pub op: u8,
+    pub x: u8,
+    pub y: u8,
+    pub z: u8,
+}
+
+#[derive(Clone, Copy, PartialEq, Eq, Debug)]
+pub enum Call {
+    Initialize,
+    Step(Instruction),
+    Exceptions { flags: u8, of: Instruction, y_val: u64, z_val: u64 },
+    Context { address: u64 },
+}
+
+#[derive(Clone, PartialEq, Eq, Debug)]
+pub struct Case {
+    pub call: Call,
+    pub state: State,
+    pub image_len: usize,
+    /// Bit 4k + j: byte j of the vector at 16 × k was loaded though bit k of the marks is not set.
+    pub partly: u64,
+    pub base: u64,
+    pub window: Vec<u8>,
+}
+
+impl Case {
+    pub fn new(call: Call, state: State, base: u64, window: Vec<u8>) -> Self {
+        Self { call, state, image_len: IMAGE_LEN, partly: 0, base, window }
+    }
+
+    /// The image as lent: cut or lengthened where its length is wrong.
+    pub fn image(&self) -> Vec<u8> {
+        let mut image = self.state.image().to_vec();
+        image.resize(self.image_len, 0xA5);
+        image
+    }
+
+    /// The loaded addresses: all four bytes of a marked vector, at most three of another one.
+    pub fn loaded(&self) -> impl Iterator<Item = u64> + '_ {
+        (0..9u64).flat_map(move |k| {
+            let some = (self.partly >> (4 * k)) & 15;
+            let bytes = if self.state.marks >> k & 1 == 1 { 15 } else { some & !(((some == 15) as u64) << 3) };
+            (0..4).filter(move |j| bytes >> j & 1 == 1).map(move |j| 16 * k + j)
+        })
+    }
+}
+
+impl Display for Case {
+    fn fmt(&self, f: &mut fmt::Formatter<'_>) -> fmt::Result {
+        let mut line = String::new();
+        let field = |line: &mut String, name: &str, value: u64| {
+            if value != 0 {
+                write!(line, " {name}={value:x}").unwrap();
+            }
+        };
+        let instruction = |line: &mut String, i: &Instruction| {
+            write!(line, " op={:x} x={:x} y={:x} z={:x}", i.op, i.x, i.y, i.z).unwrap();
+        };
+        match &self.call {
+            Call::Initialize => line += "initialize",
+            Call::Step(i) => {
+                line += "step";
+                instruction(&mut line, i);
+            }
+            Call::Exceptions { flags, of, y_val, z_val } => {
+                line += "exceptions";
+                instruction(&mut line, of);
+                field(&mut line, "flags", *flags as u64);
+                field(&mut line, "yv", *y_val);
+                field(&mut line, "zv", *z_val);
+            }
+            Call::Context { address } => {
+                line += "context";
+                field(&mut line, "address", *address);
+            }
+        }
+        field(&mut line, "base", self.base);
+        field(&mut line, "len", self.window.len() as u64);
+        if self.image_len != IMAGE_LEN {
+            write!(line, " image={:x}", self.image_len)?;
+        }
+        field(&mut line, "pc", self.state.pc);
+        field(&mut line, "halt", self.state.halt);
+        field(&mut line, "marks", self.state.marks);
+        field(&mut line, "partly", self.partly);
+        for (name, registers) in [("g", &self.state.general[..]), ("s", &self.state.special[..])] {
+            let set: Vec<String> =
+                registers.iter().enumerate().filter(|(_, v)| **v != 0).map(|(k, v)| format!("{k:x}:{v:x}")).collect();
+            if !set.is_empty() {
+                write!(line, " {name}={}", set.join(","))?;
+            }
+        }
+        let set: Vec<String> = (self.window.chunks(8).enumerate())
+            .filter(|(_, bytes)| bytes.iter().any(|b| *b != 0))
+            .map(|(k, bytes)| {
+                let digits: String = bytes.iter().map(|b| format!("{b:02x}")).collect();
+                format!("{:x}:{digits}", 8 * k)
+            })
+            .collect();
+        if !set.is_empty() {
+            write!(line, " w={}", set.join(","))?;
+        }
+        f.write_str(&line)
+    }
+}
+
+/// Read a line back.
+pub fn parse(line: &str) -> Result<Case, String> {
+    let mut words = line.split_whitespace();
+    let name = words.next().ok_or("an empty line")?;
+    let mut case = Case::new(Call::Initialize, State::zero(), 0, Vec::new());
+    let mut i = Instruction { op: 0, x: 0, y: 0, z: 0 };
+    let (mut flags, mut y_val, mut z_val, mut address) = (0, 0, 0, 0);
+    for word in words {
+        let (field, text) = word.split_once('=').ok_or_else(|| format!("no field: {word}"))?;
+        let value = || number(text);
+        match field {
+            "op" => i.op = value()? as u8,
+            "x" => i.x = value()? as u8,
+            "y" => i.y = value()? as u8,
+            "z" => i.z = value()? as u8,
+            "flags" => flags = value()? as u8,
+            "yv" => y_val = value()?,
+            "zv" => z_val = value()?,
+            "address" => address = value()?,
+            "base" => case.base = value()?,
+            "len" => case.window.resize(value()? as usize, 0),
+            "image" => case.image_len = value()? as usize,
+            "pc" => case.state.pc = value()?,
+            "halt" => case.state.halt = value()?,
+            "marks" => case.state.marks = value()?,
+            "partly" => case.partly = value()?,
+            "g" => registers(text, &mut case.state.general)?,
+            "s" => registers(text, &mut case.state.special)?,
+            "w" => bytes(text, &mut case.window)?,
+            _ => return Err(format!("no such field: {word}")),
+        }
+    }
+    case.call = match name {
+        "initialize" => Call::Initialize,
+        "step" => Call::Step(i),
+        "exceptions" => Call::Exceptions { flags, of: i, y_val, z_val },
+        "context" => Call::Context { address },
+        _ => return Err(format!("no such call: {name}")),
+    };
+    Ok(case)
+}
+
+fn number(text: &str) -> Result<u64, String> {
+    u64::from_str_radix(text, 16).map_err(|e| format!("{text}: {e}"))
+}
+
+fn pairs(text: &str) -> impl Iterator<Item = Result<(usize, &str), String>> {
+    text.split(',').map(|pair| {
+        let (at, value) = pair.split_once(':').ok_or_else(|| format!("no pair: {pair}"))?;
+        Ok((number(at)? as usize, value))
+    })
+}
+
+fn registers(text: &str, into: &mut [u64]) -> Result<(), String> {
+    for pair in pairs(text) {
+        let (at, value) = pair?;
+        *into.get_mut(at).ok_or_else(|| format!("no register {at}"))? = number(value)?;
+    }
+    Ok(())
+}
+
+/// The field `len` stands before this one.
+fn bytes(text: &str, into: &mut [u8]) -> Result<(), String> {
+    for pair in pairs(text) {
+        let (at, digits) = pair?;
+        for k in 0..digits.len() / 2 {
+            let byte = into.get_mut(at + k).ok_or_else(|| format!("no byte {at}"))?;
+            *byte = number(&digits[2 * k..2 * k + 2])? as u8;
+        }
+    }
+    Ok(())
+}

@@ -1,0 +1,120 @@
+//! One case on both sides. Every entry of the subject that takes the case must give the Rust's reply, state
+//! and window to the last byte.
+
+use crate::case::{Call, Case};
+use crate::reference::{Answer, Reference};
+use crate::state::{IMAGE_LEN, State};
+use crate::subject::Subject;
+
+/// The Rust's answer, or in words how the two sides differ.
+pub fn compare(reference: &mut Reference, subject: &dyn Subject, case: &Case) -> Result<Answer, String> {
+    let answer = reference.answer(case)?;
+    match case.call {
+        Call::Initialize => initialize(subject, case, &answer)?,
+        Call::Step(_) => step(subject, case, &answer)?,
+        Call::Exceptions { .. } => exceptions(subject, case, &answer)?,
+        Call::Context { .. } => context(subject, case, &answer)?,
+    }
+    Ok(answer)
+}
+
+fn initialize(subject: &dyn Subject, case: &Case, answer: &Answer) -> Result<(), String> {
+    let mut image = case.image();
+    let reply = subject.initialize(&mut image);
+    same_image("mmix_initialize", case, answer, reply, &image)
+}
+
+fn exceptions(subject: &dyn Subject, case: &Case, answer: &Answer) -> Result<(), String> {
+    let Call::Exceptions { flags, of, y_val, z_val } = case.call else { unreachable!() };
+    let mut image = case.image();
+    let reply = subject.exceptions(flags, of, y_val, z_val, &mut image);
+    same_image("mmix_exceptions", case, answer, reply, &image)?;
+    if !answer.touched.is_empty() {
+        return Err(format!("an exception touches {:x?}", answer.touched));
+    }
+    Ok(())
+}
+
+fn context(subject: &dyn Subject, case: &Case, answer: &Answer) -> Result<(), String> {
+    let Call::Context { address } = case.call else { unreachable!() };
+    let found = subject.context(case.base, address, &case.window);
+    let expected = answer.part;
+    let same = found.reply == expected.reply
+        && found.length == expected.length
+        && (found.length == 0 || found.start == expected.start);
+    if same { Ok(()) } else { Err(format!("mmix_context: {expected:?} against {found:?}")) }
+}
+
+fn step(subject: &dyn Subject, case: &Case, answer: &Answer) -> Result<(), String> {
+    let Call::Step(i) = case.call else { unreachable!() };
+    let (mut image, mut window) = (case.image(), case.window.clone());
+    let reply = subject.step(case.base, i, &mut image, &mut window);
+    same_image("mmix_step", case, answer, reply, &image)?;
+    same_window("mmix_step", answer, &window)?;
+    if case.image_len != IMAGE_LEN {
+        return Ok(());
+    }
+
+    let (mut state, mut window) = (case.state.clone(), case.window.clone());
+    let reply = subject.step_lent(case.base, i, &mut state, &mut window);
+    same_state("mmix_step_lent", answer, reply, &state)?;
+    same_window("mmix_step_lent", answer, &window)?;
+
+    let (mut state, mut window) = (case.state.clone(), case.window.clone());
+    let reply = subject.step_parts(case.base, i, &mut state, &mut window);
+    same_state("mmix_step_parts", answer, reply, &state)?;
+    same_window("mmix_step_parts", answer, &window)?;
+
+    match subject.needs(case.base, i, &case.state, &case.window) {
+        Some(needs) => same_needs(case, answer, needs),
+        None => Ok(()),
+    }
+}
+
+fn same_image(entry: &str, case: &Case, answer: &Answer, reply: u64, image: &[u8]) -> Result<(), String> {
+    if case.image_len == IMAGE_LEN {
+        return same_state(entry, answer, reply, &State::of_image(image));
+    }
+    if reply != answer.reply {
+        return Err(format!("{entry}: reply {} against {reply}", answer.reply));
+    }
+    if image != case.image() {
+        return Err(format!("{entry}: an image of a wrong length is changed"));
+    }
+    Ok(())
+}
+
+fn same_state(entry: &str, answer: &Answer, reply: u64, state: &State) -> Result<(), String> {
+    if reply != answer.reply {
+        return Err(format!("{entry}: reply {} against {reply}", answer.reply));
+    }
+    match answer.state.difference(state) {
+        Some(difference) => Err(format!("{entry}: reply {reply}, {difference}")),
+        None => Ok(()),
+    }
+}
+
+fn same_window(entry: &str, answer: &Answer, window: &[u8]) -> Result<(), String> {
+    if answer.window == window {
+        return Ok(());
+    }
+    let at = answer.window.iter().zip(window).position(|(a, b)| a != b).unwrap_or(0);
+    let (a, b) = (answer.window[at], window[at]);
+    Err(format!("{entry}: reply {}, byte {at} of the window {a:#x} against {b:#x}", answer.reply))
+}
+
+/// Where all is inside, the needs are what the Rust touches. Where 6 is given, what was touched inside may go
+/// on with what was not there, so the needs are among the touched and one of them is missing.
+fn same_needs(case: &Case, answer: &Answer, mut needs: Vec<u64>) -> Result<(), String> {
+    needs.sort_unstable();
+    let outside = |a: &u64| a.wrapping_sub(case.base) >= case.window.len() as u64;
+    let fits = if answer.reply == 6 {
+        needs.iter().all(|a| answer.touched.binary_search(a).is_ok()) && needs.iter().any(outside)
+    } else {
+        needs == answer.touched
+    };
+    if fits {
+        return Ok(());
+    }
+    Err(format!("needs: reply {}, touched {:x?} against {needs:x?}", answer.reply, answer.touched))
+}

@@ -1,0 +1,26 @@
+//! Differential harness: the Rust register machine, unchanged, beside another one that must equal it.
+//!
+//! - `state`, `opcodes`, `case`: a machine state with its image of bytes; opcodes by name; one call with all that it is given, and its
+//!   one-line text.
+//! - `reference`: the Rust's answer to a case, with the octabytes that it touched.
+//! - `subject`: the six functions that are compared; `model` (01 as a program) and `library` (C) offer them.
+//! - `compare`: one case on both sides. `shrink`: a smaller case that still differs.
+//! - `random`, `states`, `windows`, `rounds`, `sweep`: the cases. `tally`, `situations`: the counts.
+
+pub mod case;
+pub mod compare;
+#[cfg(feature = "library")]
+pub mod library;
+pub mod model;
+pub mod opcodes;
+pub mod random;
+pub mod reference;
+pub mod rounds;
+pub mod shrink;
+pub mod situations;
+pub mod state;
+pub mod states;
+pub mod subject;
+pub mod sweep;
+pub mod tally;
+pub mod windows;

@@ -1,0 +1,176 @@
+//! Document 01 as a program, written from its sentences and not from the Rust. This file has the entries and
+//! what they judge; `memory` the window, `stack` frames and contexts, `arms` the other steps.
+
+mod arms;
+mod memory;
+mod stack;
+
+use crate::case::Instruction;
+use crate::state::{IMAGE_LEN, RG, RK, RL, RN, RO, RS, RT, RTT, RV, STACK_START, State, WINDOW_MAX};
+use crate::subject::{Part, Subject};
+use memory::Window;
+
+/// What a step leaves: the reply, the state, the octabytes stored (address and value) and those needed.
+struct Outcome {
+    reply: u64,
+    state: State,
+    stores: Vec<(u64, u64)>,
+    needs: Vec<u64>,
+}
+
+impl Outcome {
+    /// Done, with no octabyte of memory in play.
+    fn done(state: State) -> Self {
+        Self { reply: 0, state, stores: Vec::new(), needs: Vec::new() }
+    }
+
+    /// Numbers 1 to 6 change nothing, 7 to 18 set the halt code to 1.
+    fn refused(reply: u64, state: &State) -> Self {
+        let mut state = state.clone();
+        if reply > 6 {
+            state.halt = 1;
+        }
+        Self { reply, state, stores: Vec::new(), needs: Vec::new() }
+    }
+
+    /// 19 and 20: the registers are set and the halt code is 1.
+    fn halted(reply: u64, mut state: State) -> Self {
+        state.halt = 1;
+        Self { reply, state, stores: Vec::new(), needs: Vec::new() }
+    }
+
+    /// A needed octabyte lies outside the window: 6.
+    fn missing(state: &State, needs: Vec<u64>) -> Self {
+        Self { needs, ..Self::refused(6, state) }
+    }
+
+    fn with_needs(self, needs: Vec<u64>) -> Self {
+        Self { needs, ..self }
+    }
+}
+
+impl State {
+    /// Write $X: a marginal register is claimed first.
+    fn write_register(&mut self, x: u8, value: u64) {
+        let (rl, rg, at) = (self.special[RL], self.special[RG], x as u64);
+        if rl <= at && at < rg {
+            self.general[rl as usize..=at as usize].fill(0);
+            self.special[RL] = at + 1;
+        }
+        self.general[x as usize] = value;
+    }
+
+    fn go_to(mut self, pc: u64) -> Self {
+        self.pc = pc;
+        self
+    }
+
+    /// Any step not said to go elsewhere goes to @ + 4.
+    fn go_on(self) -> Self {
+        let pc = self.pc.wrapping_add(4);
+        self.go_to(pc)
+    }
+}
+
+/// The fresh state.
+fn fresh() -> State {
+    let mut state = State::zero();
+    state.special[RG] = 32;
+    state.special[RL] = 0;
+    state.special[RO] = STACK_START;
+    state.special[RS] = STACK_START;
+    state.special[RN] = 2009;
+    state.special[RK] = u64::MAX;
+    state.special[RT] = 0x8000_0005_0000_0000;
+    state.special[RTT] = 0x8000_0006_0000_0000;
+    state.special[RV] = 0x369C_2004_0000_0000;
+    state
+}
+
+/// The window's length is a multiple of 8 up to 65,536, its base a multiple of 8.
+fn window_rule(base: u64, len: usize) -> bool {
+    len.is_multiple_of(8) && len <= WINDOW_MAX && base.is_multiple_of(8)
+}
+
+/// Judge 1 and 2, then do the step.
+fn step(base: u64, i: Instruction, state: &State, bytes: &[u8]) -> Outcome {
+    if !state.admissible() {
+        return Outcome::refused(1, state);
+    }
+    if !window_rule(base, bytes.len()) {
+        return Outcome::refused(2, state);
+    }
+    arms::step(state, i, &Window { base, bytes })
+}
+
+/// Put the stores of a step into the window.
+fn apply(base: u64, stores: &[(u64, u64)], bytes: &mut [u8]) {
+    for &(address, value) in stores {
+        let at = memory::offset(base, address) as usize;
+        bytes[at..at + 8].copy_from_slice(&value.to_be_bytes());
+    }
+}
+
+pub struct Model;
+
+impl Subject for Model {
+    fn initialize(&self, image: &mut [u8]) -> u64 {
+        if image.len() != IMAGE_LEN {
+            return 1;
+        }
+        image.copy_from_slice(&fresh().image());
+        0
+    }
+
+    fn step(&self, base: u64, i: Instruction, image: &mut [u8], window: &mut [u8]) -> u64 {
+        if image.len() != IMAGE_LEN {
+            return 1;
+        }
+        let mut state = State::of_image(image);
+        let reply = self.step_lent(base, i, &mut state, window);
+        image.copy_from_slice(&state.image());
+        reply
+    }
+
+    fn exceptions(&self, flags: u8, of: Instruction, y_val: u64, z_val: u64, image: &mut [u8]) -> u64 {
+        if image.len() != IMAGE_LEN {
+            return 1;
+        }
+        let state = State::of_image(image);
+        if !state.admissible() {
+            return 1;
+        }
+        let outcome = arms::exceptions(&state, flags, of, y_val, z_val);
+        image.copy_from_slice(&outcome.state.image());
+        outcome.reply
+    }
+
+    fn context(&self, base: u64, address: u64, window: &[u8]) -> Part {
+        let empty = |reply| Part { reply, start: 0, length: 0 };
+        if !window_rule(base, window.len()) {
+            return empty(2);
+        }
+        match stack::find_context(&Window { base, bytes: window }, address) {
+            Err((reply, _)) => empty(reply),
+            Ok(context) => {
+                let start = memory::offset(base, context.first()) as usize;
+                Part { reply: 0, start, length: 8 * context.octabytes() as usize }
+            }
+        }
+    }
+
+    fn step_lent(&self, base: u64, i: Instruction, state: &mut State, window: &mut [u8]) -> u64 {
+        let outcome = step(base, i, state, window);
+        *state = outcome.state;
+        apply(base, &outcome.stores, window);
+        outcome.reply
+    }
+
+    fn step_parts(&self, base: u64, i: Instruction, state: &mut State, window: &mut [u8]) -> u64 {
+        self.step_lent(base, i, state, window)
+    }
+
+    fn needs(&self, base: u64, i: Instruction, state: &State, window: &[u8]) -> Option<Vec<u64>> {
+        Some(step(base, i, state, window).needs)
+    }
+}

@@ -1,0 +1,84 @@
+//! A smaller case that still differs: whatever may be zero, or short, is made so.
+
+use crate::case::{Call, Case};
+use crate::compare::compare;
+use crate::reference::Reference;
+use crate::state::{RG, RO, RS, STACK_START};
+use crate::subject::Subject;
+
+/// Shrink a case that differs. At most `PASSES` times over all its parts.
+pub fn shrink(reference: &mut Reference, subject: &dyn Subject, case: &Case) -> Case {
+    const PASSES: usize = 4;
+    let mut small = case.clone();
+    for _ in 0..PASSES {
+        let before = small.clone();
+        for change in changes(&small) {
+            let mut next = small.clone();
+            change(&mut next);
+            if next != small && compare(reference, subject, &next).is_err() {
+                small = next;
+            }
+        }
+        if small == before {
+            break;
+        }
+    }
+    small
+}
+
+type Change = Box<dyn Fn(&mut Case)>;
+
+fn changes(case: &Case) -> Vec<Change> {
+    let mut list: Vec<Change> = vec![
+        Box::new(|c| c.state.general.fill(0)),
+        Box::new(|c| c.window.fill(0)),
+        Box::new(|c| c.partly = 0),
+        Box::new(|c| c.state.pc = 0),
+        Box::new(|c| c.state.halt = 0),
+        Box::new(|c| c.state.marks = 0),
+        Box::new(|c| c.state.special[RG] = 32),
+        Box::new(|c| c.state.special[RS] = c.state.special[RO]),
+        Box::new(|c| {
+            let by = c.base.wrapping_sub(STACK_START);
+            c.base = c.base.wrapping_sub(by);
+            c.state.special[RO] = c.state.special[RO].wrapping_sub(by);
+        }),
+    ];
+    for k in 0..256 {
+        list.push(Box::new(move |c| c.state.general[k] = 0));
+        list.push(Box::new(move |c| c.state.general[k] = c.state.general[k].min(1)));
+    }
+    for k in 0..32 {
+        list.push(Box::new(move |c| c.state.special[k] = 0));
+    }
+    for part in [2, 4, 8] {
+        list.push(Box::new(move |c| {
+            let keep = c.window.len() - c.window.len() / 8 / part * 8;
+            c.window.truncate(keep);
+        }));
+        list.push(Box::new(move |c| {
+            let drop = c.window.len() / 8 / part * 8;
+            c.window.drain(..drop);
+            c.base = c.base.wrapping_add(drop as u64);
+        }));
+    }
+    list.push(Box::new(|c| c.window.truncate(c.window.len().saturating_sub(8))));
+    for k in (0..case.window.len() / 8).filter(|k| case.window[8 * k..8 * k + 8] != [0; 8]) {
+        list.push(Box::new(move |c| {
+            if let Some(bytes) = c.window.get_mut(8 * k..8 * k + 8) {
+                bytes.fill(0);
+            }
+        }));
+    }
+    for zeroed in 0..3 {
+        list.push(Box::new(move |c| match &mut c.call {
+            Call::Step(i) | Call::Exceptions { of: i, .. } => match zeroed {
+                0 => i.x = 0,
+                1 => i.y = 0,
+                _ => i.z = 0,
+            },
+            _ => {}
+        }));
+    }
+    list
+}

@@ -1,0 +1,1 @@
+//! Stand-in: floating-point arithmetic is no part of the register machine.

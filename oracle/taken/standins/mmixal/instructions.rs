@@ -1,0 +1,4 @@
+//! Stand-in: the assembler's instruction, of which no value is made.
+
+#[derive(Clone)]
+pub enum MMixInstruction {}
