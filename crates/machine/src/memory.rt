@@ -1,7 +1,7 @@
 // The octabytes of a lent window (memory.rs). Distances from the base wrap at 2^64, so a window may cross the end of memory.
 ghost use mathlib.Core.Path.{_≡_};
-ghost use Prim.Native.Nat.{ℕ, _+_, _≤_};
-ghost use lib.ListN.{length};
+ghost use Prim.Native.Nat.{ℕ, _+_, _≤_, _<_};
+ghost use lib.ListN.{length, getD};
 ghost use Rattle.model.specs.Octa.{part, written, valueOf, bytesOf};
 ghost use Rattle.model.specs.Memory.{shapeOf, ruled, offset};
 ghost use Rattle.model.specs.Plan.{worst};
@@ -69,6 +69,8 @@ fn load(window: &[u8], at: usize) -> u64
 }
 
 fn byte_of(v: u64, j: usize) -> u8
+    requires { ⌜ j < 8 ⌝ }
+    ensures { λ r. ⌜ r ≡ getD (bytesOf v) j 0 ⌝ }
 {
     let k = 56 - 8 * (j as u64);
     ((v >> k) % 256) as u8

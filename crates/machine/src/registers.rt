@@ -9,8 +9,8 @@ ghost use Rattle.model.specs.Registers.{admissible, claimLocal, setRegister, pu
 ghost use Rattle.model.specs.Parts.{made, withParts};
 ghost use Rattle.model.specs.declared.State.{State};
 ghost use Rattle.machine.specs.Put.{PutGives};
-use model::State;
 use model::Reply;
+use model::State;
 
 /// Whether the registers and marks are those of an admissible state.
 pub fn admissible(special: &[u64; 32], marks: u64) -> bool
@@ -41,6 +41,8 @@ pub fn admissible(special: &[u64; 32], marks: u64) -> bool
 pub fn clear_range(general: &mut [u64; 256], from: u64, to: u64)
     ensures { λ _. ⌜ now (general .exit) ≡ over (λ (k : ℕ). 0) from to (now (general .entry)) ⌝ }
 {
+    let all = *general;
+    of_256(all);
     let end = super::number::least(to, 256);
     let mut i = from;
     while i < end {
@@ -139,13 +141,11 @@ pub fn put_special(general: &mut [u64; 256], special: &mut [u64; 32], x: u8, val
 
 fn of_256(general: [u64; 256])
     ensures { λ _. ⌜ length general ≡ 256 ⌝ }
-{
-}
+{}
 
 fn of_32(special: [u64; 32])
     ensures { λ _. ⌜ length special ≡ 32 ⌝ }
-{
-}
+{}
 
 /// There are 256 general registers and 32 special ones: facts that a reference does not tell its caller. It does nothing.
 pub fn counted(general: &[u64; 256], special: &[u64; 32])

@@ -2,8 +2,8 @@
 ghost use mathlib.Core.Path.{_≡_};
 ghost use Rattle.model.specs.Registers.{admissible, claimLocal, setRegister, putLocals, putGlobals};
 ghost use Rattle.machine.specs.Put.{PutGives};
-use model::State;
 use model::Reply;
+use model::State;
 
 /// What PUT answers, and the state that it leaves.
 pub struct Put {
@@ -24,7 +24,13 @@ pub fn claim_local(state: State, reg: u8) -> State
     let mut general = state.general;
     let mut special = state.special;
     super::registers::claim_local(&mut general, &mut special, reg);
-    State { general: general, special: special, pc: state.pc, halt: state.halt, marks: state.marks }
+    State {
+        general: general,
+        special: special,
+        pc: state.pc,
+        halt: state.halt,
+        marks: state.marks,
+    }
 }
 
 pub fn set_register(state: State, reg: u8, v: u64) -> State
@@ -33,7 +39,13 @@ pub fn set_register(state: State, reg: u8, v: u64) -> State
     let mut general = state.general;
     let mut special = state.special;
     super::registers::set_register(&mut general, &mut special, reg, v);
-    State { general: general, special: special, pc: state.pc, halt: state.halt, marks: state.marks }
+    State {
+        general: general,
+        special: special,
+        pc: state.pc,
+        halt: state.halt,
+        marks: state.marks,
+    }
 }
 
 pub fn put_rl(state: State, value: u64) -> State
@@ -42,7 +54,13 @@ pub fn put_rl(state: State, value: u64) -> State
     let mut general = state.general;
     let mut special = state.special;
     super::registers::put_rl(&mut general, &mut special, value);
-    State { general: general, special: special, pc: state.pc, halt: state.halt, marks: state.marks }
+    State {
+        general: general,
+        special: special,
+        pc: state.pc,
+        halt: state.halt,
+        marks: state.marks,
+    }
 }
 
 pub fn put_rg(state: State, value: u64) -> State
@@ -51,7 +69,13 @@ pub fn put_rg(state: State, value: u64) -> State
     let mut general = state.general;
     let mut special = state.special;
     super::registers::put_rg(&mut general, &mut special, value);
-    State { general: general, special: special, pc: state.pc, halt: state.halt, marks: state.marks }
+    State {
+        general: general,
+        special: special,
+        pc: state.pc,
+        halt: state.halt,
+        marks: state.marks,
+    }
 }
 
 pub fn put_special(state: State, x: u8, value: u64) -> Put
@@ -60,6 +84,15 @@ pub fn put_special(state: State, x: u8, value: u64) -> Put
     let mut general = state.general;
     let mut special = state.special;
     let reply = super::registers::put_special(&mut general, &mut special, x, value);
-    let next = State { general: general, special: special, pc: state.pc, halt: state.halt, marks: state.marks };
-    Put { reply: reply, state: next }
+    let next = State {
+        general: general,
+        special: special,
+        pc: state.pc,
+        halt: state.halt,
+        marks: state.marks,
+    };
+    Put {
+        reply: reply,
+        state: next,
+    }
 }
