@@ -1,10 +1,10 @@
 -- Laws of `over` at lists of any length: a loop's turn past the end, and a range cut to the list.
-use mathlib.Core.Path.{_≡_, refl, sym, ap, _∙_}
+use mathlib.Core.Path.{_≡_, sym, _∙_}
 use mathlib.Core.Logic.{⊎-elim}
 use mathlib.Core.List.{List}
 use Prim.Native.Nat.{ℕ, _+_, _≤_, _<_, min}
 use native.Mathlib.Omega.{arith}
-use lib.ListN.{length, getD, set}
+use lib.ListN.{length, set}
 use lib.Seq.{ext-getD, set-out}
 use Rattle.model.specs.Fill.{over}
 use Rattle.model.proofs.Fill.{lt-or-le, length-over, over-in, over-below, over-above, over-more}

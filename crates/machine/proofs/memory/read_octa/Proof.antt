@@ -1,5 +1,5 @@
 -- `read_octa` meets its contract: a run of one that passes is the octabyte itself, and one that does not leaves 0.
-use mathlib.Core.Path.{_≡_, ap, sym, _∙_}
+use mathlib.Core.Path.{ap, sym, _∙_}
 use Prim.Native.Nat.{ℕ}
 use native.Mathlib.Omega.{arith}
 use borrow.Author.Needs.{needs}

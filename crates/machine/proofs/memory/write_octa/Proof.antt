@@ -1,9 +1,7 @@
 -- `write_octa` meets its contract: a run of one that passes is written, and one that does not leaves the window.
-use mathlib.Core.Path.{_≡_, ap, sym, _∙_}
-use Prim.Native.Nat.{ℕ}
+use mathlib.Core.Path.{sym, _∙_}
 use native.Mathlib.Omega.{arith}
 use borrow.Author.Needs.{needs}
-use Rattle.model.specs.Octa.{written, bytesOf}
 use Rattle.machine.proofs.Octas.{one-fits, write-one, write-none}
 use Rattle.machine.proofs.memory.write_octa.Statement.{statement}
 use Rattle.machine.proofs.memory.write_octa.Tie as tie

@@ -1,5 +1,5 @@
 -- `claim_local` meets its contract: its tests are the definition's, and where both fail it clears and raises rL as that does.
-use mathlib.Core.Path.{_≡_, ap, _∙_}
+use mathlib.Core.Path.{ap, _∙_}
 use mathlib.Core.List.{List}
 use Prim.Native.Nat.{ℕ, _+_}
 use borrow.Author.Needs.{needs}

@@ -1,6 +1,6 @@
 -- `clear_range` meets its contract. The loop's invariant: the registers below i are cleared; those past the 256th are none.
 use mathlib.Core.Path.{_≡_, refl, ap, sym, _∙_}
-use Prim.Native.Nat.{ℕ, _≤_, _-_, min, max}
+use Prim.Native.Nat.{ℕ, _≤_, _-_, max}
 use native.Mathlib.Omega.{arith}
 use borrow.Author.Needs.{needs}
 use Rattle.model.specs.Fill.{over}

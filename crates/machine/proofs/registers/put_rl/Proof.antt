@@ -1,7 +1,4 @@
 -- `put_rl` meets its contract: what it clears and what rL becomes are the definition's.
-use mathlib.Core.Path.{_≡_, ap, _∙_}
-use mathlib.Core.List.{List}
-use Prim.Native.Nat.{ℕ}
 use borrow.Author.Needs.{needs}
 use Rattle.machine.proofs.Puts.{locals-put}
 use Rattle.machine.proofs.registers.put_rl.Statement.{statement}
