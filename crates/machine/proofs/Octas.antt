@@ -137,9 +137,14 @@ puts-shape w a (v ∷ vs) = puts-shape (writeOcta w a v) (a + 8) vs ∙ write-sh
 pub puts-length : (base : ℕ) (l m : List ℕ) (a : ℕ) (vs : List ℕ) → lent base m ≡ puts one (lent base l) a vs → length m ≡ length l
 puts-length base l m a vs e = same-size base l m _ e (puts-shape (lent base l) a vs)
 
+-- where a loop starts
 pub puts-none : (w : Window) (a : ℕ) (f : ℕ → ℕ) → puts one w a (tab 0 0 f) ≡ w
 unfolding puts tab
 puts-none w a f = refl
+
+pub puts-start : (w : Window) (a : ℕ) (vs : List ℕ) → puts one w a (take 0 vs) ≡ w
+unfolding puts
+puts-start w a vs = refl
 
 pub puts-mod : (w : Window) (a b : ℕ) (vs : List ℕ) → a % 2 ^ 64 ≡ b % 2 ^ 64 → puts one w a vs ≡ puts one w b vs
 unfolding puts one

@@ -57,6 +57,7 @@ fn wide(b: u8) -> u64
     b as u64
 }
 
+// The eight bytes from `at` up as a number.
 fn load(window: &[u8], at: usize) -> u64
     requires { ⌜ at + 8 ≤ length (now window) ⌝ }
     ensures { λ r. ⌜ r ≡ valueOf 0 (part (now (window .entry)) at 8) ⌝ }
@@ -68,6 +69,7 @@ fn load(window: &[u8], at: usize) -> u64
     v
 }
 
+// Byte j of v, the high one first.
 fn byte_of(v: u64, j: usize) -> u8
     requires { ⌜ j < 8 ⌝ }
     ensures { λ r. ⌜ r ≡ getD (bytesOf v) j 0 ⌝ }
@@ -76,6 +78,7 @@ fn byte_of(v: u64, j: usize) -> u8
     ((v >> k) % 256) as u8
 }
 
+// They become those of v.
 fn store(window: &mut [u8], at: usize, v: u64)
     requires { ⌜ at + 8 ≤ length (now window) ⌝ }
     ensures { λ _. ⌜ now (window .exit) ≡ written (now (window .entry)) at (bytesOf v) ⌝ }

@@ -41,6 +41,7 @@ pub fn admissible(special: &[u64; 32], marks: u64) -> bool
 pub fn clear_range(general: &mut [u64; 256], from: u64, to: u64)
     ensures { λ _. ⌜ now (general .exit) ≡ over (λ (k : ℕ). 0) from to (now (general .entry)) ⌝ }
 {
+    // How many there are is a fact that a reference does not tell; asking compiles to nothing.
     let all = *general;
     of_256(all);
     let end = super::number::least(to, 256);
