@@ -1,0 +1,35 @@
+-- Laws of `over` at lists of any length: a loop's turn past the end, and a range cut to the list.
+use mathlib.Core.Path.{_≡_, sym, _∙_}
+use mathlib.Core.Logic.{⊎-elim}
+use mathlib.Core.List.{List}
+use Prim.Native.Nat.{ℕ, _+_, _≤_, _<_, min}
+use native.Mathlib.Omega.{arith}
+use lib.ListN.{length, set}
+use lib.Seq.{ext-getD, set-out}
+use Rattle.model.specs.Fill.{over}
+use Rattle.model.proofs.Fill.{lt-or-le, length-over, over-in, over-below, over-above, over-more}
+
+-- two ranges that hold the same elements of the list
+pub over-same : (f : ℕ → ℕ) (a b c : ℕ) (l : List ℕ) → ((k : ℕ) → k < length l → k < b → k < c) → ((k : ℕ) → k < length l → k < c → k < b)
+    → over f a b l ≡ over f a c l
+over-same f a b c l up down =
+    ext-getD 0 (over f a b l) (over f a c l) (length-over f a b l ∙ sym (length-over f a c l))
+    (λ k n. let m : k < length l = omega (arith, length-over f a b l) in
+    ⊎-elim (λ lo. over-below f a b l k lo m ∙ sym (over-below f a c l k lo m))
+    (λ hi. ⊎-elim (λ in-b. over-in f a b l k hi in-b m ∙ sym (over-in f a c l k hi (up k m in-b) m))
+    (λ out. over-above f a b l k out m
+    ∙ sym (⊎-elim (λ in-c. let z : k < b = down k m in-c in absurd (omega arith)) (λ past. over-above f a c l k past m) (lt-or-le k c)))
+    (lt-or-le k b))
+    (lt-or-le k a))
+
+-- one element more, wherever it lies
+pub over-next : (f : ℕ → ℕ) (a i : ℕ) (l : List ℕ) (v : ℕ) → a ≤ i → v ≡ f i → set (over f a i l) i v ≡ over f a (i + 1) l
+over-next f a i l v h e =
+    ⊎-elim (λ n. over-more f a i l v h n e)
+    (λ past. set-out (over f a i l) i v (omega (arith, length-over f a i l))
+    ∙ over-same f a i (i + 1) l (λ k n m. omega arith) (λ k n m. omega arith))
+    (lt-or-le i (length l))
+
+-- a range cut to the list
+pub over-cut : (f : ℕ → ℕ) (a b n : ℕ) (l : List ℕ) → length l ≤ n → over f a (min b n) l ≡ over f a b l
+over-cut f a b n l h = over-same f a (min b n) b l (λ k m p. omega arith) (λ k m p. omega arith)

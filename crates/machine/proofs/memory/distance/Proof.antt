@@ -1,0 +1,18 @@
+-- `distance` meets its contract: an address less its low three bits is its octabyte's, and a base is below 2^64.
+use native.Mathlib.Omega.{arith}
+use borrow.Author.Needs.{needs}
+use Rattle.machine.proofs.Spans.{offset-of}
+use Rattle.machine.proofs.memory.distance.Statement.{statement}
+use Rattle.machine.proofs.memory.distance.Tie as tie
+
+sub-wrapping-sub : tie.Need-sub-wrapping-sub
+sub-wrapping-sub c = search needs
+
+wrapping-sub-requires : tie.Need-wrapping-sub-requires
+wrapping-sub-requires c κs = search needs
+
+returns : tie.Need-returns
+returns c = offset-of _ _ _ (omega arith) (omega arith) (c .wrapping-sub .ensures)
+
+pub distance-spec : {M : Type 1} → statement M
+distance-spec = tie.close (tie.spec sub-wrapping-sub wrapping-sub-requires returns)

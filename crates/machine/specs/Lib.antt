@@ -1,0 +1,3 @@
+-- What the machine's contracts cite beside the model.
+pub mod Octas
+pub mod Put

@@ -1,0 +1,110 @@
+// The octabytes of a lent window (memory.rs). Distances from the base wrap at 2^64, so a window may cross the end of memory.
+ghost use mathlib.Core.Path.{_≡_};
+ghost use Prim.Native.Nat.{ℕ, _+_, _≤_, _<_};
+ghost use lib.ListN.{length, getD};
+ghost use Rattle.model.specs.Octa.{part, written, valueOf, bytesOf};
+ghost use Rattle.model.specs.Memory.{shapeOf, ruled, offset};
+ghost use Rattle.model.specs.Plan.{worst};
+ghost use Rattle.model.specs.Step.{refusing};
+ghost use Rattle.model.specs.Parts.{lent};
+ghost use Rattle.machine.specs.Octas.{readOcta, writtenOcta};
+
+/// Whether length and base obey the window's rule.
+pub fn is_ruled(window: &[u8], base: u64) -> bool
+    ensures { λ r. ⌜ r ≡ ruled (shapeOf (lent base (now (window .entry)))) ⌝ }
+{
+    let len = window.len();
+    if base % 8 != 0 {
+        return false;
+    }
+    if len % 8 != 0 {
+        return false;
+    }
+    if len <= 65536 {
+        return true;
+    }
+    false
+}
+
+/// The distance from the base to the octabyte that `addr` names.
+pub fn distance(base: u64, addr: u64) -> u64
+    ensures { λ r. ⌜ r ≡ offset base addr ⌝ }
+{
+    super::number::wrapping_sub(addr - addr % 8, base)
+}
+
+/// The number that refuses the n octabytes from `addr` up: 0 where all lie in the window, else 6.
+pub fn run_refusal(window: &[u8], base: u64, addr: u64, n: u64) -> u64
+    ensures { λ r. ⌜ r ≡ worst (refusing (shapeOf (lent base (now (window .entry))))) addr n ⌝ }
+{
+    if n == 0 {
+        return 0;
+    }
+    let at = distance(base, addr);
+    let len = window.len() as u64;
+    if len < at {
+        return 6;
+    }
+    if (len - at) / 8 < n {
+        return 6;
+    }
+    0
+}
+
+fn wide(b: u8) -> u64
+    ensures { λ r. ⌜ r ≡ b ⌝ }
+{
+    b as u64
+}
+
+// The eight bytes from `at` up as a number.
+fn load(window: &[u8], at: usize) -> u64
+    requires { ⌜ at + 8 ≤ length (now window) ⌝ }
+    ensures { λ r. ⌜ r ≡ valueOf 0 (part (now (window .entry)) at 8) ⌝ }
+{
+    let mut v: u64 = 0;
+    for k in 0..8usize {
+        v = v * 256 + wide(window[at + k]);
+    }
+    v
+}
+
+// Byte j of v, the high one first.
+fn byte_of(v: u64, j: usize) -> u8
+    requires { ⌜ j < 8 ⌝ }
+    ensures { λ r. ⌜ r ≡ getD (bytesOf v) j 0 ⌝ }
+{
+    let k = 56 - 8 * (j as u64);
+    ((v >> k) % 256) as u8
+}
+
+// They become those of v.
+fn store(window: &mut [u8], at: usize, v: u64)
+    requires { ⌜ at + 8 ≤ length (now window) ⌝ }
+    ensures { λ _. ⌜ now (window .exit) ≡ written (now (window .entry)) at (bytesOf v) ⌝ }
+{
+    for k in 0..8usize {
+        window[at + k] = byte_of(v, k);
+    }
+}
+
+/// The octabyte that `addr` names, or 0 where it lies outside the window.
+pub fn read_octa(window: &[u8], base: u64, addr: u64) -> u64
+    ensures { λ r. ⌜ r ≡ readOcta (lent base (now (window .entry))) addr ⌝ }
+{
+    if run_refusal(window, base, addr, 1) == 0 {
+        let at = distance(base, addr) as usize;
+        return load(window, at);
+    }
+    0
+}
+
+/// The octabyte that `addr` names becomes v; a window that does not hold it is left as it was.
+pub fn write_octa(window: &mut [u8], base: u64, addr: u64, v: u64)
+    ensures { λ _. ⌜ lent base (now (window .exit)) ≡ writtenOcta (lent base (now (window .entry))) addr v ⌝ }
+{
+    if run_refusal(window, base, addr, 1) == 0 {
+        let at = distance(base, addr) as usize;
+        store(window, at, v);
+    }
+}
