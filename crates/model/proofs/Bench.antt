@@ -6,7 +6,7 @@ use Rattle.model.specs.Octa.{octa, part, written, valueOf, bytesOf}
 use Rattle.model.specs.Registers.{admissible, fresh, goes, halted, withSpecial, cleared, claimLocal, stored, setRegister, putLocals, putGlobals, spilled}
 use Rattle.model.specs.Memory.{shapeOf, ruled, offset, has, octaBytes, writeOcta, one}
 use Rattle.model.specs.Plan.{worst, named, look, looks, puts, perform}
-use Rattle.model.specs.Opcodes.{armOf}
+use Rattle.model.specs.Opcodes.{conditionOf, armOf}
 use Rattle.model.specs.Said.{tell}
 use Rattle.model.specs.Control.{targetOf, holds}
 use Rattle.model.specs.Frames.{hole, framed, slid, slide, pushedRule, pushed, pushFrame, countOf, lastOutput, restored, unslide, popped, popTo, popRule, noFrame, misplaced, popFrame}
@@ -18,5 +18,5 @@ use Rattle.model.specs.Step.{refusalOf, judged, refusing, planOf, stepPl
 use Rattle.model.specs.Bench.{start, shows, met, allMet, points, PointsMet}
 
 pub points-met : PointsMet
-unfolding leadingZeros over indexed within tab octa part written valueOf bytesOf admissible fresh goes halted withSpecial cleared claimLocal stored setRegister putLocals putGlobals spilled shapeOf ruled offset has octaBytes writeOcta one worst named look looks puts perform armOf tell targetOf holds hole framed slid slide pushedRule pushed pushFrame countOf lastOutput restored unslide popped popTo popRule noFrame misplaced popFrame savedSpecial saved savedRule savedState saveContext unsavedGeneral unsavedSpecial unsavedRule unsaved contextRest contextCount contextAt unsaveContext putRefusal putState putSpecial got syncOf interrupted tripRule tripTo trapOf added withAdded raised stepOn runs refusalOf judged refusing planOf stepPlan exceptionOf itemPlan mmix start shows met allMet points
+unfolding leadingZeros over indexed within tab octa part written valueOf bytesOf admissible fresh goes halted withSpecial cleared claimLocal stored setRegister putLocals putGlobals spilled shapeOf ruled offset has octaBytes writeOcta one worst named look looks puts perform conditionOf armOf tell targetOf holds hole framed slid slide pushedRule pushed pushFrame countOf lastOutput restored unslide popped popTo popRule noFrame misplaced popFrame savedSpecial saved savedRule savedState saveContext unsavedGeneral unsavedSpecial unsavedRule unsaved contextRest contextCount contextAt unsaveContext putRefusal putState putSpecial got syncOf interrupted tripRule tripTo trapOf added withAdded raised stepOn runs refusalOf judged refusing planOf stepPlan exceptionOf itemPlan mmix start shows met allMet points
 points-met = refl

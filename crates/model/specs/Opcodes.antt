@@ -47,7 +47,8 @@ pub data Arm : Type 0 where
 abbrev conditions : List Condition
 conditions = negative ∷ isZero ∷ positive ∷ odd ∷ nonNegative ∷ nonZero ∷ nonPositive ∷ even ∷ []
 
-abbrev wayOf : ℕ → Way
+-- even opcodes go forward, odd ones backward
+abbrev pub wayOf : ℕ → Way
 wayOf op = cond (eqb (op % 2) 0) forward backward
 
 pub record Entry : Type 0 where
@@ -74,6 +75,10 @@ abbrev find : ℕ → List Entry → Arm
 find op [] = none
 find op (e ∷ es) = cond (eqb op (e .opcode)) (e .arm) (find op es)
 
+-- the condition of a branch, plain or probable
+unfoldable pub conditionOf : ℕ → Condition
+conditionOf op = getD conditions (op / 2 % 8) even
+
 -- 0x40 to 0x4F are the branches, each forward and then backward; "P-branches act as their plain kin": 0x50 to 0x5F in the same order
 unfoldable pub armOf : ℕ → Arm
-armOf op = cond (leb 0x40 op && leb op 0x5F) (branch (getD conditions (op / 2 % 8) even) (wayOf op)) (find op arms)
+armOf op = cond (leb 0x40 op && leb op 0x5F) (branch (conditionOf op) (wayOf op)) (find op arms)
