@@ -20,6 +20,7 @@ pub mod StepNeeds
 pub mod Locality
 pub mod Bench
 pub mod Departures
+pub mod Sent
 pub mod Unpark
 pub mod Reader
 pub mod Roundtrip
