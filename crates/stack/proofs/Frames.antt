@@ -1,0 +1,189 @@
+-- What code does to registers and window for PUSH and POP is what the definitions do, from the facts that its calls leave.
+use mathlib.Core.Path.{_≡_, refl, sym, ap, _∙_}
+use mathlib.Core.Logic.{⊎-elim}
+use mathlib.Core.Bool.{Bool, true, false, not}
+use mathlib.Core.List.{List}
+use Prim.Native.Nat.{ℕ, _+_, _-_, _*_, _%_, _^_, _≤_, _<_, min}
+use native.Mathlib.Omega.{arith}
+use lib.Dec.{leb, eqb}
+use lib.ListN.{length, getD, set, length-set, List·getD-eq-default}
+use lib.Seq.{ext-getD, getD-set-same}
+use borrow.Author.Tests.{lt-ltb, le-ltb, lt-leb, le-leb, eq-eqb, ne-eqb, ltb-true}
+use Rattle.model.specs.Fill.{over, tab}
+use Rattle.model.specs.Registers.{rJ, rO, rS, rG, rL, stackStart, sp, reg, admissible, withSpecial, spilled}
+use Rattle.model.specs.Memory.{Window, Shape, shapeOf, one}
+use Rattle.model.specs.Plan.{worst, looks, puts}
+use Rattle.model.specs.Frames.{framed, slid, slide, pushedRule, pushed, countOf, lastOutput, restored, unslide, popped, misplaced}
+use Rattle.model.specs.Parts.{made}
+use Rattle.model.specs.Step.{refusing}
+use Rattle.model.specs.declared.State.{State}
+use Rattle.model.proofs.Fill.{lt-or-le, length-over, over-in, over-below, over-above}
+use Rattle.model.proofs.Bools.{and-right}
+use Rattle.model.proofs.Memory.{one-lawful}
+use Rattle.model.proofs.Runs.{getD-looks}
+use Rattle.model.proofs.Good.{adm, spec-other}
+use Rattle.machine.specs.Octas.{readOcta, writtenOcta}
+use Rattle.machine.proofs.Octas.{puts-shape, puts-tab, read-mod, run-read}
+use Rattle.stack.specs.Frame.{Held, Placed, bottomOf, restoredBy}
+use Rattle.stack.proofs.Spans.{over-before, over-alike, over-down}
+
+-- ---- what judging gives
+
+-- rG is not 0, so the list has it
+pub held-by : (s : State) → admissible s ≡ true → Held (s .special)
+held-by s a =
+    let f = adm s a in
+    record {
+      long = ⊎-elim (λ n. omega arith) (λ n. let z : sp s rG ≡ 0 = List·getD-eq-default (s .special) 0 n in absurd (omega (arith, f .g-low))) (lt-or-le rG (length (s .special)));
+      g-high = f .g-high;
+      l-g = f .l-g;
+    }
+
+not-false : (t : Bool) → not t ≡ false → t ≡ true
+not-false true e = refl
+not-false false e = sym e
+
+pub placed-by : (s : State) → stackStart < sp s rO → misplaced s ≡ false → Placed (s .special)
+unfolding misplaced
+placed-by s a m = record { above = a; beneath = ltb-true _ _ (and-right (eqb (sp s rO % 8) 0) _ (not-false _ m)) }
+
+-- ---- PUSH
+
+-- registers slid down by d, the rest of the local ones cleared
+pub slid-clear : (s : State) (d n : ℕ) → n ≡ sp s rL - d → n ≤ sp s rG
+    → over (λ (k : ℕ). 0) n (sp s rG) (over (λ (k : ℕ). getD (s .general) (d + k) 0) 0 n (s .general)) ≡ over (slid s d) 0 (sp s rG) (s .general)
+unfolding slid
+slid-clear s d n e top =
+    ext-getD 0 (over zero′ n b (over f 0 n g)) (over (slid s d) 0 b g) (length-over zero′ n b (over f 0 n g) ∙ length-over f 0 n g ∙ sym (length-over (slid s d) 0 b g))
+    (λ k m. let p : k < length g = omega (arith, length-over zero′ n b (over f 0 n g), length-over f 0 n g) in
+    let q : k < length (over f 0 n g) = omega (arith, length-over f 0 n g) in
+    ⊎-elim
+    (λ lo. over-below zero′ n b (over f 0 n g) k lo q ∙ over-in f 0 n g k (omega arith) lo p ∙ sym (over-in (slid s d) 0 b g k (omega arith) (omega arith) p ∙ rw (lt-ltb k (sp s rL - d) (omega arith))))
+    (λ hi. ⊎-elim
+    (λ lt. over-in zero′ n b (over f 0 n g) k hi lt q ∙ sym (over-in (slid s d) 0 b g k (omega arith) lt p ∙ rw (le-ltb k (sp s rL - d) (omega arith))))
+    (λ out. over-above zero′ n b (over f 0 n g) k out q ∙ over-above f 0 n g k hi p ∙ sym (over-above (slid s d) 0 b g k out p))
+    (lt-or-le k b))
+    (lt-or-le k n))
+  where
+    b : ℕ
+    b = sp s rG
+
+    g : List ℕ
+    g = s .general
+
+    zero′ : ℕ → ℕ
+    zero′ k = 0
+
+    f : ℕ → ℕ
+    f k = getD g (d + k) 0
+
+-- the octabytes of the frame
+pub framed-local : (s : State) (h i : ℕ) → i < h → framed s h i ≡ reg s i
+unfolding framed
+framed-local s h i l = rw (lt-ltb i h l)
+
+pub framed-hole : (s : State) (h : ℕ) → framed s h h ≡ h
+unfolding framed
+framed-hole s h = rw (le-ltb h h (omega arith))
+
+pub puts-length : (w : Window) (a : ℕ) (vs : List ℕ) → length (puts one w a vs .bytes) ≡ length (w .bytes)
+unfolding shapeOf
+puts-length w a vs = ap (λ (z : Shape). z .size) (puts-shape w a vs)
+
+-- one octabyte more of a list that is stored
+pub store-next : (w : Window) (a n i at : ℕ) → worst (refusing (shapeOf w)) a n ≡ 0 → i < n → at ≡ (a + 8 * i) % 2 ^ 64
+    → (f : ℕ → ℕ) (v : ℕ) (u z : Window) → z ≡ writtenOcta u at v → u ≡ puts one w a (tab 0 i f) → v ≡ f i → z ≡ puts one w a (tab 0 (i + 1) f)
+store-next w a n i at pass l e f v u z ez eu ev = ez ∙ rw eu (puts-tab w a n pass i at l e f v ev)
+
+-- what code has done is what PUSH does
+pub entered : (g g₁ g₂ l : List ℕ) (pc h n ro rj d b : ℕ) → Held l → n ≡ getD l rL 0 - (h + 1) → ro ≡ (getD l rO 0 + 8 * (h + 1)) % 2 ^ 64 → rj ≡ (pc + 4) % 2 ^ 64
+    → g₁ ≡ over (λ (k : ℕ). getD g (d + k) 0) 0 n g → d ≡ h + 1 → g₂ ≡ over (λ (k : ℕ). 0) b (getD l rG 0) g₁ → b ≡ n
+    → (halt marks : ℕ) → made g₂ (set (set (set (set l rL n) rO ro) rJ rj) rS ro) pc halt marks ≡ pushed (made g l pc halt marks) h
+unfolding pushed pushedRule slide spilled withSpecial
+entered g g₁ g₂ l pc h n ro rj d b held en eo ej e₁ ed e₂ eb halt marks =
+    let top : n ≤ getD l rG 0 = omega (arith, held .l-g) in
+    let gs : g₂ ≡ over (slid (made g l pc halt marks) (h + 1)) 0 (getD l rG 0) g = e₂ ∙ rw (eb, e₁, ed) (slid-clear (made g l pc halt marks) (h + 1) n en top) in
+    let at : getD (set (set (set l rL n) rO ro) rJ rj) rO 0 ≡ ro = simp spec-other (getD-set-same (set l rL n) rO ro 0 (simp length-set (held .long))) in
+    let top-is : set (set (set (set l rL n) rO ro) rJ rj) rS ro ≡ set (set (set (set l rL n) rO ro) rJ rj) rS (getD (set (set (set l rL n) rO ro) rJ rj) rO 0) = ap (set (set (set (set l rL n) rO ro) rJ rj) rS) (sym at) in
+    rw (gs, top-is, en, eo, ej)
+
+-- ---- POP
+
+pub read-wraps : (w : Window) (a : ℕ) → readOcta w (a % 2 ^ 64) ≡ readOcta w a
+read-wraps w a = let e : a % 2 ^ 64 % 2 ^ 64 ≡ a % 2 ^ 64 = omega arith in read-mod w (a % 2 ^ 64) a e
+
+-- rO as code judges it
+pub misplaced-negative : (s : State) (ro : ℕ) → sp s rO ≡ ro → ro % 8 ≡ 0 → leb (2 ^ 63) ro ≡ misplaced s
+unfolding misplaced
+misplaced-negative s ro e a =
+    rw (e, eq-eqb _ _ a) (⊎-elim (λ lo. rw (lt-leb (2 ^ 63) ro lo, lt-ltb ro 0x8000000000000000 lo)) (λ hi. rw (le-leb (2 ^ 63) ro hi, le-ltb ro 0x8000000000000000 hi)) (lt-or-le ro 0x8000000000000000))
+
+pub misplaced-odd : (s : State) (ro : ℕ) → sp s rO ≡ ro → (ro % 8 ≡ 0 → ⊥) → true ≡ misplaced s
+unfolding misplaced
+misplaced-odd s ro e a = rw (e, ne-eqb _ _ a)
+
+-- a turn from the highest register down: the register below the range is read from those that are as they were
+module _ (w : Window) (bottom last h count rg : ℕ) (g : List ℕ) where
+  abbrev f : ℕ → ℕ
+  f = restoredBy w bottom last h count g
+
+  pub restore-turn : (q : List ℕ) (k v : ℕ) → q ≡ over f k rg g → 0 < k → k ≤ rg → v ≡ restoredBy w bottom last h count q (k - 1) → set q (k - 1) v ≡ over f (k - 1) rg g
+  restore-turn q k v eq pos low e =
+      let next : k - 1 + 1 ≡ k = omega arith in
+      let same : v ≡ f (k - 1) = e ∙ rw (eq, over-before f k rg g (k - 1 - h - 1) (omega arith)) in
+      rw eq (ap (λ (j : ℕ). set (over f j rg g) (k - 1) v) (sym next) ∙ over-down f (k - 1) rg g v (omega arith) same)
+
+-- a frame's place below rO, as code has it
+pub below : (ro d : ℕ) → stackStart < ro → ro < 0x8000000000000000 → d ≤ 2048 → (ro + (2 ^ 64 - d)) % 2 ^ 64 ≡ ro - d
+below ro d a b l = omega arith
+
+-- what code asks of the window below rO
+module _ (w : Window) (l : List ℕ) (placed : Placed l) where
+  module _ (b : ℕ) (e : b ≡ (getD l rO 0 + (2 ^ 64 - 8)) % 2 ^ 64) where
+    at-hole : b ≡ getD l rO 0 - 8
+    at-hole = e ∙ below (getD l rO 0) 8 (placed .above) (placed .beneath) (omega arith)
+
+    pub hole-run : (n : ℕ) → n ≡ worst (refusing (shapeOf w)) b 1 → n ≡ worst (refusing (shapeOf w)) (getD l rO 0 - 8) 1
+    hole-run n q = q ∙ ap (λ (a : ℕ). worst (refusing (shapeOf w)) a 1) at-hole
+
+    pub hole-is : (v : ℕ) → v ≡ readOcta w b → v % 256 ≡ readOcta w (getD l rO 0 - 8) % 256
+    hole-is v q = ap (λ (n : ℕ). n % 256) (q ∙ ap (readOcta w) at-hole)
+
+  pub frame-run : (h b k n : ℕ) → h ≤ 255 → b ≡ (getD l rO 0 + (2 ^ 64 - 8 * (h + 1))) % 2 ^ 64 → k ≡ min h (getD l rG 0) → n ≡ worst (refusing (shapeOf w)) b k
+      → n ≡ worst (refusing (shapeOf w)) (bottomOf l h) (min h (getD l rG 0))
+  frame-run h b k n small e f q =
+      let z : b ≡ bottomOf l h = e ∙ below (getD l rO 0) (8 * (h + 1)) (placed .above) (placed .beneath) (omega arith) in
+      q ∙ rw (z, f)
+
+-- what code has done is what POP does
+module _ (w : Window) (g l g′ : List ℕ) (x h bottom count last low : ℕ) (held : Held l) (placed : Placed l) (small : h ≤ 255)
+    (pass : worst (refusing (shapeOf w)) (bottomOf l h) (min h (getD l rG 0)) ≡ 0)
+    (eb : bottom ≡ (getD l rO 0 + (2 ^ 64 - 8 * (h + 1))) % 2 ^ 64) (ec : (s : State) → sp s rL ≡ getD l rL 0 → count ≡ countOf s x)
+    (el : (special : List ℕ) (pc halt marks : ℕ) → getD special rL 0 ≡ getD l rL 0 → last ≡ lastOutput (made g special pc halt marks) x)
+    (ew : low ≡ min (h + count) (getD l rG 0)) (eg : g′ ≡ over (restoredBy w bottom last h count g) 0 (getD l rG 0) g) where
+  at-bottom : bottom ≡ bottomOf l h
+  at-bottom = eb ∙ below (getD l rO 0) (8 * (h + 1)) (placed .above) (placed .beneath) (omega arith)
+
+  module _ (pc halt marks : ℕ) where
+    abbrev s : State
+    s = made g l pc halt marks
+
+    counts : count ≡ countOf s x
+    counts = ec s refl
+
+    same : (k : ℕ) → k < getD l rG 0 → restoredBy w bottom last h count g k ≡ restored s x h (looks one w (bottomOf l h) (min h (getD l rG 0))) k
+    unfolding restored
+    same k m =
+        rw at-bottom (⊎-elim
+        (λ lo. let n : k < min h (getD l rG 0) = omega arith in
+        rw (lt-ltb k h lo) (run-read w (bottomOf l h) (min h (getD l rG 0)) pass k (bottomOf l h + 8 * k) n refl ∙ sym (getD-looks one one-lawful (min h (getD l rG 0)) w (bottomOf l h) k n)))
+        (λ hi. rw (le-ltb k h hi, counts, el l pc halt marks refl))
+        (lt-or-le k h))
+
+    pub left : made g′ (set (set (set l rL low) rO bottom) rS bottom) pc halt marks ≡ popped s x h (looks one w (bottomOf l h) (min h (getD l rG 0)))
+    unfolding popped unslide spilled withSpecial
+    left =
+        let gs : g′ ≡ over (restored s x h (looks one w (bottomOf l h) (min h (getD l rG 0)))) 0 (getD l rG 0) g = eg ∙ over-alike _ _ (getD l rG 0) g same in
+        let at : getD (set (set l rL low) rO bottom) rO 0 ≡ bottom = getD-set-same (set l rL low) rO bottom 0 (simp length-set (held .long)) in
+        let top : set (set (set l rL low) rO bottom) rS bottom ≡ set (set (set l rL low) rO bottom) rS (getD (set (set l rL low) rO bottom) rO 0) = ap (set (set (set l rL low) rO bottom) rS) (sym at) in
+        rw (gs, top, ew, counts, at-bottom)

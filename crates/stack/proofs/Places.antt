@@ -1,0 +1,282 @@
+-- Where a context is: the stages 6, 14, 15, 6, 16, 6 as code goes through them, and what a context that code has located is to
+-- UNSAVE and to the reader.
+use mathlib.Core.Path.{_≡_, refl, sym, ap, _∙_}
+use mathlib.Core.Bool.{true, false}
+use mathlib.Core.List.{List, []}
+use Prim.Native.Nat.{ℕ, _+_, _-_, _*_, _/_, _%_, _^_, _≤_, _<_}
+use native.Mathlib.Omega.{arith}
+use lib.Dec.{leb, eqb}
+use lib.ListN.{getD}
+use borrow.Author.Tests.{leb-true, leb-false, le-leb, lt-leb, ne-eqb}
+use Rattle.model.specs.Memory.{Window, shapeOf, has, one}
+use Rattle.model.specs.Plan.{Plan, answer, read, Outcome, perform, worst, named, look}
+use Rattle.model.specs.Contexts.{below, contextRest, contextCount, contextAt}
+use Rattle.model.specs.Step.{refusing}
+use Rattle.model.proofs.Bools.{on}
+use Rattle.model.proofs.Memory.{one-lawful}
+use Rattle.model.proofs.Meets.{worst-six}
+use Rattle.model.proofs.Runs.{perform-read, worst-of, of-worst}
+use Rattle.model.proofs.Unpark.{looked, Context, context-found}
+use Rattle.model.proofs.Entry.{performOn, Inside, said, inside-judged}
+use Rattle.machine.specs.Octas.{readOcta}
+use Rattle.machine.proofs.Octas.{passed-has, missed-has, read-in, read-mod}
+use Rattle.machine.proofs.Spans.{run-one, refusing-mod}
+use Rattle.stack.specs.Context.{layoutAt, layoutOf, spot, locatedOf, LocatedIs}
+use Rattle.stack.specs.declared.context.Located.{Located}
+use Rattle.stack.specs.declared.context.Layout.{Layout}
+use Rattle.stack.specs.declared.context.Layout.the-variants.{Found, Excess, Outside}
+use Rattle.stack.specs.declared.context.SaveContextLayout.{SaveContextLayout}
+
+-- ---- the octabyte at an address that is taken modulo 2^64
+
+module _ (w : Window) (a m : ℕ) (e : m ≡ a % 2 ^ 64) where
+  alike : m % 2 ^ 64 ≡ a % 2 ^ 64
+  alike = omega arith
+
+  one-in : worst (refusing (shapeOf w)) m 1 ≡ 0 → refusing (shapeOf w) a ≡ 0
+  one-in h = sym (refusing-mod (shapeOf w) m a alike) ∙ sym (run-one (shapeOf w) m) ∙ h
+
+  one-out : (worst (refusing (shapeOf w)) m 1 ≡ 0 → ⊥) → has (shapeOf w) a ≡ false
+  one-out h = missed-has (shapeOf w) a (λ z. h (run-one (shapeOf w) m ∙ refusing-mod (shapeOf w) m a alike ∙ z))
+
+  one-read : (v : ℕ) → worst (refusing (shapeOf w)) m 1 ≡ 0 → v ≡ readOcta w m → look one w a ≡ v
+  one-read v h d = sym (d ∙ read-mod w m a alike ∙ read-in w a (one-in h))
+
+  -- a run of them
+  run-alike : (n : ℕ) → worst (refusing (shapeOf w)) m n ≡ 0 → worst (refusing (shapeOf w)) a n ≡ 0
+  run-alike n h = of-worst (refusing (shapeOf w)) n a (λ i l. sym (refusing-mod (shapeOf w) (m + 8 * i) (a + 8 * i) (omega arith)) ∙ worst-of (refusing (shapeOf w)) n m i h l)
+
+  pub run-back : (n : ℕ) → worst (refusing (shapeOf w)) a n ≡ 0 → worst (refusing (shapeOf w)) m n ≡ 0
+  run-back n h = of-worst (refusing (shapeOf w)) n m (λ i l. refusing-mod (shapeOf w) (m + 8 * i) (a + 8 * i) (omega arith) ∙ worst-of (refusing (shapeOf w)) n a i h l)
+
+-- ---- the layout
+
+module _ (w : Window) (p g marker : ℕ) (e : marker ≡ below p (269 - g) % 2 ^ 64) where
+  pub layout-outside : (worst (refusing (shapeOf w)) marker 1 ≡ 0 → ⊥) → Outside ≡ layoutOf w p g
+  unfolding layoutOf
+  layout-outside h = rw (one-out w (below p (269 - g)) marker e h)
+
+  module _ (count : ℕ) (h : worst (refusing (shapeOf w)) marker 1 ≡ 0) (d : count ≡ readOcta w marker) where
+    pub layout-excess : g < count → Excess count ≡ layoutOf w p g
+    unfolding layoutOf
+    layout-excess l =
+        rw (passed-has (shapeOf w) (below p (269 - g)) (one-in w (below p (269 - g)) marker e h), one-read w (below p (269 - g)) marker e count h d, lt-leb count g l)
+
+    pub layout-found : (sb gb lb : ℕ) → count ≤ g → sb ≡ below p 12 % 2 ^ 64 → gb ≡ below p (268 - g) % 2 ^ 64 → lb ≡ below p (count + 269 - g) % 2 ^ 64
+        → Found (record { «specials_base» = sb; «globals_base» = gb; «global_count» = 256 - g; «local_count» = count; «locals_base» = lb }) ≡ layoutOf w p g
+    unfolding layoutOf layoutAt
+    layout-found sb gb lb l es eg el =
+        rw (passed-has (shapeOf w) (below p (269 - g)) (one-in w (below p (269 - g)) marker e h), one-read w (below p (269 - g)) marker e count h d, le-leb count g l, es, eg, el)
+
+-- ---- the stages, for any kind of state
+
+module _ {S : Type 0} (w : Window) (s bad : S) (found : ℕ → ℕ → ℕ → ℕ → List ℕ → S) (p : ℕ) where
+  abbrev Ends : ℕ → S → Plan S → Type 0
+  Ends n t q = performOn w s q ≡ record { reply = n; state = t; memory = w }
+
+  read-out : (a n : ℕ) (k : List ℕ → Plan S) → (Inside w a n → ⊥) → Ends 6 s (read 6 a n k)
+  unfolding perform named
+  read-out a n k h =
+      let f : eqb (worst (refusing (shapeOf w)) a n) 0 ≡ false = ne-eqb _ _ h in
+      rw (f, worst-six (shapeOf w) n a f)
+
+  at-out : (Inside w p 1 → ⊥) → Ends 6 s (contextAt bad found p)
+  unfolding contextAt
+  at-out h = read-out p 1 (λ v. contextCount bad found p (getD v 0 0 / 2 ^ 56) (getD v 0 0 % 2 ^ 56)) h
+
+  at-open : (v : ℕ) → Inside w p 1 → look one w p ≡ v → performOn w s (contextAt bad found p) ≡ performOn w s (contextCount bad found p (v / 2 ^ 56) (v % 2 ^ 56))
+  unfolding contextAt
+  at-open v h e =
+      perform-read one one-lawful (refusing (shapeOf w)) s 6 p 1 (λ v. contextCount bad found p (getD v 0 0 / 2 ^ 56) (getD v 0 0 % 2 ^ 56)) w h
+      ∙ rw (looked w p, e)
+
+  count-low : (g a : ℕ) → g < 32 → Ends 14 bad (contextCount bad found p g a)
+  unfolding contextCount
+  count-low g a h = rw (lt-leb 32 g h) (said w s bad 14)
+
+  module _ (g a : ℕ) (lo : 32 ≤ g) (hi : g ≤ 255) where
+    count-status : 0x3FFFF < a → Ends 15 bad (contextCount bad found p g a)
+    unfolding contextCount
+    count-status h = rw (le-leb 32 g lo, le-leb g 255 hi, lt-leb a 0x3FFFF h) (said w s bad 15)
+
+    module _ (am : a ≤ 0x3FFFF) where
+      count-out : (Inside w (below p (269 - g)) 1 → ⊥) → Ends 6 s (contextCount bad found p g a)
+      unfolding contextCount
+      count-out h =
+          rw (le-leb 32 g lo, le-leb g 255 hi, le-leb a 0x3FFFF am)
+          (read-out (below p (269 - g)) 1 (λ v. contextRest bad found p g a (getD v 0 0)) h)
+
+      count-open : (l : ℕ) → Inside w (below p (269 - g)) 1 → look one w (below p (269 - g)) ≡ l
+          → performOn w s (contextCount bad found p g a) ≡ performOn w s (contextRest bad found p g a l)
+      unfolding contextCount
+      count-open l h e =
+          rw (le-leb 32 g lo, le-leb g 255 hi, le-leb a 0x3FFFF am)
+          (perform-read one one-lawful (refusing (shapeOf w)) s 6 (below p (269 - g)) 1 (λ v. contextRest bad found p g a (getD v 0 0)) w h
+          ∙ rw (looked w (below p (269 - g)), e))
+
+  rest-many : (g a l : ℕ) → g < l → Ends 16 bad (contextRest bad found p g a l)
+  unfolding contextRest
+  rest-many g a l h = rw (lt-leb l g h) (said w s bad 16)
+
+  rest-out : (g a l : ℕ) → l ≤ g → (Inside w (below p (l + 269 - g)) (l + 270 - g) → ⊥) → Ends 6 s (contextRest bad found p g a l)
+  unfolding contextRest
+  rest-out g a l h f =
+      rw (le-leb l g h) (read-out (below p (l + 269 - g)) (l + 270 - g) (λ vs. answer 0 (found (below p (l + 269 - g) % 2 ^ 64) g a l vs) 0 []) f)
+
+-- ---- what a layout tells
+
+module _ (w : Window) (p g : ℕ) (k : Layout) (e : k ≡ layoutOf w p g) where
+  abbrev at-count : ℕ
+  at-count = below p (269 - g)
+
+  told-outside : k ≡ Outside → has (shapeOf w) at-count ≡ false
+  unfolding layoutOf
+  told-outside d =
+      on (λ (y : Layout). y ≡ Outside → has (shapeOf w) at-count ≡ false) (has (shapeOf w) at-count)
+      (λ h. on (λ (y : Layout). y ≡ Outside → has (shapeOf w) at-count ≡ false) (leb (look one w at-count) g)
+      (λ f q. let z : _≡_ {A = ℕ} 0 1 = cc in absurd (omega arith)) (λ f q. let z : _≡_ {A = ℕ} 0 1 = cc in absurd (omega arith)))
+      (λ h q. h) (sym e ∙ d)
+
+  told-excess : (n : ℕ) → k ≡ Excess n → (has (shapeOf w) at-count ≡ true) × (g < look one w at-count)
+  unfolding layoutOf
+  told-excess n d =
+      on (λ (y : Layout). y ≡ Excess n → (has (shapeOf w) at-count ≡ true) × (g < look one w at-count)) (has (shapeOf w) at-count)
+      (λ h. on (λ (y : Layout). y ≡ Excess n → (has (shapeOf w) at-count ≡ true) × (g < look one w at-count)) (leb (look one w at-count) g)
+      (λ f q. let z : _≡_ {A = ℕ} 0 1 = cc in absurd (omega arith)) (λ f q. (h, leb-false _ _ f)))
+      (λ h q. let z : _≡_ {A = ℕ} 0 1 = cc in absurd (omega arith)) (sym e ∙ d)
+
+  told-found : (l : SaveContextLayout) → k ≡ Found l
+      → (has (shapeOf w) at-count ≡ true) × (look one w at-count ≤ g) × (l ≡ layoutAt p g (look one w at-count))
+  unfolding layoutOf
+  told-found l d =
+      on (λ (y : Layout). y ≡ Found l → (has (shapeOf w) at-count ≡ true) × (look one w at-count ≤ g) × (l ≡ layoutAt p g (look one w at-count)))
+      (has (shapeOf w) at-count)
+      (λ h. on (λ (y : Layout). y ≡ Found l → (has (shapeOf w) at-count ≡ true) × (look one w at-count ≤ g) × (l ≡ layoutAt p g (look one w at-count)))
+      (leb (look one w at-count) g)
+      (λ f q. (h, leb-true _ _ f, cc)) (λ f q. let z : _≡_ {A = ℕ} 0 1 = cc in absurd (omega arith)))
+      (λ h q. let z : _≡_ {A = ℕ} 0 1 = cc in absurd (omega arith)) (sym e ∙ d)
+
+  pub told-count : (l : SaveContextLayout) → k ≡ Found l → l .«local_count» ≤ g
+  unfolding layoutAt
+  told-count l d =
+      let t = told-found l d in
+      let c : l .«local_count» ≡ look one w at-count = ap (λ (x : SaveContextLayout). x .«local_count») (t .2) in
+      let m : look one w at-count ≤ g = t .1 in
+      omega arith
+
+-- ---- the ways out of `locate`
+
+has-inside : (w : Window) (a : ℕ) → has (shapeOf w) a ≡ true → Inside w a 1
+has-inside w a h = run-one (shapeOf w) a ∙ inside-judged (shapeOf w) a h
+
+not-inside : (w : Window) (a : ℕ) → has (shapeOf w) a ≡ false → Inside w a 1 → ⊥
+not-inside w a h i =
+    let t : has (shapeOf w) a ≡ true = passed-has (shapeOf w) a (sym (run-one (shapeOf w) a) ∙ i) in
+    let z : _≡_ {A = ℕ} 0 1 = cc in
+    omega arith
+
+module _ (w : Window) (p : ℕ) where
+  refused-is : (n m : ℕ) (r : Located) → locatedOf w p ≡ record { reply = n; state = spot m 0 0 0 0; memory = w } → r ≡ spot n 0 0 0 0 → LocatedIs w p r
+  unfolding spot
+  refused-is n m r e d = record {
+    reply-is = ap (λ (z : Located). z .reply) d ∙ sym (ap (λ (o : Outcome Located Window). o .reply) e);
+    first-is = ap (λ (z : Located). z .first) d ∙ sym (ap (λ (o : Outcome Located Window). o .state .first) e);
+    rg-is = ap (λ (z : Located). z .rg) d ∙ sym (ap (λ (o : Outcome Located Window). o .state .rg) e);
+    ra-is = ap (λ (z : Located). z .ra) d ∙ sym (ap (λ (o : Outcome Located Window). o .state .ra) e);
+    count-is = ap (λ (z : Located). z .count) d ∙ sym (ap (λ (o : Outcome Located Window). o .state .count) e);
+  }
+
+  found-is : (o g a l : ℕ) → locatedOf w p ≡ record { reply = 0; state = spot 0 o g a l; memory = w } → LocatedIs w p (record { reply = 0; first = o; rg = g; ra = a; count = l })
+  unfolding spot
+  found-is o g a l e = record {
+    reply-is = sym (ap (λ (o : Outcome Located Window). o .reply) e);
+    first-is = sym (ap (λ (o : Outcome Located Window). o .state .first) e);
+    rg-is = sym (ap (λ (o : Outcome Located Window). o .state .rg) e);
+    ra-is = sym (ap (λ (o : Outcome Located Window). o .state .ra) e);
+    count-is = sym (ap (λ (o : Outcome Located Window). o .state .count) e);
+  }
+
+  abbrev lost : Located
+  lost = spot 6 0 0 0 0
+
+  abbrev nothing : Located
+  nothing = spot 0 0 0 0 0
+
+  abbrev here : ℕ → ℕ → ℕ → ℕ → List ℕ → Located
+  here o g a l vs = spot 0 o g a l
+
+  pub way-lost : (r : Located) → (Inside w p 1 → ⊥) → r ≡ spot 6 0 0 0 0 → LocatedIs w p r
+  unfolding locatedOf
+  way-lost r h d = refused-is 6 6 r (at-out w lost nothing here p h) d
+
+  module _ (v : ℕ) (h : Inside w p 1) (e : v ≡ readOcta w p) where
+    abbrev gOf : ℕ
+    gOf = v / 2 ^ 56
+
+    abbrev aOf : ℕ
+    aOf = v % 2 ^ 56
+
+    packed-is : look one w p ≡ v
+    packed-is = sym (e ∙ read-in w p (sym (run-one (shapeOf w) p) ∙ h))
+
+    opened : locatedOf w p ≡ performOn w lost (contextCount nothing here p gOf aOf)
+    unfolding locatedOf
+    opened = at-open w lost nothing here p v h packed-is
+
+    pub way-threshold : (r : Located) → gOf < 32 → r ≡ spot 14 0 0 0 0 → LocatedIs w p r
+    way-threshold r l d = refused-is 14 0 r (opened ∙ count-low w lost nothing here p gOf aOf l) d
+
+    module _ (lo : 32 ≤ gOf) (hi : gOf ≤ 255) where
+      pub way-status : (r : Located) → 0x3FFFF < aOf → r ≡ spot 15 0 0 0 0 → LocatedIs w p r
+      way-status r l d = refused-is 15 0 r (opened ∙ count-status w lost nothing here p gOf aOf lo hi l) d
+
+      module _ (am : aOf ≤ 0x3FFFF) (k : Layout) (ek : k ≡ layoutOf w p gOf) where
+        pub way-outside : (r : Located) → k ≡ Outside → r ≡ spot 6 0 0 0 0 → LocatedIs w p r
+        way-outside r q d =
+            refused-is 6 6 r (opened ∙ count-out w lost nothing here p gOf aOf lo hi am (not-inside w (below p (269 - gOf)) (told-outside w p gOf k ek q))) d
+
+        rested : (l : ℕ) → has (shapeOf w) (below p (269 - gOf)) ≡ true → look one w (below p (269 - gOf)) ≡ l
+            → locatedOf w p ≡ performOn w lost (contextRest nothing here p gOf aOf l)
+        rested l t q = opened ∙ count-open w lost nothing here p gOf aOf lo hi am l (has-inside w (below p (269 - gOf)) t) q
+
+        pub way-excess : (r : Located) (n : ℕ) → k ≡ Excess n → r ≡ spot 16 0 0 0 0 → LocatedIs w p r
+        way-excess r n q d =
+            let t = told-excess w p gOf k ek n q in
+            refused-is 16 0 r (rested _ (t .0) refl ∙ rest-many w lost nothing here p gOf aOf _ (t .1)) d
+
+        module _ (l : SaveContextLayout) (q : k ≡ Found l) where
+          count-is : l .«local_count» ≡ look one w (below p (269 - gOf))
+          unfolding layoutAt
+          count-is = ap (λ (x : SaveContextLayout). x .«local_count») (told-found w p gOf k ek l q .2)
+
+          first-is : l .«locals_base» ≡ below p (l .«local_count» + 269 - gOf) % 2 ^ 64
+          unfolding layoutAt
+          first-is =
+              ap (λ (x : SaveContextLayout). x .«locals_base») (told-found w p gOf k ek l q .2) ∙ ap (λ (n : ℕ). below p (n + 269 - gOf) % 2 ^ 64) (sym count-is)
+
+          pub way-short : (r : Located) → (Inside w (l .«locals_base») (l .«local_count» + 270 - gOf) → ⊥) → r ≡ spot 6 0 0 0 0 → LocatedIs w p r
+          way-short r f d =
+              refused-is 6 6 r (rested (l .«local_count») (told-found w p gOf k ek l q .0) (sym count-is)
+              ∙ rest-out w lost nothing here p gOf aOf (l .«local_count») (told-count w p gOf k ek l q)
+              (λ i. f (run-back w (below p (l .«local_count» + 269 - gOf)) (l .«locals_base») first-is (l .«local_count» + 270 - gOf) i))) d
+
+          pub way-found : Inside w (l .«locals_base») (l .«local_count» + 270 - gOf)
+              → LocatedIs w p (record { reply = 0; first = l .«locals_base»; rg = gOf; ra = aOf; count = l .«local_count» })
+          unfolding locatedOf
+          way-found i =
+              found-is (l .«locals_base») gOf aOf (l .«local_count»)
+              (context-found w lost nothing here p gOf aOf (l .«local_count») context ∙ rw first-is)
+            where
+              context : Context w p gOf aOf (l .«local_count»)
+              context = record {
+                packed = h;
+                threshold-is = ap (λ (x : ℕ). x / 2 ^ 56) packed-is;
+                status-is = ap (λ (x : ℕ). x % 2 ^ 56) packed-is;
+                g-low = lo;
+                g-high = hi;
+                a-high = am;
+                count = has-inside w (below p (269 - gOf)) (told-found w p gOf k ek l q .0);
+                count-is = sym count-is;
+                l-g = told-count w p gOf k ek l q;
+                rest = run-alike w (below p (l .«local_count» + 269 - gOf)) (l .«locals_base») first-is (l .«local_count» + 270 - gOf) i;
+              }

@@ -1,0 +1,110 @@
+-- `locate` meets its contract: each way out is a stage of the context plan, in its order 6, 14, 15, 6, 16, 6.
+use mathlib.Core.Path.{sym, _∙_}
+use native.Mathlib.Omega.{arith}
+use Rattle.stack.proofs.Places.{told-count, way-lost, way-threshold, way-status, way-outside, way-excess, way-short, way-found}
+use borrow.Author.Needs.{needs}
+use Rattle.stack.proofs.context.locate.Statement.{statement}
+use Rattle.stack.proofs.context.locate.Tie as tie
+
+run-refusal-requires : tie.Need-run-refusal-requires
+run-refusal-requires c κs = search needs
+
+read-octa-requires : tie.Need-read-octa-requires
+read-octa-requires c κs = search needs
+
+refused-requires : tie.Need-refused-requires
+refused-requires c κs = search needs
+
+returns : tie.Need-returns
+returns c = way-threshold _ _ _ (sym (c .before .before .before .before .run-refusal .ensures) ∙ c .before .before .before .if1 .taken) (c .before .before .read-octa .ensures) _ (c .before .if2 .taken) (c .refused .ensures)
+
+refused-requires-2 : tie.Need-refused-requires-2
+refused-requires-2 c κs = search needs
+
+returns-2 : tie.Need-returns-2
+returns-2 c = way-status _ _ _ (sym (c .before .before .before .before .before .run-refusal .ensures) ∙ c .before .before .before .before .if1 .taken) (c .before .before .before .read-octa .ensures) (c .before .before .if2 .left) (omega arith) _ (c .before .if3 .taken) (c .refused2 .ensures)
+
+cast-save-context-layout : tie.Need-cast-save-context-layout
+cast-save-context-layout c = search needs
+
+save-context-layout-requires : tie.Need-save-context-layout-requires
+save-context-layout-requires c κs = search needs
+
+enum-known-layout : tie.Need-enum-known-layout
+enum-known-layout c = search needs
+
+add-run-refusal : tie.Need-add-run-refusal
+add-run-refusal c = omega (arith, told-count _ _ _ _ (c .before .before .before .save-context-layout .ensures) _ (c .before .layout .given .1))
+
+sub-run-refusal : tie.Need-sub-run-refusal
+sub-run-refusal c = search needs
+
+run-refusal-requires-2 : tie.Need-run-refusal-requires-2
+run-refusal-requires-2 c κs = search needs
+
+returns-3 : tie.Need-returns-3
+returns-3 c =
+    way-found _ _ _ (sym (c .before .before .before .before .before .before .before .before .before .before .run-refusal .ensures) ∙ c .before .before .before .before .before .before .before .before .before .if1 .taken) (c .before .before .before .before .before .before .before .before .read-octa .ensures) (c .before .before .before .before .before .before .before .if2 .left) (omega arith) (c .before .before .before .before .before .before .if3 .left) _ (c .before .before .before .before .before .save-context-layout .ensures) _ (c .before .before .before .layout .given .1)
+    (sym (c .before .run-refusal2 .ensures) ∙ c .if4 .taken)
+
+refused-requires-3 : tie.Need-refused-requires-3
+refused-requires-3 c κs = search needs
+
+returns-4 : tie.Need-returns-4
+returns-4 c =
+    way-short _ _ _ (sym (c .before .before .before .before .before .before .before .before .before .before .before .run-refusal .ensures) ∙ c .before .before .before .before .before .before .before .before .before .before .if1 .taken) (c .before .before .before .before .before .before .before .before .before .read-octa .ensures) (c .before .before .before .before .before .before .before .before .if2 .left) (omega arith) (c .before .before .before .before .before .before .before .if3 .left) _ (c .before .before .before .before .before .before .save-context-layout .ensures) _ (c .before .before .before .before .layout .given .1) _
+    (λ z. c .before .if4 .left (c .before .before .run-refusal2 .ensures ∙ z)) (c .refused3 .ensures)
+
+enum-told : tie.Need-enum-told
+enum-told c = search needs
+
+refused-requires-4 : tie.Need-refused-requires-4
+refused-requires-4 c κs = search needs
+
+returns-5 : tie.Need-returns-5
+returns-5 c =
+    way-excess _ _ _ (sym (c .before .before .before .before .before .before .before .before .run-refusal .ensures) ∙ c .before .before .before .before .before .before .before .if1 .taken) (c .before .before .before .before .before .before .read-octa .ensures) (c .before .before .before .before .before .if2 .left) (omega arith) (c .before .before .before .before .if3 .left) _ (c .before .before .before .save-context-layout .ensures) _ _ (c .before .enum-told .given .1) (c .refused4 .ensures)
+
+enum-told-2 : tie.Need-enum-told-2
+enum-told-2 c = search needs
+
+refused-requires-5 : tie.Need-refused-requires-5
+refused-requires-5 c κs = search needs
+
+returns-6 : tie.Need-returns-6
+returns-6 c =
+    way-outside _ _ _ (sym (c .before .before .before .before .before .before .before .before .run-refusal .ensures) ∙ c .before .before .before .before .before .before .before .if1 .taken) (c .before .before .before .before .before .before .read-octa .ensures) (c .before .before .before .before .before .if2 .left) (omega arith) (c .before .before .before .before .if3 .left) _ (c .before .before .before .save-context-layout .ensures) _ (c .before .enum-told2 .given .1) (c .refused5 .ensures)
+
+refused-requires-6 : tie.Need-refused-requires-6
+refused-requires-6 c κs = search needs
+
+returns-7 : tie.Need-returns-7
+returns-7 c = way-lost _ _ _ (λ z. c .before .if1 .left (c .before .before .run-refusal .ensures ∙ z)) (c .refused6 .ensures)
+
+pub locate-spec : {M : Type 1} → statement M
+locate-spec =
+    tie.close
+    (tie.spec
+    run-refusal-requires
+    read-octa-requires
+    refused-requires
+    returns
+    refused-requires-2
+    returns-2
+    cast-save-context-layout
+    save-context-layout-requires
+    enum-known-layout
+    add-run-refusal
+    sub-run-refusal
+    run-refusal-requires-2
+    returns-3
+    refused-requires-3
+    returns-4
+    enum-told
+    refused-requires-4
+    returns-5
+    enum-told-2
+    refused-requires-5
+    returns-6
+    refused-requires-6
+    returns-7)

@@ -1,0 +1,118 @@
+-- `pop_at` meets its contract: the hole is read where it lies in the window, and then the frame.
+use mathlib.Core.Path.{sym, _∙_}
+use native.Mathlib.Omega.{arith}
+use Rattle.model.specs.Parts.{made, lent}
+use Rattle.stack.proofs.Frames.{hole-run, hole-is, frame-run}
+use Rattle.stack.proofs.Outcomes.{pop-lacks, pop-short, pop-done}
+use borrow.Author.Needs.{needs}
+use Rattle.stack.proofs.frame.pop_at.Statement.{statement}
+use Rattle.stack.proofs.frame.pop_at.Tie as tie
+
+element-copy-out-ro : tie.Need-element-copy-out-ro
+element-copy-out-ro c = search needs
+
+element-copy-out-rg : tie.Need-element-copy-out-rg
+element-copy-out-rg c = search needs
+
+element-copy-out-rj : tie.Need-element-copy-out-rj
+element-copy-out-rj c = search needs
+
+wrapping-sub-requires : tie.Need-wrapping-sub-requires
+wrapping-sub-requires c κs = search needs
+
+run-refusal-requires : tie.Need-run-refusal-requires
+run-refusal-requires c κs = search needs
+
+read-octa-requires : tie.Need-read-octa-requires
+read-octa-requires c κs = search needs
+
+add-wrapping-sub : tie.Need-add-wrapping-sub
+add-wrapping-sub c = search needs
+
+mul-wrapping-sub : tie.Need-mul-wrapping-sub
+mul-wrapping-sub c = search needs
+
+wrapping-sub-requires-2 : tie.Need-wrapping-sub-requires-2
+wrapping-sub-requires-2 c κs = search needs
+
+least-requires : tie.Need-least-requires
+least-requires c κs = search needs
+
+run-refusal-requires-2 : tie.Need-run-refusal-requires-2
+run-refusal-requires-2 c κs = search needs
+
+leave-requires : tie.Need-leave-requires
+leave-requires c κs =
+    let judged = c .before .before .before in
+    let start = judged .before .before .before .before .before .before .before .before .before .before .before in
+    let a = start .args in
+    let run = frame-run (lent (a .base) (a .window .now)) (a .special .now) (start .pre .1) _ _ _ _ (omega arith) (judged .before .before .wrapping-sub2 .ensures) (judged .before .least .ensures) (judged .run-refusal2 .ensures) in
+    (start .pre .0, omega arith, start .pre .1, sym run ∙ c .before .before .if2 .taken)
+
+mul-wrapping-add : tie.Need-mul-wrapping-add
+mul-wrapping-add c = search needs
+
+wrapping-add-requires : tie.Need-wrapping-add-requires
+wrapping-add-requires c κs = search needs
+
+returns : tie.Need-returns
+returns c =
+    λ pc halt marks adm rul well.
+    let judged = c .before .before .before .before .before in
+    let first = judged .before .before .before .before .before in
+    let start = first .before .before .before .before .before .before in
+    let a = start .args in
+    let w = lent (a .base) (a .window .now) in
+    let l = a .special .now in
+    pop-done w (made (a .general .now) l pc halt marks) (a .x) (a .yz) adm rul (start .pre .1 .above) well
+    (sym (hole-run w l (start .pre .1) _ (first .before .wrapping-sub .ensures) _ (first .run-refusal .ensures)) ∙ judged .before .before .before .before .if1 .taken)
+    _ (hole-is w l (start .pre .1) _ (first .before .wrapping-sub .ensures) _ (judged .before .before .before .read-octa .ensures)) _ _
+    (sym (frame-run w l (start .pre .1) _ _ _ _ (omega arith) (judged .before .before .wrapping-sub2 .ensures) (judged .before .least .ensures) (judged .run-refusal2 .ensures)) ∙ c .before .before .before .before .if2 .taken)
+    (c .before .leave .ensures pc halt marks) (c .wrapping-add .ensures)
+
+returns-2 : tie.Need-returns-2
+returns-2 c =
+    λ pc halt marks adm rul well.
+    let judged = c .before in
+    let first = judged .before .before .before .before .before in
+    let start = first .before .before .before .before .before .before in
+    let a = start .args in
+    let w = lent (a .base) (a .window .now) in
+    let l = a .special .now in
+    pop-short w (made (a .general .now) l pc halt marks) (a .x) (a .yz) adm rul (start .pre .1 .above) well
+    (sym (hole-run w l (start .pre .1) _ (first .before .wrapping-sub .ensures) _ (first .run-refusal .ensures)) ∙ judged .before .before .before .before .if1 .taken)
+    _ (hole-is w l (start .pre .1) _ (first .before .wrapping-sub .ensures) _ (judged .before .before .before .read-octa .ensures))
+    (λ i. c .if2 .left (frame-run w l (start .pre .1) _ _ _ _ (omega arith) (judged .before .before .wrapping-sub2 .ensures) (judged .before .least .ensures) (judged .run-refusal2 .ensures) ∙ i))
+
+returns-3 : tie.Need-returns-3
+returns-3 c =
+    λ pc halt marks adm rul well.
+    let first = c .before in
+    let start = first .before .before .before .before .before .before in
+    let a = start .args in
+    let w = lent (a .base) (a .window .now) in
+    let l = a .special .now in
+    pop-lacks w (made (a .general .now) l pc halt marks) (a .x) (a .yz) adm rul (start .pre .1 .above) well
+    (λ i. c .if1 .left (hole-run w l (start .pre .1) _ (first .before .wrapping-sub .ensures) _ (first .run-refusal .ensures) ∙ i))
+
+pub pop-at-spec : {M : Type 1} → statement M
+pop-at-spec =
+    tie.close
+    (tie.spec
+    element-copy-out-ro
+    element-copy-out-rg
+    element-copy-out-rj
+    wrapping-sub-requires
+    run-refusal-requires
+    read-octa-requires
+    add-wrapping-sub
+    mul-wrapping-sub
+    wrapping-sub-requires-2
+    least-requires
+    run-refusal-requires-2
+    leave-requires
+    mul-wrapping-add
+    wrapping-add-requires
+    returns
+    returns-2
+    returns-3)

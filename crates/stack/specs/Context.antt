@@ -1,0 +1,60 @@
+-- What save_context, unsave_context, locate and read_context answer and leave.
+use Prim.Native.Nat.{ℕ, _+_, _-_, _*_, _%_, _^_}
+use mathlib.Core.Path.{_≡_}
+use mathlib.Core.Bool.{cond}
+use mathlib.Core.List.{List}
+use lib.Dec.{leb, eqb}
+use Rattle.model.specs.Memory.{Window, shapeOf, has, one}
+use Rattle.model.specs.Plan.{Outcome, perform, look}
+use Rattle.model.specs.Contexts.{below, saveContext, contextAt, unsaveContext}
+use Rattle.model.specs.Step.{refusing}
+use Rattle.stack.specs.Gives.{guardedOn}
+use Rattle.model.specs.declared.State.{State}
+use Rattle.stack.specs.declared.context.Located.{Located}
+use Rattle.stack.specs.declared.context.Layout.{Layout}
+use Rattle.stack.specs.declared.context.Layout.the-variants.{Found, Excess, Outside}
+use Rattle.stack.specs.declared.context.SaveContextLayout.{SaveContextLayout}
+
+unfoldable pub saveOf : Window → State → ℕ → Outcome State Window
+saveOf w s x = guardedOn w s (saveContext s x)
+
+unfoldable pub unsaveOf : Window → State → ℕ → Outcome State Window
+unsaveOf w s p = guardedOn w s (unsaveContext s p)
+
+-- the parts of a context below its packed octabyte at p, for a threshold g and l locals
+unfoldable pub layoutAt : ℕ → ℕ → ℕ → SaveContextLayout
+layoutAt p g l = record {
+  «specials_base» = below p 12 % 2 ^ 64;
+  «globals_base» = below p (268 - g) % 2 ^ 64;
+  «global_count» = 256 - g;
+  «local_count» = l;
+  «locals_base» = below p (l + 269 - g) % 2 ^ 64;
+}
+
+-- the count read and compared at full width: 6 where it is missing, 16 with the count where it is above g
+unfoldable pub layoutOf : Window → ℕ → ℕ → Layout
+layoutOf w p g =
+    cond (has (shapeOf w) (below p (269 - g)))
+    (cond (leb (look one w (below p (269 - g))) g) (Found (layoutAt p g (look one w (below p (269 - g))))) (Excess (look one w (below p (269 - g)))))
+    Outside
+
+-- 01's number of each case
+unfoldable pub layoutNumber : Layout → ℕ
+layoutNumber (Found l) = 0
+layoutNumber (Excess count) = 16
+layoutNumber Outside = 6
+
+-- where the context at p is: its first local's address, rG, rA and local count; all 0 where it is refused
+unfoldable pub spot : ℕ → ℕ → ℕ → ℕ → ℕ → Located
+spot n o g a l = record { reply = n; first = o; rg = g; ra = a; count = l }
+
+-- the context plan that UNSAVE and the reader share, with the place as its answer
+unfoldable pub locatedOf : Window → ℕ → Outcome Located Window
+locatedOf w p = perform one (refusing (shapeOf w)) (spot 6 0 0 0 0) (contextAt (spot 0 0 0 0 0) (λ o g a l vs. spot 0 o g a l) p) w
+
+pub record LocatedIs (w : Window) (p : ℕ) (r : Located) : Type 0 where
+  pub reply-is : r .reply ≡ locatedOf w p .reply
+  pub first-is : r .first ≡ locatedOf w p .state .first
+  pub rg-is : r .rg ≡ locatedOf w p .state .rg
+  pub ra-is : r .ra ≡ locatedOf w p .state .ra
+  pub count-is : r .count ≡ locatedOf w p .state .count

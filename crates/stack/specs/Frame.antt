@@ -1,0 +1,70 @@
+-- What push_frame and pop_frame answer and leave.
+use Prim.Native.Nat.{ℕ, _+_, _-_, _*_, _%_, _^_, _≤_, _<_}
+use mathlib.Core.Path.{_≡_}
+use mathlib.Core.Bool.{cond}
+use mathlib.Core.List.{List}
+use lib.Dec.{ltb, eqb}
+use lib.ListN.{length, getD}
+use Rattle.model.specs.Memory.{Window}
+use Rattle.model.specs.Plan.{Outcome}
+use Rattle.model.specs.Registers.{rJ, rO, rG, rL, stackStart, sp, goes}
+use Rattle.model.specs.Frames.{hole, pushFrame, noFrame, popFrame}
+use Rattle.machine.specs.Octas.{readOcta}
+use Rattle.stack.specs.Gives.{guardedOn}
+use Rattle.model.specs.declared.State.{State}
+use Rattle.stack.specs.declared.frame.PopFrame.{PopFrame}
+use Rattle.stack.specs.declared.frame.PopFrame.the-variants.{Frame, NoFrame, Rejected, Missing, NotAdmissible, WindowRule}
+
+-- PUSH with x; where the call goes is the arm's business
+unfoldable pub pushOf : Window → State → ℕ → Outcome State Window
+pushOf w s x = guardedOn w s (pushFrame s (hole s x) (s .pc))
+
+-- POP with x; where it goes is the arm's business
+unfoldable pub popOf : Window → State → ℕ → Outcome State Window
+popOf w s x = guardedOn w s (popFrame s x (s .pc))
+
+-- "PC is rJ + 4 × YZ"
+abbrev pub returnTo : State → ℕ → ℕ
+returnTo s yz = (sp s rJ + 4 * yz) % 2 ^ 64
+
+-- 01's number of each case
+unfoldable pub popNumber : PopFrame → ℕ
+popNumber (Frame target) = 0
+popNumber NoFrame = 0
+popNumber Rejected = 12
+popNumber Missing = 6
+popNumber NotAdmissible = 1
+popNumber WindowRule = 2
+
+-- the case of each number, with its value
+unfoldable pub popAnswer : State → ℕ → ℕ → PopFrame
+popAnswer s yz n =
+    cond (eqb n 0) (cond (noFrame s) NoFrame (Frame (returnTo s yz)))
+    (cond (eqb n 12) Rejected (cond (eqb n 6) Missing (cond (eqb n 1) NotAdmissible WindowRule)))
+
+pub record PopGives (w : Window) (s : State) (x yz : ℕ) (r : PopFrame) (t : State) : Type 0 where
+  pub answer-is : r ≡ popAnswer s yz (popOf w s x .reply)
+  pub number-is : popNumber r ≡ popOf w s x .reply
+  pub state-is : t ≡ goes (popOf w s x .state) (s .pc)
+
+-- ---- what the private functions go by
+
+-- the special registers of an admissible state
+pub record Held (special : List ℕ) : Type 0 where
+  pub long : rO < length special
+  pub g-high : getD special rG 0 ≤ 255
+  pub l-g : getD special rL 0 ≤ getD special rG 0
+
+-- rO where a frame can stand below it
+pub record Placed (special : List ℕ) : Type 0 where
+  pub above : stackStart < getD special rO 0
+  pub beneath : getD special rO 0 < 0x8000000000000000
+
+-- where the frame with hole h below rO starts
+abbrev pub bottomOf : List ℕ → ℕ → ℕ
+bottomOf special h = getD special rO 0 - 8 * (h + 1)
+
+-- $k of the caller, from the window, the last output, the hole, the count and the callee's registers
+abbrev pub restoredBy : Window → ℕ → ℕ → ℕ → ℕ → List ℕ → ℕ → ℕ
+restoredBy w bottom last h count general k =
+    cond (ltb k h) (readOcta w (bottom + 8 * k)) (cond (eqb k h) last (cond (ltb k (h + count)) (getD general (k - h - 1) 0) 0))

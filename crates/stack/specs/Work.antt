@@ -1,0 +1,41 @@
+-- What the contracts of the private functions cite: bounds, a run of stores that goes on, octabytes as code reads them, and the
+-- twelve special registers loaded one after another.
+use Prim.Native.Nat.{ℕ, zero, suc, _+_, _*_, _%_, _^_, _≤_, _<_}
+use mathlib.Core.Path.{_≡_}
+use mathlib.Core.List.{List}
+use lib.ListN.{getD, set}
+use Rattle.model.specs.Fill.{tab}
+use Rattle.model.specs.Memory.{Window, shapeOf, one}
+use Rattle.model.specs.Plan.{worst, puts}
+use Rattle.model.specs.Registers.{rO, rG, rL, rA}
+use Rattle.model.specs.Contexts.{extent, savedSpecial, saved}
+use Rattle.model.specs.Step.{refusing}
+use Rattle.model.specs.Parts.{made}
+use Rattle.machine.specs.Octas.{readOcta}
+
+-- what a context's size and packed octabyte rest on
+pub record Ranged (special : List ℕ) : Type 0 where
+  pub g-low : 32 ≤ getD special rG 0
+  pub g-high : getD special rG 0 ≤ 255
+  pub l-g : getD special rL 0 ≤ getD special rG 0
+  pub a-high : getD special rA 0 ≤ 0x3FFFF
+
+-- u is v with g 0 to g (n − 1) stored from addr up, as a part of a longer run: where v is w with the first k of the octabytes
+-- f 0, f 1, .. of a run of m inside it, and these are the next n, u is w with the first k + n
+pub record Continues (v : Window) (addr n : ℕ) (g : ℕ → ℕ) (u : Window) : Type 0 where
+  pub goes-on : (w : Window) (o k m : ℕ) (f : ℕ → ℕ) → v ≡ puts one w o (tab 0 k f) → addr % 2 ^ 64 ≡ (o + 8 * k) % 2 ^ 64 → k + n ≤ m
+      → worst (refusing (shapeOf w)) o m ≡ 0 → ((i : ℕ) → i < n → g i ≡ f (k + i)) → u ≡ puts one w o (tab 0 (k + n) f)
+
+-- v is w with the context of these registers stored from rO up, where it lies inside
+pub record StoresContext (general special : List ℕ) (w v : Window) : Type 0 where
+  pub stores : (pc halt marks : ℕ) → marks < 512 → worst (refusing (shapeOf w)) (getD special rO 0) (extent (made general special pc halt marks)) ≡ 0
+      → v ≡ puts one w (getD special rO 0) (tab 0 (extent (made general special pc halt marks)) (saved (made general special pc halt marks)))
+
+-- the n octabytes from address a up, as code reads them
+unfoldable pub octasFrom : Window → ℕ → ℕ → List ℕ
+octasFrom w a n = tab 0 n (λ i. readOcta w ((a + 8 * i) % 2 ^ 64))
+
+-- l with f k at the place of the special that is number k of the twelve, for each k below n
+unfoldable pub loaded : (ℕ → ℕ) → ℕ → List ℕ → List ℕ
+loaded f zero l = l
+loaded f (suc n) l = set (loaded f n l) (savedSpecial n) (f n)

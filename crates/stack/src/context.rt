@@ -1,0 +1,339 @@
+// Contexts in place: SAVE and UNSAVE, and where a context lies.
+ghost use mathlib.Core.Path.{_≡_};
+ghost use Prim.Native.Nat.{ℕ, _+_, _-_, _*_, _%_, _^_, _≤_, _<_};
+ghost use lib.ListN.{getD};
+ghost use Rattle.model.specs.Fill.{over};
+ghost use Rattle.model.specs.Contexts.{savedSpecial, savedState, unsavedGeneral, unsaved};
+ghost use Rattle.model.specs.Numbers.{replyOf};
+ghost use Rattle.model.specs.Parts.{made, lent};
+ghost use Rattle.machine.specs.Octas.{readOcta};
+ghost use Rattle.stack.specs.Gives.{Gives};
+ghost use Rattle.stack.specs.Context.{saveOf, unsaveOf, layoutOf, spot, LocatedIs};
+ghost use Rattle.stack.specs.Work.{Ranged, Continues, StoresContext, octasFrom, loaded};
+use model::Reply;
+use model::State;
+
+/// The special registers that a context has, in order.
+const SAVE_SPECIALS: [usize; 12] = [0, 1, 2, 3, 4, 5, 6, 23, 24, 25, 26, 27];
+
+/// Addresses below a saved context's packed octabyte.
+pub struct SaveContextLayout {
+    pub specials_base: u64,
+    pub globals_base: u64,
+    pub global_count: u64,
+    pub local_count: u64,
+    pub locals_base: u64,
+}
+
+/// The layout, or why there is none.
+pub enum Layout {
+    /// The context's parts.
+    Found(SaveContextLayout),
+    /// The local count is above the saved rG (16).
+    Excess(u64),
+    /// The local count lies outside the window (6).
+    Outside,
+}
+
+/// Where a context is: its reply, the address of its first local, its rG, rA and local count.
+pub struct Located {
+    pub reply: u64,
+    pub first: u64,
+    pub rg: u64,
+    pub ra: u64,
+    pub count: u64,
+}
+
+/// The special register that is number i of the twelve.
+fn save_special(i: usize) -> usize
+    requires { ⌜ i < 12 ⌝ }
+    ensures { λ r. ⌜ (r ≡ savedSpecial i) × (r < 32) ⌝ }
+{
+    SAVE_SPECIALS[i]
+}
+
+/// The n registers from $from up, stored from address addr up.
+fn store_run(general: &[u64; 256], window: &mut [u8], base: u64, addr: u64, from: u64, n: u64)
+    requires { ⌜ from + n ≤ 256 ⌝ }
+    ensures { λ _. ⌜ Continues (lent base (now (window .entry))) addr n (λ (i : ℕ). getD (now (general .entry)) (from + i) 0) (lent base (now (window .exit))) ⌝ }
+{
+    let mut i: u64 = 0;
+    while i < n {
+        let place = machine::number::wrapping_add(addr, 8 * i);
+        let k = from + i;
+        let v = general[k as usize];
+        machine::memory::write_octa(window, base, place, v);
+        i += 1;
+    }
+}
+
+/// The twelve special registers, stored from address addr up.
+fn store_specials(special: &[u64; 32], window: &mut [u8], base: u64, addr: u64)
+    ensures { λ _. ⌜ Continues (lent base (now (window .entry))) addr 12 (λ (i : ℕ). getD (now (special .entry)) (savedSpecial i) 0) (lent base (now (window .exit))) ⌝ }
+{
+    let mut i: usize = 0;
+    while i < 12 {
+        let place = machine::number::wrapping_add(addr, 8 * (i as u64));
+        let k = save_special(i);
+        let v = special[k];
+        machine::memory::write_octa(window, base, place, v);
+        i += 1;
+    }
+}
+
+/// The context, stored from rO up.
+fn store_context(general: &[u64; 256], special: &[u64; 32], window: &mut [u8], base: u64)
+    requires { ⌜ Ranged (now special) ⌝ }
+    ensures { λ _. ⌜ StoresContext (now (general .entry)) (now (special .entry)) (lent base (now (window .entry))) (lent base (now (window .exit))) ⌝ }
+{
+    let ro = special[State::RO];
+    let rl = special[State::RL];
+    let rg = special[State::RG];
+    let ra = special[State::RA];
+    store_run(general, window, base, ro, 0, rl);
+    let marker = machine::number::wrapping_add(ro, 8 * rl);
+    machine::memory::write_octa(window, base, marker, rl);
+    let globals = machine::number::wrapping_add(ro, 8 * (rl + 1));
+    store_run(general, window, base, globals, rg, 256 - rg);
+    let specials = machine::number::wrapping_add(ro, 8 * (rl + 257 - rg));
+    store_specials(special, window, base, specials);
+    let packed = machine::number::wrapping_add(ro, 8 * (rl + 269 - rg));
+    machine::memory::write_octa(window, base, packed, rg * 0x100000000000000 + ra);
+}
+
+/// The registers after the context was stored: $x has its address.
+fn depart(general: &mut [u64; 256], special: &mut [u64; 32], x: u8)
+    requires { ⌜ Ranged (now special) ⌝ }
+    ensures { λ _. ⌜ ((pc halt marks : ℕ) → made (now (general .exit)) (now (special .exit)) pc halt marks ≡ savedState (made (now (general .entry)) (now (special .entry)) pc halt marks) x) ⌝ }
+{
+    machine::registers::counted(general, special);
+    let ro = special[State::RO];
+    let rl = special[State::RL];
+    let rg = special[State::RG];
+    let address = machine::number::wrapping_add(ro, 8 * (rl + 269 - rg));
+    let new_ro = machine::number::wrapping_add(ro, 8 * (rl + 270 - rg));
+    machine::registers::clear_range(general, 0, rg);
+    general[x as usize] = address;
+    special[State::RL] = 0;
+    special[State::RO] = new_ro;
+    special[State::RS] = new_ro;
+}
+
+/// SAVE $x: the context goes to the window at rO.
+pub fn save_context(
+    general: &mut [u64; 256],
+    special: &mut [u64; 32],
+    halt: &mut u64,
+    marks: u64,
+    window: &mut [u8],
+    base: u64,
+    x: u8,
+) -> Reply
+    ensures { λ r. ⌜ ((pc : ℕ) → Gives (saveOf (lent base (now (window .entry))) (made (now (general .entry)) (now (special .entry)) pc (now (halt .entry)) marks) x) (made (now (general .entry)) (now (special .entry)) pc (now (halt .entry)) marks) r (made (now (general .exit)) (now (special .exit)) pc (now (halt .exit)) marks) (lent base (now (window .exit)))) ⌝ }
+{
+    if machine::registers::admissible(special, marks) {
+        if machine::memory::is_ruled(window, base) {
+            let rg = special[State::RG];
+            let rl = special[State::RL];
+            let ro = special[State::RO];
+            let at = x as u64;
+            if at < rg {
+                *halt = 1;
+                return Reply::SaveLocal;
+            }
+            if machine::memory::run_refusal(window, base, ro, rl + 270 - rg) == 0 {
+                store_context(general, special, window, base);
+                depart(general, special, x);
+                return Reply::Done;
+            }
+            return Reply::Missing;
+        }
+        return Reply::WindowRule;
+    }
+    Reply::NotAdmissible
+}
+
+/// The parts of the context whose packed octabyte is at `packed_addr`, for its rG; the count is compared at full width.
+pub fn save_context_layout(window: &[u8], base: u64, packed_addr: u64, rg_saved: u8) -> Layout
+    ensures { λ r. ⌜ r ≡ layoutOf (lent base (now (window .entry))) «packed_addr» «rg_saved» ⌝ }
+{
+    let rg = rg_saved as u64;
+    let marker = machine::number::wrapping_sub(packed_addr, 8 * (269 - rg));
+    if machine::memory::run_refusal(window, base, marker, 1) == 0 {
+        let count = machine::memory::read_octa(window, base, marker);
+        if count <= rg {
+            let specials_base = machine::number::wrapping_sub(packed_addr, 96);
+            let globals_base = machine::number::wrapping_sub(packed_addr, 8 * (268 - rg));
+            let locals_base = machine::number::wrapping_sub(packed_addr, 8 * (count + 269 - rg));
+            return Layout::Found(SaveContextLayout {
+                specials_base: specials_base,
+                globals_base: globals_base,
+                global_count: 256 - rg,
+                local_count: count,
+                locals_base: locals_base,
+            });
+        }
+        return Layout::Excess(count);
+    }
+    Layout::Outside
+}
+
+fn refused(reply: u64) -> Located
+    ensures { λ r. ⌜ r ≡ spot reply 0 0 0 0 ⌝ }
+{
+    Located {
+        reply: reply,
+        first: 0,
+        rg: 0,
+        ra: 0,
+        count: 0,
+    }
+}
+
+/// The context whose packed octabyte is at `address`, after UNSAVE's own checks.
+pub fn locate(window: &[u8], base: u64, address: u64) -> Located
+    ensures { λ r. ⌜ LocatedIs (lent base (now (window .entry))) address r ⌝ }
+{
+    if machine::memory::run_refusal(window, base, address, 1) == 0 {
+        let packed = machine::memory::read_octa(window, base, address);
+        let rg = packed / 0x100000000000000;
+        let ra = packed % 0x100000000000000;
+        if rg < 32 {
+            return refused(14);
+        }
+        if 0x3FFFF < ra {
+            return refused(15);
+        }
+        let layout = save_context_layout(window, base, address, rg as u8);
+        match layout {
+            Layout::Found(l) => {
+                let count = l.local_count;
+                let first = l.locals_base;
+                if machine::memory::run_refusal(window, base, first, count + 270 - rg) == 0 {
+                    return Located {
+                        reply: 0,
+                        first: first,
+                        rg: rg,
+                        ra: ra,
+                        count: count,
+                    };
+                }
+                return refused(6);
+            }
+            Layout::Excess(_) => {
+                return refused(16);
+            }
+            Layout::Outside => {
+                return refused(6);
+            }
+        }
+    }
+    refused(6)
+}
+
+/// $i from a context of `count` locals and threshold rg whose first local is at `first`.
+fn unsaved(window: &[u8], base: u64, first: u64, rg: u64, count: u64, i: u64) -> u64
+    requires { ⌜ (i < 256) × (rg ≤ 255) × (count ≤ rg) ⌝ }
+    ensures { λ r. ⌜ r ≡ unsavedGeneral rg count (octasFrom (lent base (now (window .entry))) first (count + 270 - rg)) i ⌝ }
+{
+    if i < count {
+        let addr = machine::number::wrapping_add(first, 8 * i);
+        return machine::memory::read_octa(window, base, addr);
+    }
+    if i < rg {
+        return 0;
+    }
+    let addr = machine::number::wrapping_add(first, 8 * (count + 1 + (i - rg)));
+    machine::memory::read_octa(window, base, addr)
+}
+
+/// All general registers from a context.
+fn load_general(general: &mut [u64; 256], window: &[u8], base: u64, first: u64, rg: u64, count: u64)
+    requires { ⌜ (rg ≤ 255) × (count ≤ rg) ⌝ }
+    ensures { λ _. ⌜ now (general .exit) ≡ over (unsavedGeneral rg count (octasFrom (lent base (now (window .entry))) first (count + 270 - rg))) 0 256 (now (general .entry)) ⌝ }
+{
+    let mut i: u64 = 0;
+    while i < 256 {
+        let v = unsaved(window, base, first, rg, count, i);
+        general[i as usize] = v;
+        i += 1;
+    }
+}
+
+/// The twelve special registers from a context, from address addr up.
+fn load_specials(special: &mut [u64; 32], window: &[u8], base: u64, addr: u64)
+    ensures { λ _. ⌜ now (special .exit) ≡ loaded (λ (i : ℕ). readOcta (lent base (now (window .entry))) ((addr + 8 * i) % 2 ^ 64)) 12 (now (special .entry)) ⌝ }
+{
+    let mut i: usize = 0;
+    while i < 12 {
+        let place = machine::number::wrapping_add(addr, 8 * (i as u64));
+        let v = machine::memory::read_octa(window, base, place);
+        let k = save_special(i);
+        special[k] = v;
+        i += 1;
+    }
+}
+
+/// The registers become those of the context that was located.
+fn arrive(general: &mut [u64; 256], special: &mut [u64; 32], window: &[u8], base: u64, at: Located)
+    requires { ⌜ (at .rg ≤ 255) × (at .count ≤ at .rg) ⌝ }
+    ensures { λ _. ⌜ ((pc halt marks : ℕ) → made (now (general .exit)) (now (special .exit)) pc halt marks ≡ unsaved (made (now (general .entry)) (now (special .entry)) pc halt marks) (at .first) (at .rg) (at .ra) (at .count) (octasFrom (lent base (now (window .entry))) (at .first) (at .count + 270 - at .rg))) ⌝ }
+{
+    machine::registers::counted(general, special);
+    let first = at.first;
+    let rg = at.rg;
+    let count = at.count;
+    let specials = machine::number::wrapping_add(first, 8 * (count + 257 - rg));
+    load_general(general, window, base, first, rg, count);
+    load_specials(special, window, base, specials);
+    special[State::RO] = first;
+    special[State::RA] = at.ra;
+    special[State::RL] = count;
+    special[State::RG] = rg;
+    special[State::RS] = first;
+}
+
+/// 14, 15 or 16 as a reply.
+fn reply_of(number: u64) -> Reply
+    requires { ⌜ (14 ≤ number) × (number ≤ 16) ⌝ }
+    ensures { λ r. ⌜ r ≡ replyOf number ⌝ }
+{
+    if number == 14 {
+        return Reply::SavedThreshold;
+    }
+    if number == 15 {
+        return Reply::SavedStatus;
+    }
+    Reply::SavedCount
+}
+
+/// UNSAVE of the context whose packed octabyte is at `address`.
+pub fn unsave_context(
+    general: &mut [u64; 256],
+    special: &mut [u64; 32],
+    halt: &mut u64,
+    marks: u64,
+    window: &[u8],
+    base: u64,
+    address: u64,
+) -> Reply
+    ensures { λ r. ⌜ ((pc : ℕ) → Gives (unsaveOf (lent base (now (window .entry))) (made (now (general .entry)) (now (special .entry)) pc (now (halt .entry)) marks) address) (made (now (general .entry)) (now (special .entry)) pc (now (halt .entry)) marks) r (made (now (general .exit)) (now (special .exit)) pc (now (halt .exit)) marks) (lent base (now (window .entry)))) ⌝ }
+{
+    if machine::registers::admissible(special, marks) {
+        if machine::memory::is_ruled(window, base) {
+            let at = locate(window, base, address);
+            let number = at.reply;
+            if number == 0 {
+                arrive(general, special, window, base, at);
+                return Reply::Done;
+            }
+            if number == 6 {
+                return Reply::Missing;
+            }
+            *halt = 1;
+            return reply_of(number);
+        }
+        return Reply::WindowRule;
+    }
+    Reply::NotAdmissible
+}

@@ -1,0 +1,298 @@
+// Frames in place: PUSH and POP.
+ghost use mathlib.Core.Path.{_≡_};
+ghost use mathlib.Core.Bool.{true, false};
+ghost use mathlib.Core.List.{List};
+ghost use Prim.Native.Nat.{ℕ, _+_, _≤_, _<_, min};
+ghost use lib.ListN.{getD};
+ghost use Rattle.model.specs.Fill.{over, tab};
+ghost use Rattle.model.specs.Memory.{shapeOf, ruled, one};
+ghost use Rattle.model.specs.Plan.{worst, looks, puts};
+ghost use Rattle.model.specs.Registers.{rO, rG, rL, sp, admissible};
+ghost use Rattle.model.specs.Frames.{hole, framed, pushed, countOf, lastOutput, popped, misplaced};
+ghost use Rattle.model.specs.Parts.{made, lent};
+ghost use Rattle.model.specs.Step.{refusing};
+ghost use Rattle.model.specs.declared.State.{State};
+ghost use Rattle.stack.specs.Gives.{Gives};
+ghost use Rattle.stack.specs.Frame.{Held, Placed, pushOf, restoredBy, bottomOf, PopGives};
+use model::Reply;
+use model::State;
+
+/// What POP found at rO.
+pub enum PopFrame {
+    /// A frame was popped; PC goes to the target.
+    Frame(u64),
+    /// rO is at or below the stack's start: nothing moved.
+    NoFrame,
+    /// rO cannot hold a frame: the halt code is 1 (12).
+    Rejected,
+    /// A needed octabyte lies outside the window (6).
+    Missing,
+    /// The state is not admissible (1).
+    NotAdmissible,
+    /// The window breaks its rule (2).
+    WindowRule,
+}
+
+/// The hole's number.
+fn hole_of(rg: u64, rl: u64, x: u8) -> u64
+    requires { ⌜ rl ≤ 255 ⌝ }
+    ensures { λ r. ⌜ ((s : State) → sp s rG ≡ rg → sp s rL ≡ rl → r ≡ hole s x) × (r ≤ 255) ⌝ }
+{
+    let at = x as u64;
+    if rg <= at {
+        return rl;
+    }
+    at
+}
+
+/// $0 to $(h − 1), stored from address ro up.
+fn store_locals(general: &[u64; 256], window: &mut [u8], base: u64, ro: u64, h: u64)
+    requires { ⌜ (h ≤ 255) × (worst (refusing (shapeOf (lent base (now window)))) ro (h + 1) ≡ 0) ⌝ }
+    ensures { λ _. ⌜ ((special : List ℕ) (pc halt marks : ℕ) → lent base (now (window .exit)) ≡ puts one (lent base (now (window .entry))) ro (tab 0 h (framed (made (now (general .entry)) special pc halt marks) h))) ⌝ }
+{
+    let mut i: u64 = 0;
+    while i < h {
+        let addr = machine::number::wrapping_add(ro, 8 * i);
+        let v = general[i as usize];
+        machine::memory::write_octa(window, base, addr, v);
+        i += 1;
+    }
+}
+
+/// The frame with hole h, stored from address ro up.
+fn store_frame(general: &[u64; 256], window: &mut [u8], base: u64, ro: u64, h: u64)
+    requires { ⌜ (h ≤ 255) × (worst (refusing (shapeOf (lent base (now window)))) ro (h + 1) ≡ 0) ⌝ }
+    ensures { λ _. ⌜ ((special : List ℕ) (pc halt marks : ℕ) → lent base (now (window .exit)) ≡ puts one (lent base (now (window .entry))) ro (tab 0 (h + 1) (framed (made (now (general .entry)) special pc halt marks) h))) ⌝ }
+{
+    store_locals(general, window, base, ro, h);
+    let addr = machine::number::wrapping_add(ro, 8 * h);
+    machine::memory::write_octa(window, base, addr, h);
+}
+
+/// The first n registers become those from $from up.
+fn slide(general: &mut [u64; 256], from: u64, n: u64)
+    requires { ⌜ (0 < from) × (from + n ≤ 256) ⌝ }
+    ensures { λ _. ⌜ now (general .exit) ≡ over (λ (k : ℕ). getD (now (general .entry)) (from + k) 0) 0 n (now (general .entry)) ⌝ }
+{
+    let mut i: u64 = 0;
+    while i < n {
+        let src = from + i;
+        let v = general[src as usize];
+        general[i as usize] = v;
+        i += 1;
+    }
+}
+
+/// The registers after a push with hole h.
+fn enter(general: &mut [u64; 256], special: &mut [u64; 32], pc: u64, h: u64)
+    requires { ⌜ (Held (now special)) × (h ≤ 255) ⌝ }
+    ensures { λ _. ⌜ ((halt marks : ℕ) → made (now (general .exit)) (now (special .exit)) pc halt marks ≡ pushed (made (now (general .entry)) (now (special .entry)) pc halt marks) h) ⌝ }
+{
+    let ro = special[State::RO];
+    let rl = special[State::RL];
+    let rg = special[State::RG];
+    let n = machine::number::saturating_sub(rl, h + 1);
+    let new_ro = machine::number::wrapping_add(ro, 8 * (h + 1));
+    let rj = machine::number::wrapping_add(pc, 4);
+    slide(general, h + 1, n);
+    machine::registers::clear_range(general, n, rg);
+    special[State::RL] = n;
+    special[State::RO] = new_ro;
+    special[State::RJ] = rj;
+    special[State::RS] = new_ro;
+}
+
+/// PUSH with x: the frame goes to the window at rO, and the callee gets the registers above the hole.
+pub fn push_frame(
+    general: &mut [u64; 256],
+    special: &mut [u64; 32],
+    pc: u64,
+    marks: u64,
+    window: &mut [u8],
+    base: u64,
+    x: u8,
+) -> Reply
+    ensures { λ r. ⌜ ((halt : ℕ) → Gives (pushOf (lent base (now (window .entry))) (made (now (general .entry)) (now (special .entry)) pc halt marks) x) (made (now (general .entry)) (now (special .entry)) pc halt marks) r (made (now (general .exit)) (now (special .exit)) pc halt marks) (lent base (now (window .exit)))) ⌝ }
+{
+    if machine::registers::admissible(special, marks) {
+        if machine::memory::is_ruled(window, base) {
+            let rg = special[State::RG];
+            let rl = special[State::RL];
+            let ro = special[State::RO];
+            let h = hole_of(rg, rl, x);
+            if machine::memory::run_refusal(window, base, ro, h + 1) == 0 {
+                store_frame(general, window, base, ro, h);
+                enter(general, special, pc, h);
+                return Reply::Done;
+            }
+            return Reply::Missing;
+        }
+        return Reply::WindowRule;
+    }
+    Reply::NotAdmissible
+}
+
+/// How many outputs there are.
+fn count_of(rl: u64, x: u8) -> u64
+    requires { ⌜ rl ≤ 255 ⌝ }
+    ensures { λ r. ⌜ ((s : State) → sp s rL ≡ rl → r ≡ countOf s x) × (r ≤ 256) ⌝ }
+{
+    let n = x as u64;
+    if rl < n {
+        return rl + 1;
+    }
+    n
+}
+
+/// The last output.
+fn last_output(general: &[u64; 256], rl: u64, x: u8) -> u64
+    ensures { λ r. ⌜ ((special : List ℕ) (pc halt marks : ℕ) → getD special rL 0 ≡ rl → r ≡ lastOutput (made (now (general .entry)) special pc halt marks) x) ⌝ }
+{
+    if rl < x as u64 {
+        return 0;
+    }
+    if x == 0 {
+        return 0;
+    }
+    let i = x as usize - 1;
+    general[i]
+}
+
+/// $k of the caller, where the hole is h.
+fn restored(
+    general: &[u64; 256],
+    window: &[u8],
+    base: u64,
+    bottom: u64,
+    last: u64,
+    h: u64,
+    count: u64,
+    k: u64,
+) -> u64
+    requires { ⌜ (h ≤ 255) × (count ≤ 256) × (k ≤ 255) ⌝ }
+    ensures { λ r. ⌜ r ≡ restoredBy (lent base (now (window .entry))) bottom last h count (now (general .entry)) k ⌝ }
+{
+    if k < h {
+        let addr = machine::number::wrapping_add(bottom, 8 * k);
+        return machine::memory::read_octa(window, base, addr);
+    }
+    if k == h {
+        return last;
+    }
+    if k < h + count {
+        let i = (k - h - 1) as usize;
+        return general[i];
+    }
+    0
+}
+
+/// The registers below rG become the caller's, from the highest down, so that each is read before it is written.
+fn restore(
+    general: &mut [u64; 256],
+    window: &[u8],
+    base: u64,
+    bottom: u64,
+    last: u64,
+    h: u64,
+    count: u64,
+    rg: u64,
+)
+    requires { ⌜ (h ≤ 255) × (count ≤ 256) × (rg ≤ 255) ⌝ }
+    ensures { λ _. ⌜ now (general .exit) ≡ over (restoredBy (lent base (now (window .entry))) bottom last h count (now (general .entry))) 0 rg (now (general .entry)) ⌝ }
+{
+    let mut k = rg;
+    while 0 < k {
+        let at = k - 1;
+        let v = restored(general, window, base, bottom, last, h, count, at);
+        general[at as usize] = v;
+        k = at;
+    }
+}
+
+/// Whether rO, above the stack's start, cannot hold a frame.
+fn is_misplaced(ro: u64) -> bool
+    ensures { λ r. ⌜ ((s : State) → sp s rO ≡ ro → r ≡ misplaced s) ⌝ }
+{
+    if ro % 8 == 0 {
+        return machine::number::is_negative(ro);
+    }
+    true
+}
+
+/// The registers after a pop with hole h.
+fn leave(general: &mut [u64; 256], special: &mut [u64; 32], window: &[u8], base: u64, x: u8, h: u64)
+    requires { ⌜ (Held (now special)) × (h ≤ 255) × (Placed (now special)) × (worst (refusing (shapeOf (lent base (now window)))) (bottomOf (now special) h) (min h (getD (now special) rG 0)) ≡ 0) ⌝ }
+    ensures { λ _. ⌜ ((pc halt marks : ℕ) → made (now (general .exit)) (now (special .exit)) pc halt marks ≡ popped (made (now (general .entry)) (now (special .entry)) pc halt marks) x h (looks one (lent base (now (window .entry))) (bottomOf (now (special .entry)) h) (min h (getD (now (special .entry)) rG 0)))) ⌝ }
+{
+    let ro = special[State::RO];
+    let rg = special[State::RG];
+    let rl = special[State::RL];
+    let bottom = machine::number::wrapping_sub(ro, 8 * (h + 1));
+    let count = count_of(rl, x);
+    let last = last_output(general, rl, x);
+    let low = machine::number::least(h + count, rg);
+    restore(general, window, base, bottom, last, h, count, rg);
+    special[State::RL] = low;
+    special[State::RO] = bottom;
+    special[State::RS] = bottom;
+}
+
+/// POP of a state and a window that obey their rules, with rO above the stack's start and well placed.
+fn pop_at(
+    general: &mut [u64; 256],
+    special: &mut [u64; 32],
+    window: &[u8],
+    base: u64,
+    x: u8,
+    yz: u16,
+) -> PopFrame
+    requires { ⌜ (Held (now special)) × (Placed (now special)) ⌝ }
+    ensures { λ r. ⌜ ((pc halt marks : ℕ) → admissible (made (now (general .entry)) (now (special .entry)) pc halt marks) ≡ true → ruled (shapeOf (lent base (now (window .entry)))) ≡ true → misplaced (made (now (general .entry)) (now (special .entry)) pc halt marks) ≡ false → PopGives (lent base (now (window .entry))) (made (now (general .entry)) (now (special .entry)) pc halt marks) x yz r (made (now (general .exit)) (now (special .exit)) pc halt marks)) ⌝ }
+{
+    let ro = special[State::RO];
+    let rg = special[State::RG];
+    let rj = special[State::RJ];
+    let below = machine::number::wrapping_sub(ro, 8);
+    if machine::memory::run_refusal(window, base, below, 1) == 0 {
+        let h = machine::memory::read_octa(window, base, below) % 256;
+        let bottom = machine::number::wrapping_sub(ro, 8 * (h + 1));
+        let n = machine::number::least(h, rg);
+        if machine::memory::run_refusal(window, base, bottom, n) == 0 {
+            leave(general, special, window, base, x, h);
+            let target = machine::number::wrapping_add(rj, 4 * (yz as u64));
+            return PopFrame::Frame(target);
+        }
+        return PopFrame::Missing;
+    }
+    PopFrame::Missing
+}
+
+/// POP x, yz.
+pub fn pop_frame(
+    general: &mut [u64; 256],
+    special: &mut [u64; 32],
+    halt: &mut u64,
+    marks: u64,
+    window: &[u8],
+    base: u64,
+    x: u8,
+    yz: u16,
+) -> PopFrame
+    ensures { λ r. ⌜ ((pc : ℕ) → PopGives (lent base (now (window .entry))) (made (now (general .entry)) (now (special .entry)) pc (now (halt .entry)) marks) x yz r (made (now (general .exit)) (now (special .exit)) pc (now (halt .exit)) marks)) ⌝ }
+{
+    if machine::registers::admissible(special, marks) {
+        if machine::memory::is_ruled(window, base) {
+            let ro = special[State::RO];
+            if ro <= State::STACK_START {
+                return PopFrame::NoFrame;
+            }
+            if is_misplaced(ro) {
+                *halt = 1;
+                return PopFrame::Rejected;
+            }
+            return pop_at(general, special, window, base, x, yz);
+        }
+        return PopFrame::WindowRule;
+    }
+    PopFrame::NotAdmissible
+}

@@ -1,0 +1,9 @@
+//! The register stack (stack.rs): frames in `frame`, contexts in `context`, the context reader in `reader`; and in `pass` what the
+//! layer above needs of the machine. All work in place; `value` has the Rust's functions on a state that goes in and comes back.
+//! PC is the business of the layer above.
+
+pub mod context;
+pub mod frame;
+pub mod pass;
+pub mod reader;
+pub mod value;

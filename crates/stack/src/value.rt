@@ -1,0 +1,133 @@
+// The Rust's functions on a state by value, under its names: the fields go into locals, the work is done in place.
+ghost use Rattle.model.specs.Parts.{lent};
+ghost use Rattle.stack.specs.Gives.{Gives};
+ghost use Rattle.stack.specs.Frame.{pushOf, PopGives};
+ghost use Rattle.stack.specs.Context.{saveOf, unsaveOf};
+use super::frame::PopFrame;
+use model::Reply;
+use model::State;
+
+/// A reply and the state that it leaves.
+pub struct Answer {
+    pub reply: Reply,
+    pub state: State,
+}
+
+/// What POP found and the state that it leaves.
+pub struct Popped {
+    pub answer: PopFrame,
+    pub state: State,
+}
+
+pub fn push_frame(state: State, window: &mut [u8], base: u64, x: u8) -> Answer
+    ensures { λ r. ⌜ Gives (pushOf (lent base (now (window .entry))) state x) state (r .reply) (r .state) (lent base (now (window .exit))) ⌝ }
+{
+    let mut general = state.general;
+    let mut special = state.special;
+    let pc = state.pc;
+    let halt = state.halt;
+    let marks = state.marks;
+    let reply = super::frame::push_frame(&mut general, &mut special, pc, marks, window, base, x);
+    let next = State {
+        general: general,
+        special: special,
+        pc: pc,
+        halt: halt,
+        marks: marks,
+    };
+    Answer {
+        reply: reply,
+        state: next,
+    }
+}
+
+pub fn pop_frame(state: State, window: &[u8], base: u64, x: u8, yz: u16) -> Popped
+    ensures { λ r. ⌜ PopGives (lent base (now (window .entry))) state x yz (r .answer) (r .state) ⌝ }
+{
+    let mut general = state.general;
+    let mut special = state.special;
+    let mut halt = state.halt;
+    let pc = state.pc;
+    let marks = state.marks;
+    let answer = super::frame::pop_frame(
+        &mut general,
+        &mut special,
+        &mut halt,
+        marks,
+        window,
+        base,
+        x,
+        yz,
+    );
+    let next = State {
+        general: general,
+        special: special,
+        pc: pc,
+        halt: halt,
+        marks: marks,
+    };
+    Popped {
+        answer: answer,
+        state: next,
+    }
+}
+
+pub fn save_context(state: State, window: &mut [u8], base: u64, x: u8) -> Answer
+    ensures { λ r. ⌜ Gives (saveOf (lent base (now (window .entry))) state x) state (r .reply) (r .state) (lent base (now (window .exit))) ⌝ }
+{
+    let mut general = state.general;
+    let mut special = state.special;
+    let mut halt = state.halt;
+    let pc = state.pc;
+    let marks = state.marks;
+    let reply = super::context::save_context(
+        &mut general,
+        &mut special,
+        &mut halt,
+        marks,
+        window,
+        base,
+        x,
+    );
+    let next = State {
+        general: general,
+        special: special,
+        pc: pc,
+        halt: halt,
+        marks: marks,
+    };
+    Answer {
+        reply: reply,
+        state: next,
+    }
+}
+
+pub fn unsave_context(state: State, window: &[u8], base: u64, address: u64) -> Answer
+    ensures { λ r. ⌜ Gives (unsaveOf (lent base (now (window .entry))) state address) state (r .reply) (r .state) (lent base (now (window .entry))) ⌝ }
+{
+    let mut general = state.general;
+    let mut special = state.special;
+    let mut halt = state.halt;
+    let pc = state.pc;
+    let marks = state.marks;
+    let reply = super::context::unsave_context(
+        &mut general,
+        &mut special,
+        &mut halt,
+        marks,
+        window,
+        base,
+        address,
+    );
+    let next = State {
+        general: general,
+        special: special,
+        pc: pc,
+        halt: halt,
+        marks: marks,
+    };
+    Answer {
+        reply: reply,
+        state: next,
+    }
+}
