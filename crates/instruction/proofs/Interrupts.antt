@@ -1,0 +1,112 @@
+-- Laws of trips, traps and exceptions, over plain variables: what each tells, from what its callees ensure.
+use mathlib.Core.Path.{_≡_, refl, ap, _∙_}
+use mathlib.Core.Bool.{Bool, true, false, _&&_}
+use mathlib.Core.List.{List}
+use Prim.Native.Nat.{ℕ, _+_, _-_, _*_, _/_, _%_, _^_, _≤_, _<_}
+use native.Mathlib.Omega.{arith}
+use lib.Dec.{eqb}
+use lib.ListN.{getD, set}
+use lib.Bits.{bitAnd, bitOr, and-le-l}
+use lib.Count.{leadingZeros, leading-le, leading-top, trailingZeros, trailing-le}
+use mir.Syntax.{w64}
+use mir.Val.{Fits}
+use borrow.Author.Tests.{eq-eqb, ne-eqb}
+use Rattle.model.specs.Registers.{rA, reg, withSpecial, admissible}
+use Rattle.model.specs.Trips.{wordOf, interrupted, tripped, trapped, tripRule, isLoaded, tripTo, trapOf, enables, added, withAdded, raised}
+use Rattle.model.specs.Step.{isNamed, exceptionOf}
+use Rattle.model.specs.Parts.{made, withParts}
+use Rattle.model.specs.Numbers.{replyOf}
+use Rattle.model.specs.declared.State.{State}
+use Rattle.model.specs.declared.Reply.{Reply}
+use Rattle.model.specs.declared.Reply.the-variants.{Done, NotAdmissible, NamedTrap, NotLoaded, Trapped}
+use Rattle.instruction.specs.Told.{tripOf, trapStep, Told}
+use Rattle.instruction.proofs.Tells.{goes-is, next-is, halted-is}
+
+-- ---- trips and traps
+
+-- the stores of a trip or a trap, in their order
+pub interrupted-is : (g l : List ℕ) (pc halt marks b w x y z word u v n : ℕ) → n ≡ (pc + 4) % 2 ^ 64
+    → made (set g 255 (getD l 4 0)) (set (set (set (set (set l b (getD g 255 0)) w n) x word) y u) z v) pc halt marks
+    ≡ interrupted (made g l pc halt marks) b w x y z word u v
+unfolding interrupted
+interrupted-is g l pc halt marks b w x y z word u v n e =
+    ap (λ (k : ℕ). made (set g 255 (getD l 4 0)) (set (set (set (set (set l b (getD g 255 0)) w k) x word) y u) z v) pc halt marks) e
+
+module _ (s : State) (k word u v : ℕ) (g l : List ℕ) (e : withParts s g l ≡ tripped s word u v) where
+  pub trip-loaded : isLoaded s k ≡ true → Told (tripTo s k word u v) Done (made g l (16 * k) (s .halt) (s .marks))
+  unfolding tripTo tripRule replyOf
+  trip-loaded h = rw h (record { reply-is = refl; state-is = goes-is s _ g l e (16 * k) })
+
+  pub trip-not-loaded : isLoaded s k ≡ false → Told (tripTo s k word u v) NotLoaded (made g l (s .pc) 1 (s .marks))
+  unfolding tripTo replyOf
+  trip-not-loaded h = rw h (record { reply-is = refl; state-is = halted-is s _ g l e })
+
+-- not a named TRAP: X is not 0, or Y is not named
+module _ (x y : ℕ) where
+  pub trap-other : (x ≡ 0 → ⊥) → (eqb x 0 && isNamed y) ≡ false
+  trap-other h = rw (ne-eqb x 0 h)
+
+  pub trap-unnamed : isNamed y ≡ false → (eqb x 0 && isNamed y) ≡ false
+  trap-unnamed h = rw h (go (eqb x 0))
+    where
+      go : (t : Bool) → (t && false) ≡ false
+      go true = refl
+      go false = refl
+
+module _ (s : State) (op x y z : ℕ) where
+  pub trip-word : (word : ℕ) (r : Reply) (t : State) → word ≡ wordOf op x y z → Told (tripTo s 0 word (reg s y) (reg s z)) r t → Told (tripOf s op x y z) r t
+  unfolding tripOf
+  trip-word word r t e h = rw e at h
+
+  pub trap-named : x ≡ 0 → isNamed y ≡ true → Told (trapStep s op x y z) NamedTrap s
+  unfolding trapStep replyOf
+  trap-named e h = rw (eq-eqb x 0 e, h) (record { reply-is = refl; state-is = refl })
+
+  pub trap-done : (word : ℕ) (g l : List ℕ) → (eqb x 0 && isNamed y) ≡ false → word ≡ wordOf op x y z → withParts s g l ≡ trapped s word (reg s y) (reg s z)
+      → Told (trapStep s op x y z) Trapped (made g l (s .pc) 1 (s .marks))
+  unfolding trapStep trapOf replyOf
+  trap-done word g l h q e =
+      let f : withParts s g l ≡ trapped s (wordOf op x y z) (reg s y) (reg s z) = e ∙ ap (λ (n : ℕ). trapped s n (reg s y) (reg s z)) q in
+      rw h (record { reply-is = refl; state-is = halted-is s _ g l f })
+
+-- ---- exceptions
+
+-- flags that are raised and disabled, as code masks them
+pub added-fits : (f e : ℕ) → f < 256 → Fits w64 (bitAnd f e)
+added-fits f e h = let b : bitAnd f e ≤ f = and-le-l f e in record { fits = omega arith }
+
+pub added-is : (g l : List ℕ) (pc halt marks f e : ℕ) → f < 256 → e ≡ getD l rA 0 / 256 % 256
+    → made g (set l rA (bitOr (getD l rA 0) (bitAnd f (255 - e)))) pc halt marks ≡ withAdded (made g l pc halt marks) f
+unfolding withAdded withSpecial added
+added-is g l pc halt marks f e h q =
+    let b : f ≡ f % 256 = omega arith in
+    ap (λ (n : ℕ). made g (set l rA (bitOr (getD l rA 0) (bitAnd f (255 - n)))) pc halt marks) q
+    ∙ ap (λ (n : ℕ). made g (set l rA (bitOr (getD l rA 0) (bitAnd n (255 - getD l rA 0 / 256 % 256)))) pc halt marks) b
+
+-- the zeros of a byte, counted from either end
+pub zeros-small : (n : ℕ) → (leadingZeros 8 n ≤ 8) × (trailingZeros 8 n ≤ 8)
+zeros-small n = (leading-le 8 n, trailing-le 8 n)
+
+-- the leftmost flag names one of vectors 1 to 8
+pub vector-small : (n : ℕ) → n < 256 → 0 < n → leadingZeros 8 n + 1 ≤ 8
+vector-small n h p = let top = leading-top 8 n p h in omega (arith, top .1)
+
+module _ (s : State) (f op x y z u v : ℕ) where
+  pub not-admissible : admissible s ≡ false → Told (exceptionOf s f op x y z u v) NotAdmissible s
+  unfolding exceptionOf replyOf
+  not-admissible a = rw a (record { reply-is = refl; state-is = refl })
+
+  module _ (b : f < 256) (a : admissible s ≡ true) (l : List ℕ) (e : withParts s (s .general) l ≡ withAdded s f) where
+    byte : f % 256 ≡ f
+    byte = omega arith
+
+    pub none-taken : (n : ℕ) → bitAnd f (enables s) ≡ 0 → n ≡ (s .pc + 4) % 2 ^ 64 → Told (exceptionOf s f op x y z u v) Done (made (s .general) l n (s .halt) (s .marks))
+    unfolding exceptionOf raised replyOf
+    none-taken n q h = rw (a, byte, q) (record { reply-is = refl; state-is = next-is s _ (s .general) l e n h })
+
+    pub one-taken : (k word : ℕ) (r : Reply) (t : State) → (bitAnd f (enables s) ≡ 0 → ⊥)
+        → k ≡ leadingZeros 8 (bitAnd f (enables s)) + 1 → word ≡ wordOf op x y z
+        → Told (tripTo (withParts s (s .general) l) k word u v) r t
+        → Told (exceptionOf s f op x y z u v) r t
+    unfolding exceptionOf raised
+    one-taken k word r t q i w h = rw (a, byte, ne-eqb _ 0 q) (rw (e, i, w) at h)

@@ -1,0 +1,5 @@
+-- The laws of this crate's definitions, for its proofs and for those of the crates above it.
+pub mod Counts
+pub mod Conditions
+pub mod Tells
+pub mod Interrupts

@@ -1,0 +1,29 @@
+-- `add_disabled` meets its contract: its arithmetic is the definition's, of a flag that is a byte.
+use native.Mathlib.Omega.{arith}
+use borrow.Author.Needs.{needs}
+use Rattle.instruction.proofs.Interrupts.{added-fits, added-is}
+use Rattle.instruction.proofs.exceptions.add_disabled.Statement.{statement}
+use Rattle.instruction.proofs.exceptions.add_disabled.Tie as tie
+
+element-copy-out-ra : tie.Need-element-copy-out-ra
+element-copy-out-ra c = search needs
+
+cast-enables : tie.Need-cast-enables
+cast-enables c = search needs
+
+sub-off : tie.Need-sub-off
+sub-off c = search needs
+
+cast-special : tie.Need-cast-special
+cast-special c = added-fits _ _ (c .before .fits .flags .fits)
+
+element-write-special : tie.Need-element-write-special
+element-write-special c = search needs
+
+returns : tie.Need-returns
+returns c = λ general pc halt marks. added-is _ _ _ _ _ _ _ (c .before .fits .flags .fits) (omega arith)
+
+pub add-disabled-spec : {M : Type 1} → statement M
+add-disabled-spec =
+    tie.close
+    (tie.spec element-copy-out-ra cast-enables sub-off cast-special element-write-special returns)

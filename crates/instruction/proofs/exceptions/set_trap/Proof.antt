@@ -1,0 +1,50 @@
+-- `set_trap` meets its contract: it stores in the definition's order, each register read before.
+use borrow.Author.Needs.{needs}
+use Rattle.instruction.proofs.Interrupts.{interrupted-is}
+use Rattle.instruction.proofs.exceptions.set_trap.Statement.{statement}
+use Rattle.instruction.proofs.exceptions.set_trap.Tie as tie
+
+element-copy-out-rj : tie.Need-element-copy-out-rj
+element-copy-out-rj c = search needs
+
+element-copy-out-last : tie.Need-element-copy-out-last
+element-copy-out-last c = search needs
+
+following-requires : tie.Need-following-requires
+following-requires c κs = search needs
+
+element-write-special : tie.Need-element-write-special
+element-write-special c = search needs
+
+element-write-general : tie.Need-element-write-general
+element-write-general c = search needs
+
+element-write-special-2 : tie.Need-element-write-special-2
+element-write-special-2 c = search needs
+
+element-write-special-3 : tie.Need-element-write-special-3
+element-write-special-3 c = search needs
+
+element-write-special-4 : tie.Need-element-write-special-4
+element-write-special-4 c = search needs
+
+element-write-special-5 : tie.Need-element-write-special-5
+element-write-special-5 c = search needs
+
+returns : tie.Need-returns
+returns c = λ halt marks. interrupted-is _ _ _ _ _ _ _ _ _ _ _ _ _ _ (c .following .ensures)
+
+pub set-trap-spec : {M : Type 1} → statement M
+set-trap-spec =
+    tie.close
+    (tie.spec
+    element-copy-out-rj
+    element-copy-out-last
+    following-requires
+    element-write-special
+    element-write-general
+    element-write-special-2
+    element-write-special-3
+    element-write-special-4
+    element-write-special-5
+    returns)

@@ -1,0 +1,31 @@
+-- `trip` meets its contract: the trip registers stand, and the vector's mark tells which way it goes.
+use mathlib.Core.Path.{sym, _∙_}
+use borrow.Author.Needs.{needs}
+use Rattle.model.specs.Parts.{made}
+use Rattle.instruction.proofs.Interrupts.{trip-loaded, trip-not-loaded}
+use Rattle.instruction.proofs.exceptions.trip.Statement.{statement}
+use Rattle.instruction.proofs.exceptions.trip.Tie as tie
+
+set-trip-requires : tie.Need-set-trip-requires
+set-trip-requires c κs = search needs
+
+is-loaded-requires : tie.Need-is-loaded-requires
+is-loaded-requires c κs = search needs
+
+mul-pc : tie.Need-mul-pc
+mul-pc c = search needs
+
+returns : tie.Need-returns
+returns c =
+    let a = c .before .before .before .before .before .before .args in
+    let s = made (a .general .now) (a .special .now) (a .pc .now) (a .halt .now) (a .marks) in
+    trip-loaded s _ _ _ _ _ _ (c .before .before .set-trip .ensures (a .halt .now) (a .marks)) (sym (c .before .is-loaded .ensures) ∙ c .if1 .taken)
+
+returns-2 : tie.Need-returns-2
+returns-2 c =
+    let a = c .before .before .before .before .before .before .args in
+    let s = made (a .general .now) (a .special .now) (a .pc .now) (a .halt .now) (a .marks) in
+    trip-not-loaded s _ _ _ _ _ _ (c .before .before .set-trip .ensures (a .halt .now) (a .marks)) (sym (c .before .is-loaded .ensures) ∙ c .if1 .left)
+
+pub trip-spec : {M : Type 1} → statement M
+trip-spec = tie.close (tie.spec set-trip-requires is-loaded-requires mul-pc returns returns-2)

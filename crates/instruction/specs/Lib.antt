@@ -1,0 +1,3 @@
+-- What the instruction layer's contracts cite beside the model.
+pub mod Told
+pub mod Counts

@@ -1,0 +1,196 @@
+// Trips, traps and exceptions in place (exceptions.rs, system.rs).
+ghost use mathlib.Core.Path.{_≡_};
+ghost use mathlib.Core.List.{List};
+ghost use Prim.Native.Nat.{ℕ, _+_, _/_, _%_, _^_, _<_, _≤_};
+ghost use lib.Dec.{eqb};
+ghost use lib.Count.{leadingZeros};
+ghost use Rattle.model.specs.Trips.{wordOf, tripped, trapped, tripTo, withAdded};
+ghost use Rattle.model.specs.Step.{isNamed, exceptionOf};
+ghost use Rattle.model.specs.Parts.{made};
+ghost use Rattle.instruction.specs.Told.{tripOf, trapStep, Told};
+use model::Reply;
+use model::State;
+
+/// 2^63 + op × 2^24 + XYZ.
+pub fn word_of(op: u8, x: u8, y: u8, z: u8) -> u64
+    ensures { λ r. ⌜ r ≡ wordOf op x y z ⌝ }
+{
+    0x8000000000000000
+        + (op as u64) * 0x1000000
+        + (65536 * (x as u64) + (256 * (y as u64) + z as u64))
+}
+
+/// Whether vector k is marked loaded.
+fn is_loaded(marks: u64, k: u64) -> bool
+    requires { ⌜ k ≤ 8 ⌝ }
+    ensures { λ r. ⌜ r ≡ eqb (marks / 2 ^ k % 2) 1 ⌝ }
+{
+    (marks >> k) % 2 == 1
+}
+
+/// The trip registers.
+fn set_trip(general: &mut [u64; 256], special: &mut [u64; 32], pc: u64, word: u64, u: u64, v: u64)
+    ensures { λ _. ⌜ ((halt marks : ℕ) → made (now (general .exit)) (now (special .exit)) pc halt marks ≡ tripped (made (now (general .entry)) (now (special .entry)) pc halt marks) word u v) ⌝ }
+{
+    let rj = special[State::RJ];
+    let last = general[255];
+    let next = super::target::following(pc);
+    special[State::RB] = last;
+    general[255] = rj;
+    special[State::RW] = next;
+    special[State::RX] = word;
+    special[State::RY] = u;
+    special[State::RZ] = v;
+}
+
+/// The trap registers.
+fn set_trap(general: &mut [u64; 256], special: &mut [u64; 32], pc: u64, word: u64, u: u64, v: u64)
+    ensures { λ _. ⌜ ((halt marks : ℕ) → made (now (general .exit)) (now (special .exit)) pc halt marks ≡ trapped (made (now (general .entry)) (now (special .entry)) pc halt marks) word u v) ⌝ }
+{
+    let rj = special[State::RJ];
+    let last = general[255];
+    let next = super::target::following(pc);
+    special[State::RBB] = last;
+    general[255] = rj;
+    special[State::RWW] = next;
+    special[State::RXX] = word;
+    special[State::RYY] = u;
+    special[State::RZZ] = v;
+}
+
+/// A trip through vector k, of 0 to 8: PC goes there if it is loaded, else the halt code is 1 (19).
+fn trip(
+    general: &mut [u64; 256],
+    special: &mut [u64; 32],
+    pc: &mut u64,
+    halt: &mut u64,
+    marks: u64,
+    k: u64,
+    word: u64,
+    u: u64,
+    v: u64,
+) -> Reply
+    requires { ⌜ k ≤ 8 ⌝ }
+    ensures { λ r. ⌜ Told (tripTo (made (now (general .entry)) (now (special .entry)) (now (pc .entry)) (now (halt .entry)) marks) k word u v) r (made (now (general .exit)) (now (special .exit)) (now (pc .exit)) (now (halt .exit)) marks) ⌝ }
+{
+    let at = *pc;
+    set_trip(general, special, at, word, u, v);
+    if is_loaded(marks, k) {
+        *pc = 16 * k;
+        return Reply::Done;
+    }
+    *halt = 1;
+    Reply::NotLoaded
+}
+
+/// TRIP: through vector 0, its operands $Y and $Z from before.
+pub fn trip_arm(
+    general: &mut [u64; 256],
+    special: &mut [u64; 32],
+    pc: &mut u64,
+    halt: &mut u64,
+    marks: u64,
+    op: u8,
+    x: u8,
+    y: u8,
+    z: u8,
+) -> Reply
+    ensures { λ r. ⌜ Told (tripOf (made (now (general .entry)) (now (special .entry)) (now (pc .entry)) (now (halt .entry)) marks) op x y z) r (made (now (general .exit)) (now (special .exit)) (now (pc .exit)) (now (halt .exit)) marks) ⌝ }
+{
+    let word = word_of(op, x, y, z);
+    let u = general[y as usize];
+    let v = general[z as usize];
+    trip(general, special, pc, halt, marks, 0, word, u, v)
+}
+
+/// Whether `from_u8` names Y.
+fn is_named(y: u8) -> bool
+    ensures { λ r. ⌜ r ≡ isNamed y ⌝ }
+{
+    if y <= 10 {
+        return true;
+    }
+    if y < 0x80 {
+        return false;
+    }
+    if y <= 0x82 {
+        return true;
+    }
+    false
+}
+
+/// TRAP: 4 where it is named; else the trap registers, the halt code 1, PC unmoved (20).
+pub fn trap_arm(
+    general: &mut [u64; 256],
+    special: &mut [u64; 32],
+    pc: u64,
+    halt: &mut u64,
+    op: u8,
+    x: u8,
+    y: u8,
+    z: u8,
+) -> Reply
+    ensures { λ r. ⌜ ((marks : ℕ) → Told (trapStep (made (now (general .entry)) (now (special .entry)) pc (now (halt .entry)) marks) op x y z) r (made (now (general .exit)) (now (special .exit)) pc (now (halt .exit)) marks)) ⌝ }
+{
+    if x == 0 {
+        if is_named(y) {
+            return Reply::NamedTrap;
+        }
+    }
+    let word = word_of(op, x, y, z);
+    let u = general[y as usize];
+    let v = general[z as usize];
+    set_trap(general, special, pc, word, u, v);
+    *halt = 1;
+    Reply::Trapped
+}
+
+/// The flags raised and disabled are added to rA.
+fn add_disabled(special: &mut [u64; 32], flags: u8)
+    ensures { λ _. ⌜ ((general : List ℕ) (pc halt marks : ℕ) → made general (now (special .exit)) pc halt marks ≡ withAdded (made general (now (special .entry)) pc halt marks) flags) ⌝ }
+{
+    let ra = special[State::RA];
+    let enables = ((ra / 256) % 256) as u8;
+    let off = flags & (255 - enables);
+    special[State::RA] = ra | (off as u64);
+}
+
+/// The vector of the leftmost of some flags.
+fn vector_of(taken: u8) -> u64
+    requires { ⌜ 0 < taken ⌝ }
+    ensures { λ r. ⌜ (r ≡ leadingZeros 8 taken + 1) × (r ≤ 8) ⌝ }
+{
+    u8::leading_zeros(taken) as u64 + 1
+}
+
+/// A byte of flags is raised by the instruction op X Y Z with two operands; 1 where the state is not admissible.
+pub fn raise_exceptions(
+    general: &mut [u64; 256],
+    special: &mut [u64; 32],
+    pc: &mut u64,
+    halt: &mut u64,
+    marks: u64,
+    flags: u8,
+    op: u8,
+    x: u8,
+    y: u8,
+    z: u8,
+    y_val: u64,
+    z_val: u64,
+) -> Reply
+    ensures { λ r. ⌜ Told (exceptionOf (made (now (general .entry)) (now (special .entry)) (now (pc .entry)) (now (halt .entry)) marks) flags op x y z «y_val» «z_val») r (made (now (general .exit)) (now (special .exit)) (now (pc .exit)) (now (halt .exit)) marks) ⌝ }
+{
+    if stack::pass::admissible(special, marks) {
+        let ra = special[State::RA];
+        let taken = flags & (((ra / 256) % 256) as u8);
+        add_disabled(special, flags);
+        if taken == 0 {
+            *pc = super::target::following(*pc);
+            return Reply::Done;
+        }
+        let k = vector_of(taken);
+        let word = word_of(op, x, y, z);
+        return trip(general, special, pc, halt, marks, k, word, y_val, z_val);
+    }
+    Reply::NotAdmissible
+}

@@ -1,0 +1,55 @@
+// The exceptions entry on a state by value.
+ghost use Rattle.model.specs.Step.{exceptionOf};
+ghost use Rattle.instruction.specs.Told.{Told};
+use model::Reply;
+use model::State;
+
+/// A reply and the state that it leaves.
+pub struct Outcome {
+    pub reply: Reply,
+    pub state: State,
+}
+
+pub fn raise_exceptions(
+    state: State,
+    flags: u8,
+    op: u8,
+    x: u8,
+    y: u8,
+    z: u8,
+    y_val: u64,
+    z_val: u64,
+) -> Outcome
+    ensures { λ r. ⌜ Told (exceptionOf state flags op x y z «y_val» «z_val») (r .reply) (r .state) ⌝ }
+{
+    let mut general = state.general;
+    let mut special = state.special;
+    let mut pc = state.pc;
+    let mut halt = state.halt;
+    let marks = state.marks;
+    let reply = super::exceptions::raise_exceptions(
+        &mut general,
+        &mut special,
+        &mut pc,
+        &mut halt,
+        marks,
+        flags,
+        op,
+        x,
+        y,
+        z,
+        y_val,
+        z_val,
+    );
+    let next = State {
+        general: general,
+        special: special,
+        pc: pc,
+        halt: halt,
+        marks: marks,
+    };
+    Outcome {
+        reply: reply,
+        state: next,
+    }
+}
