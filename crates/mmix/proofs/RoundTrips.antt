@@ -1,0 +1,178 @@
+-- Both round trips of the state image, octabyte by octabyte.
+use mathlib.Core.Path.{_≡_, refl, sym, ap, _∙_}
+use mathlib.Core.List.{List, [], _∷_, _++_}
+use Prim.Native.Nat.{ℕ, zero, suc, _+_, _*_, _/_, _%_, _^_, _≤_, _<_}
+use native.Mathlib.Nat.{div-one, div-div-eq-div-mul}
+use native.Mathlib.Omega.{arith}
+use lib.ListN.{length, getD, List·getD-append}
+use lib.Seq.{ext-getD, getD-append-add}
+use Rattle.model.specs.Octa.{part, valueOf, bytesOf}
+use Rattle.model.specs.Registers.{Sized, Words}
+use Rattle.model.specs.declared.State.{State}
+use Rattle.model.proofs.Octa.{value-bytes}
+use Rattle.mmix.specs.Image.{imageLength, flat, octas, imageOf, stateOf, RoundTrips}
+use Rattle.mmix.proofs.Bytes.{value-below}
+use Rattle.mmix.proofs.Octabytes.{length-octas, octas-append}
+use Rattle.mmix.proofs.Codec.{numbers, length-numbers, length-image}
+
+-- ---- the state of its image
+
+-- octabyte k of a list of numbers
+part-flat : (vs : List ℕ) (k : ℕ) → k < length vs → part (flat vs) (8 * k) 8 ≡ bytesOf (getD vs k 0)
+unfolding part flat bytesOf
+part-flat [] k h = absurd (omega arith)
+part-flat (v ∷ vs) zero h = refl
+part-flat (v ∷ vs) (suc k) h =
+    let e : 8 * suc k ≡ suc (suc (suc (suc (suc (suc (suc (suc (8 * k)))))))) = omega arith in
+    rw e (part-flat vs k (omega arith))
+
+value-flat : (vs : List ℕ) (k o : ℕ) → o ≡ 8 * k → k < length vs → getD vs k 0 < 2 ^ 64 → valueOf 0 (part (flat vs) o 8) ≡ getD vs k 0
+value-flat vs k o e h b = ap (λ (i : ℕ). valueOf 0 (part (flat vs) i 8)) e ∙ ap (valueOf 0) (part-flat vs k h) ∙ value-bytes (getD vs k 0) b
+
+getD-octas : (l : List ℕ) (o n k : ℕ) → k < n → getD (octas l o n) k 0 ≡ valueOf 0 (part l (o + 8 * k) 8)
+unfolding octas
+getD-octas l o zero k h = absurd (omega arith)
+getD-octas l o (suc n) zero h = ap (λ (i : ℕ). valueOf 0 (part l i 8)) (omega arith)
+getD-octas l o (suc n) (suc k) h = getD-octas l (o + 8) n k (omega arith) ∙ ap (λ (i : ℕ). valueOf 0 (part l i 8)) (omega arith)
+
+-- n numbers from number i on
+octas-flat : (vs us : List ℕ) (i o n : ℕ) → o ≡ 8 * i → i + n ≤ length vs → length us ≡ n → ((k : ℕ) → k < n → getD vs (i + k) 0 ≡ getD us k 0)
+    → ((k : ℕ) → getD us k 0 < 2 ^ 64) → octas (flat vs) o n ≡ us
+octas-flat vs us i o n eo h e same b =
+    ext-getD 0 (octas (flat vs) o n) us (length-octas (flat vs) o n ∙ sym e) (λ k m. at k (omega (arith, length-octas (flat vs) o n)))
+  where
+    at : (k : ℕ) → k < n → getD (octas (flat vs) o n) k 0 ≡ getD us k 0
+    at k m =
+        let q : getD vs (i + k) 0 < 2 ^ 64 = rw (same k m) (b k) in
+        getD-octas (flat vs) o n k m ∙ value-flat vs (i + k) (o + 8 * k) (omega arith) (omega arith) q ∙ same k m
+
+module _ (s : State) (z : Sized s) where
+  at-general : (k : ℕ) → k < 256 → getD (numbers s) (0 + k) 0 ≡ getD (s .general) k 0
+  at-general k h =
+      let e : 0 + k ≡ k = omega arith in
+      rw e (List·getD-append (s .general) _ 0 k (omega (arith, z .generals)))
+
+  after-general : (k : ℕ) → getD (numbers s) (256 + k) 0 ≡ getD (s .special ++ (s .pc ∷ s .halt ∷ s .marks ∷ [])) k 0
+  after-general k = ap (λ (n : ℕ). getD (numbers s) (n + k) 0) (sym (z .generals)) ∙ getD-append-add (s .general) _ k 0
+
+  at-special : (k : ℕ) → k < 32 → getD (numbers s) (256 + k) 0 ≡ getD (s .special) k 0
+  at-special k h = after-general k ∙ List·getD-append (s .special) _ 0 k (omega (arith, z .specials))
+
+  after-special : (k : ℕ) → getD (numbers s) (256 + (32 + k)) 0 ≡ getD (s .pc ∷ s .halt ∷ s .marks ∷ []) k 0
+  after-special k =
+      after-general (32 + k)
+      ∙ ap (λ (n : ℕ). getD (s .special ++ (s .pc ∷ s .halt ∷ s .marks ∷ [])) (n + k) 0) (sym (z .specials))
+      ∙ getD-append-add (s .special) _ k 0
+
+  -- one of the last three
+  at-rest : (k : ℕ) → k < 3 → getD (s .pc ∷ s .halt ∷ s .marks ∷ []) k 0 < 2 ^ 64
+      → valueOf 0 (part (flat (numbers s)) (8 * (288 + k)) 8) ≡ getD (s .pc ∷ s .halt ∷ s .marks ∷ []) k 0
+  at-rest k h b =
+      let q : getD (numbers s) (256 + (32 + k)) 0 < 2 ^ 64 = rw (after-special k) b in
+      value-flat (numbers s) (256 + (32 + k)) (8 * (288 + k)) (omega arith) (omega (arith, length-numbers s z)) q ∙ after-special k
+
+  state-image : Words s → stateOf (imageOf s) ≡ s
+  unfolding stateOf imageOf
+  state-image w =
+      let n : length (numbers s) ≡ 291 = length-numbers s z in
+      let g : octas (flat (numbers s)) 0 256 ≡ s .general = octas-flat (numbers s) (s .general) 0 0 256 refl (omega arith) (z .generals) at-general (w .general-word) in
+      let p : octas (flat (numbers s)) 2048 32 ≡ s .special = octas-flat (numbers s) (s .special) 256 2048 32 refl (omega arith) (z .specials) at-special (w .special-word) in
+      λ i. record {
+        general = g i;
+        special = p i;
+        pc = at-rest 0 (omega arith) (w .pc-word) i;
+        halt = at-rest 1 (omega arith) (w .halt-word) i;
+        marks = at-rest 2 (omega arith) (w .marks-word) i;
+      }
+
+-- ---- the image of its state
+
+digit : (v d x y : ℕ) → v / d ≡ x * 256 + y → y < 256 → (v / d % 256 ≡ y) × (v / (d * 256) ≡ x)
+digit v d x y e h = (
+  ap (λ (n : ℕ). n % 256) e ∙ low,
+  sym (div-div-eq-div-mul v d 256) ∙ ap (λ (n : ℕ). n / 256) e ∙ high,
+)
+  where
+    low : (x * 256 + y) % 256 ≡ y
+    low = omega arith
+
+    high : (x * 256 + y) / 256 ≡ x
+    high = omega arith
+
+bytes-eight : (v a b c d e f g h : ℕ) → a < 256 → b < 256 → c < 256 → d < 256 → e < 256 → f < 256 → g < 256 → h < 256
+    → v ≡ valueOf 0 (a ∷ b ∷ c ∷ d ∷ e ∷ f ∷ g ∷ h ∷ []) → bytesOf v ≡ a ∷ b ∷ c ∷ d ∷ e ∷ f ∷ g ∷ h ∷ []
+unfolding valueOf bytesOf
+bytes-eight v a b c d e f g h ha hb hc hd he hf hg hh q =
+    let t0 = digit v 1 _ h (div-one v ∙ q) hh in
+    let t1 = digit v (2 ^ 8) _ g (t0 .1) hg in
+    let t2 = digit v (2 ^ 16) _ f (t1 .1) hf in
+    let t3 = digit v (2 ^ 24) _ e (t2 .1) he in
+    let t4 = digit v (2 ^ 32) _ d (t3 .1) hd in
+    let t5 = digit v (2 ^ 40) _ c (t4 .1) hc in
+    let t6 = digit v (2 ^ 48) _ b (t5 .1) hb in
+    let t7 = digit v (2 ^ 56) 0 a (t6 .1) ha in
+    let z : v % 256 ≡ h = ap (λ (n : ℕ). n % 256) (sym (div-one v)) ∙ t0 .0 in
+    rw (t7 .0, t6 .0, t5 .0, t4 .0, t3 .0, t2 .0, t1 .0, z)
+
+module _ (l : List ℕ) (b : (i : ℕ) → getD l i 0 < 256) where
+  bytes-value : (o : ℕ) → bytesOf (valueOf 0 (part l o 8)) ≡ part l o 8
+  unfolding part
+  bytes-value o = bytes-eight _ _ _ _ _ _ _ _ _ (b _) (b _) (b _) (b _) (b _) (b _) (b _) (b _) refl
+
+  flat-octas : (o n : ℕ) → flat (octas l o n) ≡ part l o (8 * n)
+  unfolding flat octas part
+  flat-octas o zero = refl
+  flat-octas o (suc n) =
+      let e : 8 * suc n ≡ suc (suc (suc (suc (suc (suc (suc (suc (8 * n)))))))) = omega arith in
+      rw (e, bytes-value o, flat-octas (o + 8) n) (ap (λ (k : ℕ). part l o 8 ++ part l k (8 * n)) (omega arith))
+
+  octas-word : (o n k : ℕ) → getD (octas l o n) k 0 < 2 ^ 64
+  unfolding octas
+  octas-word o zero k = omega arith
+  octas-word o (suc n) zero = value-below l o 8 b
+  octas-word o (suc n) (suc k) = octas-word (o + 8) n k
+
+part-cons : (x : ℕ) (l : List ℕ) (o n : ℕ) → part (x ∷ l) (suc o) n ≡ part l o n
+unfolding part
+part-cons x l o zero = refl
+part-cons x l o (suc n) = ap (λ (r : List ℕ). getD l o 0 ∷ r) (part-cons x l (suc o) n)
+
+part-all : (l : List ℕ) → part l 0 (length l) ≡ l
+unfolding part
+part-all [] = refl
+part-all (x ∷ l) = ap (λ (r : List ℕ). x ∷ r) (part-cons x l 0 (length l) ∙ part-all l)
+
+last-three : (l : List ℕ) → octas l 2304 3 ≡ valueOf 0 (part l 2304 8) ∷ valueOf 0 (part l 2312 8) ∷ valueOf 0 (part l 2320 8) ∷ []
+unfolding octas
+last-three l = refl
+
+numbers-state : (l : List ℕ) → numbers (stateOf l) ≡ octas l 0 291
+unfolding stateOf
+numbers-state l = rw (octas-append l 0 256 35, octas-append l 2048 32 3, last-three l)
+
+image-state : (l : List ℕ) → length l ≡ imageLength → ((i : ℕ) → getD l i 0 < 256) → imageOf (stateOf l) ≡ l
+unfolding imageOf
+image-state l e b = ap flat (numbers-state l) ∙ flat-octas l b 0 291 ∙ ap (part l 0) (sym e) ∙ part-all l
+
+state-sized : (l : List ℕ) → Sized (stateOf l)
+unfolding stateOf
+state-sized l = record { generals = length-octas l 0 256; specials = length-octas l 2048 32 }
+
+state-words : (l : List ℕ) → ((i : ℕ) → getD l i 0 < 256) → Words (stateOf l)
+unfolding stateOf
+state-words l b = record {
+  general-word = octas-word l b 0 256;
+  special-word = octas-word l b 2048 32;
+  pc-word = value-below l 2304 8 b;
+  halt-word = value-below l 2312 8 b;
+  marks-word = value-below l 2320 8 b;
+}
+
+pub round-trips : RoundTrips
+round-trips = record {
+  state-image = state-image;
+  image-state = image-state;
+  image-length = length-image;
+  state-sized = state-sized;
+  state-words = state-words;
+}

@@ -1,0 +1,52 @@
+-- 01, 'Host': "a state image of 291 octabytes (general, special, PC, halt code, marks)", high byte first.
+use Prim.Native.Nat.{ℕ, zero, suc, _+_, _*_, _<_, _^_}
+use mathlib.Core.Path.{_≡_}
+use mathlib.Core.Bool.{cond}
+use mathlib.Core.List.{List, [], _∷_, _++_}
+use lib.Dec.{eqb}
+use lib.ListN.{length, getD}
+use Rattle.model.specs.Octa.{part, valueOf, bytesOf}
+use Rattle.model.specs.Registers.{fresh, Sized, Words}
+use Rattle.model.specs.declared.State.{State}
+
+abbrev pub imageLength : ℕ
+imageLength = 2328
+
+-- the octabytes of a list of numbers, one after another
+unfoldable pub flat : List ℕ → List ℕ
+flat [] = []
+flat (v ∷ vs) = bytesOf v ++ flat vs
+
+-- n octabytes of l from byte o on
+unfoldable pub octas : List ℕ → ℕ → ℕ → List ℕ
+octas l o zero = []
+octas l o (suc n) = valueOf 0 (part l o 8) ∷ octas l (o + 8) n
+
+-- the image of a state
+unfoldable pub imageOf : State → List ℕ
+imageOf s = flat (s .general ++ (s .special ++ (s .pc ∷ s .halt ∷ s .marks ∷ [])))
+
+-- the state of an image
+unfoldable pub stateOf : List ℕ → State
+stateOf l = record {
+  general = octas l 0 256;
+  special = octas l 2048 32;
+  pc = valueOf 0 (part l 2304 8);
+  halt = valueOf 0 (part l 2312 8);
+  marks = valueOf 0 (part l 2320 8);
+}
+
+-- an image of another length has no state: decoding gives the fresh one, encoding leaves it as it was
+unfoldable pub decoded : List ℕ → State
+decoded l = cond (eqb (length l) imageLength) (stateOf l) fresh
+
+unfoldable pub encoded : List ℕ → State → List ℕ
+encoded l s = cond (eqb (length l) imageLength) (imageOf s) l
+
+-- both round trips
+pub record RoundTrips : Type 0 where
+  pub state-image : (s : State) → Sized s → Words s → stateOf (imageOf s) ≡ s
+  pub image-state : (l : List ℕ) → length l ≡ imageLength → ((i : ℕ) → getD l i 0 < 256) → imageOf (stateOf l) ≡ l
+  pub image-length : (s : State) → Sized s → length (imageOf s) ≡ imageLength
+  pub state-sized : (l : List ℕ) → Sized (stateOf l)
+  pub state-words : (l : List ℕ) → ((i : ℕ) → getD l i 0 < 256) → Words (stateOf l)

@@ -1,0 +1,2 @@
+-- What the library's contracts cite beside the model.
+pub mod Image

@@ -1,0 +1,3 @@
+//! The C library.
+
+pub mod image;
