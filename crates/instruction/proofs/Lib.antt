@@ -3,3 +3,6 @@ pub mod Counts
 pub mod Conditions
 pub mod Tells
 pub mod Interrupts
+pub mod Sends
+pub mod Arms
+pub mod Onward

@@ -50,7 +50,7 @@ module _ (s : State) (x z : ℕ) where
 -- ---- PUT
 
 -- the tags that are not Done's
-abbrev refusals : List ℕ
+abbrev pub refusals : List ℕ
 refusals = 1 ∷ 2 ∷ 3 ∷ 4 ∷ 5 ∷ 6 ∷ 7 ∷ 8 ∷ 9 ∷ 10 ∷ 11 ∷ 12 ∷ 13 ∷ 14 ∷ 15 ∷ 16 ∷ 17 ∷ 18 ∷ 19 ∷ 20 ∷ []
 
 -- a reply's tag is its number
@@ -58,7 +58,7 @@ tags : each 21 (λ n. eqb (tagOf the-type (replyOf n)) n) ≡ true
 unfolding each replyOf
 tags = refl
 
-tag-is : (n : ℕ) (r : Reply) → n ≤ 20 → r ≡ replyOf n → tagOf the-type r ≡ n
+pub tag-is : (n : ℕ) (r : Reply) → n ≤ 20 → r ≡ replyOf n → tagOf the-type r ≡ n
 tag-is n r h e = ap (tagOf the-type) e ∙ eqb-true (tagOf the-type (replyOf n)) n (at-each 21 (λ k. eqb (tagOf the-type (replyOf k)) k) tags n (omega arith))
 
 -- 7 to 11, or none

@@ -1,3 +1,5 @@
 -- What the instruction layer's contracts cite beside the model.
 pub mod Told
 pub mod Counts
+pub mod Whole
+pub mod Arms

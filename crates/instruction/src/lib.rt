@@ -2,7 +2,10 @@
 //! trips, traps and the exceptions entry, `registers` the arms that move nothing but registers. All work in place on lent registers;
 //! `value` has the exceptions entry on a state that goes in and comes back.
 
+pub mod calls;
+pub mod contexts;
 pub mod exceptions;
 pub mod registers;
+pub mod step;
 pub mod target;
 pub mod value;

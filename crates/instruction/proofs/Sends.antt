@@ -1,0 +1,159 @@
+-- Laws of calls and returns: the stack leaves PC as it was, and where it is done the arm sends PC on. Over plain variables.
+use mathlib.Core.Path.{_≡_, refl, sym, ap, _∙_}
+use mathlib.Core.Bool.{Bool, false, cond}
+use mathlib.Core.List.{List, [], _∷_}
+use Prim.Native.Nat.{ℕ, _≤_}
+use native.Mathlib.Omega.{arith}
+use lib.Dec.{eqb}
+use types.Run.{OneOf, miss}
+use denote.Enum.Declared.{tagOf}
+use borrow.Author.Tests.{ne-eqb}
+use Rattle.model.specs.Memory.{Window, shapeOf, ruled}
+use Rattle.model.specs.Plan.{Plan, Outcome, puts}
+use Rattle.model.specs.Registers.{admissible, goes, halted}
+use Rattle.model.specs.Said.{say, tell}
+use Rattle.model.specs.Frames.{hole, pushFrame, popTo, popRule, noFrame, misplaced, popFrame}
+use Rattle.model.specs.Numbers.{replyOf}
+use Rattle.model.specs.declared.State.{State}
+use Rattle.model.specs.declared.Reply.{Reply}
+use Rattle.model.specs.declared.Reply.the-variants as reply
+use Rattle.model.proofs.Reply.{the-type}
+use Rattle.model.proofs.Bools.{on, on-both}
+use Rattle.model.proofs.Entry.{performOn}
+use Rattle.model.proofs.Keeps.{Any}
+use Rattle.model.proofs.Meets.{Answers, perform-meets}
+use Rattle.model.proofs.Sent.{told, sent, push-sent, pop-sent}
+use Rattle.stack.specs.Gives.{guarded, guardedOn, Gives}
+use Rattle.stack.specs.Frame.{pushOf, popOf, returnTo, popNumber, popAnswer, PopGives}
+use Rattle.stack.specs.declared.frame.PopFrame.{PopFrame}
+use Rattle.stack.specs.declared.frame.PopFrame.the-variants.{Frame, NoFrame, Rejected, Missing, NotAdmissible, WindowRule}
+use Rattle.instruction.specs.Whole.{Whole}
+use Rattle.instruction.proofs.Tells.{tag-is}
+
+-- ---- the stack's outcome, PC sent on
+
+guarded-sent : (w : Window) (s : State) (p q : Plan State) (t : ℕ) → performOn w s p ≡ sent (performOn w s q) t → guardedOn w s p ≡ sent (guardedOn w s q) t
+unfolding guardedOn guarded
+guarded-sent w s p q t h =
+    on-both (λ (a b : Plan State). performOn w s a ≡ sent (performOn w s b) t) (admissible s)
+    (λ e. on-both (λ (a b : Plan State). performOn w s a ≡ sent (performOn w s b) t) (ruled (shapeOf w)) (λ f. h) (λ f. rw (told w s (say 2 s)) (unfold sent in refl)))
+    (λ e. rw (told w s (say 1 s)) (unfold sent in refl))
+
+-- a number of 0 to 20; PC as it was
+Stays : State → ℕ → State → List ℕ → Type 0
+Stays s r t vs = (r ≤ 20) × (t .pc ≡ s .pc)
+
+-- nothing stored; PC as it was
+Reads : State → ℕ → State → List ℕ → Type 0
+Reads s r t vs = (vs ≡ []) × (t .pc ≡ s .pc)
+
+push-answers : (s : State) (w : Window) (h : ℕ) → Answers Any (Stays s) (guarded s (shapeOf w) (pushFrame s h (s .pc)))
+unfolding guarded pushFrame tell Answers Stays goes
+push-answers s w h =
+    on (Answers Any (Stays s)) (admissible s) (λ e. on (Answers Any (Stays s)) (ruled (shapeOf w)) (λ f. (omega arith, refl)) (λ f. (omega arith, refl))) (λ e. (omega arith, refl))
+
+push-stays : (w : Window) (s : State) (h : ℕ) → Stays s (guardedOn w s (pushFrame s h (s .pc)) .reply) (guardedOn w s (pushFrame s h (s .pc)) .state) []
+unfolding guardedOn Stays
+push-stays w s h =
+    perform-meets w s Any (Stays s) (λ o. Stays s (o .reply) (o .state) []) (omega arith, refl) (λ r t a vs k. k) (λ a n. tt) _ (push-answers s w h)
+
+pop-answers : (s : State) (w : Window) (x : ℕ) → Answers Any (Reads s) (guarded s (shapeOf w) (popFrame s x (s .pc)))
+unfolding guarded popFrame popRule popTo tell Answers Reads goes halted
+pop-answers s w x =
+    on (Answers Any (Reads s)) (admissible s)
+    (λ e. on (Answers Any (Reads s)) (ruled (shapeOf w))
+    (λ f. on (Answers Any (Reads s)) (noFrame s) (λ n. (refl, refl)) (λ n. on (Answers Any (Reads s)) (misplaced s) (λ m. (refl, refl)) (λ m. (refl, λ v i. (refl, λ ls j. (refl, refl))))))
+    (λ f. (refl, refl)))
+    (λ e. (refl, refl))
+
+pop-stays : (w : Window) (s : State) (x : ℕ) → (guardedOn w s (popFrame s x (s .pc)) .memory ≡ w) × (guardedOn w s (popFrame s x (s .pc)) .state .pc ≡ s .pc)
+unfolding guardedOn Reads puts
+pop-stays w s x =
+    perform-meets w s Any (Reads s) (λ o. (o .memory ≡ w) × (o .state .pc ≡ s .pc)) (refl, refl) (λ r t a vs k. (rw (k .0), k .1)) (λ a n. tt) _ (pop-answers s w x)
+
+-- ---- a reply and a state with it
+
+module _ (s : State) (o p : Outcome State Window) (target : ℕ) (r : Reply) (t : State) (v : Window)
+    (e : p ≡ sent o target) (er : r ≡ replyOf (o .reply)) (et : t ≡ goes (o .state) (s .pc)) (ev : v ≡ o .memory) where
+  sent-done : o .reply ≡ 0 → Whole p r (goes t target) v
+  unfolding sent
+  sent-done z =
+      let f : goes t target ≡ goes (o .state) target = ap (λ (u : State). goes u target) et ∙ (unfold goes in refl) in
+      rw e (record { reply-is = er; state-is = f ∙ sym (ap (λ (n : ℕ). cond (eqb n 0) (goes (o .state) target) (o .state)) z); window-is = ev })
+
+  sent-not : o .state .pc ≡ s .pc → eqb (o .reply) 0 ≡ false → Whole p r t v
+  unfolding sent
+  sent-not k z =
+      let f : goes (o .state) (s .pc) ≡ o .state = ap (goes (o .state)) (sym k) ∙ (unfold goes in refl) in
+      rw e (record { reply-is = er; state-is = et ∙ f ∙ sym (ap (λ (b : Bool). cond b (goes (o .state) target) (o .state)) z); window-is = ev })
+
+-- ---- PUSH
+
+module _ (w : Window) (s : State) (x target : ℕ) (r : Reply) (t : State) (v : Window) (g : Gives (pushOf w s x) s r t v) where
+  push-open : guardedOn w s (pushFrame s (hole s x) target) ≡ sent (pushOf w s x) target
+  unfolding pushOf
+  push-open = guarded-sent w s _ _ target (push-sent w s (hole s x) target (s .pc))
+
+  number : tagOf the-type r ≡ pushOf w s x .reply
+  unfolding pushOf Stays
+  number = tag-is _ r (push-stays w s (hole s x) .0) (g .reply-is)
+
+  at-start : pushOf w s x .state .pc ≡ s .pc
+  unfolding pushOf Stays
+  at-start = push-stays w s (hole s x) .1
+
+  pub push-done : tagOf the-type r ≡ 0 → Whole (guardedOn w s (pushFrame s (hole s x) target)) r (goes t target) v
+  push-done z = sent-done s _ _ target r t v push-open (g .reply-is) (g .state-is) (g .window-is) (sym number ∙ z)
+
+  pub push-refused : OneOf (1 ∷ 2 ∷ 3 ∷ 4 ∷ 5 ∷ 6 ∷ 7 ∷ 8 ∷ 9 ∷ 10 ∷ 11 ∷ 12 ∷ 13 ∷ 14 ∷ 15 ∷ 16 ∷ 17 ∷ 18 ∷ 19 ∷ 20 ∷ []) (tagOf the-type r)
+      → Whole (guardedOn w s (pushFrame s (hole s x) target)) r t v
+  push-refused h =
+      let z : eqb (pushOf w s x .reply) 0 ≡ false = ne-eqb _ 0 (λ q. miss (1 ∷ 2 ∷ 3 ∷ 4 ∷ 5 ∷ 6 ∷ 7 ∷ 8 ∷ 9 ∷ 10 ∷ 11 ∷ 12 ∷ 13 ∷ 14 ∷ 15 ∷ 16 ∷ 17 ∷ 18 ∷ 19 ∷ 20 ∷ []) 0 tt (rw (number ∙ q) at h)) in
+      sent-not s _ _ target r t v push-open (g .reply-is) (g .state-is) (g .window-is) at-start z
+
+-- ---- POP
+
+-- where an answer goes, n where it does not say
+goal : ℕ → PopFrame → ℕ
+goal n (Frame to) = to
+goal n NoFrame = n
+goal n Rejected = n
+goal n Missing = n
+goal n NotAdmissible = n
+goal n WindowRule = n
+
+module _ (w : Window) (s : State) (x yz : ℕ) (q : PopFrame) (t : State) (g : PopGives w s x yz q t) where
+  pop-open : guardedOn w s (popFrame s x (returnTo s yz)) ≡ sent (popOf w s x) (returnTo s yz)
+  unfolding popOf
+  pop-open = guarded-sent w s _ _ (returnTo s yz) (pop-sent w s x (returnTo s yz) (s .pc))
+
+  window-stays : w ≡ popOf w s x .memory
+  unfolding popOf
+  window-stays = sym (pop-stays w s x .0)
+
+  pc-stays : popOf w s x .state .pc ≡ s .pc
+  unfolding popOf
+  pc-stays = pop-stays w s x .1
+
+  numbered : (a : PopFrame) → q ≡ a → popOf w s x .reply ≡ popNumber a
+  numbered a e = sym (g .number-is) ∙ ap popNumber e
+
+  done : (to : ℕ) → popOf w s x .reply ≡ 0 → to ≡ returnTo s yz → Whole (guardedOn w s (popFrame s x (returnTo s yz))) reply.Done (goes t to) w
+  unfolding replyOf
+  done to z e = rw e (sent-done s _ _ (returnTo s yz) reply.Done t w pop-open (sym (ap replyOf z)) (g .state-is) window-stays z)
+
+  pub pop-done : (to : ℕ) → q ≡ Frame to → Whole (guardedOn w s (popFrame s x (returnTo s yz))) reply.Done (goes t to) w
+  unfolding popNumber popAnswer goal
+  pop-done to e =
+      let z : popOf w s x .reply ≡ 0 = numbered (Frame to) e in
+      let f : Frame to ≡ cond (noFrame s) NoFrame (Frame (returnTo s yz)) = sym e ∙ g .answer-is ∙ ap (popAnswer s yz) z in
+      done to z (ap (goal (returnTo s yz)) f ∙ on (λ (a : PopFrame). goal (returnTo s yz) a ≡ returnTo s yz) (noFrame s) (λ n. refl) (λ n. refl))
+
+  pub pop-none : (to : ℕ) → q ≡ NoFrame → to ≡ returnTo s yz → Whole (guardedOn w s (popFrame s x (returnTo s yz))) reply.Done (goes t to) w
+  unfolding popNumber
+  pop-none to e f = done to (numbered NoFrame e) f
+
+  pub pop-refused : (a : PopFrame) (r : Reply) → q ≡ a → r ≡ replyOf (popNumber a) → eqb (popNumber a) 0 ≡ false → Whole (guardedOn w s (popFrame s x (returnTo s yz))) r t w
+  pop-refused a r e f n =
+      let z : popOf w s x .reply ≡ popNumber a = numbered a e in
+      sent-not s _ _ (returnTo s yz) r t w pop-open (f ∙ sym (ap replyOf z)) (g .state-is) window-stays pc-stays (rw z n)

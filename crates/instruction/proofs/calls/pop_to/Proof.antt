@@ -1,0 +1,116 @@
+-- `pop_to` meets its contract: each answer of the stack is a number, and with 0 PC is sent on.
+use mathlib.Core.Path.{refl}
+use borrow.Author.Needs.{needs}
+use Rattle.model.specs.Registers.{goes}
+use Rattle.model.specs.Control.{yzOf}
+use Rattle.model.specs.Numbers.{replyOf}
+use Rattle.model.specs.Parts.{made, lent}
+use Rattle.stack.specs.Frame.{popNumber}
+use Rattle.instruction.proofs.Sends.{pop-done, pop-none, pop-refused}
+use Rattle.instruction.proofs.calls.pop_to.Statement.{statement}
+use Rattle.instruction.proofs.calls.pop_to.Tie as tie
+
+element-copy-out-rj : tie.Need-element-copy-out-rj
+element-copy-out-rj c = search needs
+
+mul-yz : tie.Need-mul-yz
+mul-yz c = search needs
+
+add-yz : tie.Need-add-yz
+add-yz c = search needs
+
+cast-wrapping-add : tie.Need-cast-wrapping-add
+cast-wrapping-add c = search needs
+
+mul-wrapping-add : tie.Need-mul-wrapping-add
+mul-wrapping-add c = search needs
+
+wrapping-add-requires : tie.Need-wrapping-add-requires
+wrapping-add-requires c κs = search needs
+
+pop-frame-requires : tie.Need-pop-frame-requires
+pop-frame-requires c κs = search needs
+
+enum-known-found : tie.Need-enum-known-found
+enum-known-found c = search needs
+
+enum-told : tie.Need-enum-told
+enum-told c = search needs
+
+enum-told-2 : tie.Need-enum-told-2
+enum-told-2 c = search needs
+
+enum-told-3 : tie.Need-enum-told-3
+enum-told-3 c = search needs
+
+enum-told-4 : tie.Need-enum-told-4
+enum-told-4 c = search needs
+
+enum-told-5 : tie.Need-enum-told-5
+enum-told-5 c = search needs
+
+returns : tie.Need-returns
+unfolding goes
+returns c =
+    let told = c .before .before .before in
+    let a = told .before .before .before .before .before .before .before .args in
+    pop-done (lent (a .base) (a .window .now)) (made (a .general .now) (a .special .now) (a .pc .now) (a .halt .now) (a .marks)) (a .x) (yzOf (a .y) (a .z)) _ _ (told .pop-frame .ensures (a .pc .now)) _ (c .before .found .given .1)
+
+returns-2 : tie.Need-returns-2
+unfolding goes
+returns-2 c =
+    let told = c .before .before in
+    let a = told .before .before .before .before .before .before .before .args in
+    pop-none (lent (a .base) (a .window .now)) (made (a .general .now) (a .special .now) (a .pc .now) (a .halt .now) (a .marks)) (a .x) (yzOf (a .y) (a .z)) _ _ (told .pop-frame .ensures (a .pc .now)) _ (c .enum-told .given .1) (told .before .before .before .before .wrapping-add .ensures)
+
+returns-3 : tie.Need-returns-3
+unfolding replyOf popNumber
+returns-3 c =
+    let told = c .before .before in
+    let a = told .before .before .before .before .before .before .before .args in
+    pop-refused (lent (a .base) (a .window .now)) (made (a .general .now) (a .special .now) (a .pc .now) (a .halt .now) (a .marks)) (a .x) (yzOf (a .y) (a .z)) _ _ (told .pop-frame .ensures (a .pc .now)) _ _ (c .enum-told2 .given .1) refl refl
+
+returns-4 : tie.Need-returns-4
+unfolding replyOf popNumber
+returns-4 c =
+    let told = c .before .before in
+    let a = told .before .before .before .before .before .before .before .args in
+    pop-refused (lent (a .base) (a .window .now)) (made (a .general .now) (a .special .now) (a .pc .now) (a .halt .now) (a .marks)) (a .x) (yzOf (a .y) (a .z)) _ _ (told .pop-frame .ensures (a .pc .now)) _ _ (c .enum-told3 .given .1) refl refl
+
+returns-5 : tie.Need-returns-5
+unfolding replyOf popNumber
+returns-5 c =
+    let told = c .before .before in
+    let a = told .before .before .before .before .before .before .before .args in
+    pop-refused (lent (a .base) (a .window .now)) (made (a .general .now) (a .special .now) (a .pc .now) (a .halt .now) (a .marks)) (a .x) (yzOf (a .y) (a .z)) _ _ (told .pop-frame .ensures (a .pc .now)) _ _ (c .enum-told4 .given .1) refl refl
+
+returns-6 : tie.Need-returns-6
+unfolding replyOf popNumber
+returns-6 c =
+    let told = c .before .before in
+    let a = told .before .before .before .before .before .before .before .args in
+    pop-refused (lent (a .base) (a .window .now)) (made (a .general .now) (a .special .now) (a .pc .now) (a .halt .now) (a .marks)) (a .x) (yzOf (a .y) (a .z)) _ _ (told .pop-frame .ensures (a .pc .now)) _ _ (c .enum-told5 .given .1) refl refl
+
+pub pop-to-spec : {M : Type 1} → statement M
+pop-to-spec =
+    tie.close
+    (tie.spec
+    element-copy-out-rj
+    mul-yz
+    add-yz
+    cast-wrapping-add
+    mul-wrapping-add
+    wrapping-add-requires
+    pop-frame-requires
+    enum-known-found
+    enum-told
+    enum-told-2
+    enum-told-3
+    enum-told-4
+    enum-told-5
+    returns
+    returns-2
+    returns-3
+    returns-4
+    returns-5
+    returns-6)

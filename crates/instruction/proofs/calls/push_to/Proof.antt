@@ -1,0 +1,38 @@
+-- `push_to` meets its contract: the stack's reply tells whether PC is sent on.
+use borrow.Author.Needs.{needs}
+use Rattle.model.specs.Registers.{goes}
+use Rattle.model.specs.Parts.{made, lent}
+use Rattle.instruction.proofs.Sends.{push-done, push-refused}
+use Rattle.instruction.proofs.calls.push_to.Statement.{statement}
+use Rattle.instruction.proofs.calls.push_to.Tie as tie
+
+push-frame-requires : tie.Need-push-frame-requires
+push-frame-requires c κs = search needs
+
+enum-told : tie.Need-enum-told
+enum-told c = search needs
+
+same-length : tie.Need-same-length
+same-length c = search needs
+
+returns : tie.Need-returns
+unfolding goes
+returns c =
+    λ halt.
+    let told = c .before .before .before .before in
+    let a = told .before .before .before .before .before .before .args in
+    push-done (lent (a .base) (a .window .now)) (made (a .general .now) (a .special .now) (a .pc .now) halt (a .marks)) (a .x) (a .target) _ _ _ (told .push-frame .ensures halt) (c .before .match .keys1)
+
+same-length-2 : tie.Need-same-length-2
+same-length-2 c = search needs
+
+returns-2 : tie.Need-returns-2
+returns-2 c =
+    λ halt.
+    let told = c .before .before .before in
+    let a = told .before .before .before .before .before .before .args in
+    push-refused (lent (a .base) (a .window .now)) (made (a .general .now) (a .special .now) (a .pc .now) halt (a .marks)) (a .x) (a .target) _ _ _ (told .push-frame .ensures halt) (c .match .keys2)
+
+pub push-to-spec : {M : Type 1} → statement M
+push-to-spec =
+    tie.close (tie.spec push-frame-requires enum-told same-length returns same-length-2 returns-2)

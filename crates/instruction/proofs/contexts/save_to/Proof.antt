@@ -1,0 +1,50 @@
+-- `save_to` meets its contract: the reply's number is the outcome's, so the match tells whether PC goes on.
+use borrow.Author.Needs.{needs}
+use Rattle.model.specs.Parts.{made, lent}
+use Rattle.stack.specs.Context.{saveOf}
+use Rattle.instruction.proofs.Onward.{save-onward, onward-done, onward-refused}
+use Rattle.instruction.proofs.contexts.save_to.Statement.{statement}
+use Rattle.instruction.proofs.contexts.save_to.Tie as tie
+
+save-context-requires : tie.Need-save-context-requires
+save-context-requires c κs = search needs
+
+enum-told : tie.Need-enum-told
+enum-told c = search needs
+
+following-requires : tie.Need-following-requires
+following-requires c κs = search needs
+
+same-length : tie.Need-same-length
+same-length c = search needs
+
+returns : tie.Need-returns
+unfolding saveOf
+returns c =
+    let told = c .before .before .before .before .before .before in
+    let a = told .before .before .before .before .before .before .args in
+    let s = made (a .general .now) (a .special .now) (a .pc .now) (a .halt .now) (a .marks) in
+    onward-done _ s (save-onward (lent (a .base) (a .window .now)) s (a .x)) _ _ _ _ _ (told .save-context .ensures (a .pc .now)) _ (c .before .before .before .match .keys1) (c .following .ensures)
+
+same-length-2 : tie.Need-same-length-2
+same-length-2 c = search needs
+
+returns-2 : tie.Need-returns-2
+unfolding saveOf
+returns-2 c =
+    let told = c .before .before .before in
+    let a = told .before .before .before .before .before .before .args in
+    let s = made (a .general .now) (a .special .now) (a .pc .now) (a .halt .now) (a .marks) in
+    onward-refused _ s (save-onward (lent (a .base) (a .window .now)) s (a .x)) _ _ _ _ _ (told .save-context .ensures (a .pc .now)) (c .match .keys2)
+
+pub save-to-spec : {M : Type 1} → statement M
+save-to-spec =
+    tie.close
+    (tie.spec
+    save-context-requires
+    enum-told
+    following-requires
+    same-length
+    returns
+    same-length-2
+    returns-2)

@@ -1,0 +1,36 @@
+-- `unsave_from` meets its contract: the reply's number is the outcome's, so the match tells whether PC goes on.
+use borrow.Author.Needs.{needs}
+use Rattle.model.specs.Parts.{made, lent}
+use Rattle.stack.specs.Context.{unsaveOf}
+use Rattle.instruction.proofs.Onward.{unsave-onward, onward-done, onward-refused}
+use Rattle.instruction.proofs.contexts.unsave_from.Statement.{statement}
+use Rattle.instruction.proofs.contexts.unsave_from.Tie as tie
+
+unsave-context-requires : tie.Need-unsave-context-requires
+unsave-context-requires c κs = search needs
+
+enum-told : tie.Need-enum-told
+enum-told c = search needs
+
+following-requires : tie.Need-following-requires
+following-requires c κs = search needs
+
+returns : tie.Need-returns
+unfolding unsaveOf
+returns c =
+    let told = c .before .before .before .before in
+    let a = told .before .before .before .before .before .args in
+    let s = made (a .general .now) (a .special .now) (a .pc .now) (a .halt .now) (a .marks) in
+    onward-done _ s (unsave-onward (lent (a .base) (a .window .now)) s (a .address)) _ _ _ _ _ (told .unsave-context .ensures (a .pc .now)) _ (c .before .before .before .match .keys1) (c .following .ensures)
+
+returns-2 : tie.Need-returns-2
+unfolding unsaveOf
+returns-2 c =
+    let told = c .before in
+    let a = told .before .before .before .before .before .args in
+    let s = made (a .general .now) (a .special .now) (a .pc .now) (a .halt .now) (a .marks) in
+    onward-refused _ s (unsave-onward (lent (a .base) (a .window .now)) s (a .address)) _ _ _ _ _ (told .unsave-context .ensures (a .pc .now)) (c .match .keys2)
+
+pub unsave-from-spec : {M : Type 1} → statement M
+unsave-from-spec =
+    tie.close (tie.spec unsave-context-requires enum-told following-requires returns returns-2)

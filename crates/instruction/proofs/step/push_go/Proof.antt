@@ -1,0 +1,27 @@
+-- `push_go` meets its contract: the sum is read before the push.
+use borrow.Author.Needs.{needs}
+use Rattle.model.specs.Parts.{made, lent}
+use Rattle.instruction.proofs.Arms.{push-at}
+use Rattle.instruction.proofs.step.push_go.Statement.{statement}
+use Rattle.instruction.proofs.step.push_go.Tie as tie
+
+sum-requires : tie.Need-sum-requires
+sum-requires c κs = search needs
+
+push-to-requires : tie.Need-push-to-requires
+push-to-requires c κs = search needs
+
+same-length : tie.Need-same-length
+same-length c = search needs
+
+returns : tie.Need-returns
+returns c =
+    λ halt.
+    let calls = c .before .before in
+    let sums = calls .before .before .before .before .before in
+    let a = sums .before .before .before .args in
+    let s = made (a .general .now) (a .special .now) (a .pc .now) halt (a .marks) in
+    push-at (lent (a .base) (a .window .now)) s (a .x) _ _ _ _ _ (sums .sum .ensures (a .special .now) (a .pc .now) halt (a .marks)) (calls .push-to .ensures halt)
+
+pub push-go-spec : {M : Type 1} → statement M
+push-go-spec = tie.close (tie.spec sum-requires push-to-requires same-length returns)

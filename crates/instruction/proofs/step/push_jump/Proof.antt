@@ -1,0 +1,27 @@
+-- `push_jump` meets its contract: the target is reckoned from PC as it was.
+use borrow.Author.Needs.{needs}
+use Rattle.model.specs.Parts.{made, lent}
+use Rattle.instruction.proofs.Arms.{push-at}
+use Rattle.instruction.proofs.step.push_jump.Statement.{statement}
+use Rattle.instruction.proofs.step.push_jump.Tie as tie
+
+near-requires : tie.Need-near-requires
+near-requires c κs = search needs
+
+push-to-requires : tie.Need-push-to-requires
+push-to-requires c κs = search needs
+
+same-length : tie.Need-same-length
+same-length c = search needs
+
+returns : tie.Need-returns
+returns c =
+    λ halt.
+    let calls = c .before .before in
+    let nears = calls .before .before .before .before .before in
+    let a = nears .before .before .before .args in
+    let s = made (a .general .now) (a .special .now) (a .pc .now) halt (a .marks) in
+    push-at (lent (a .base) (a .window .now)) s (a .x) _ _ _ _ _ (nears .near .ensures) (calls .push-to .ensures halt)
+
+pub push-jump-spec : {M : Type 1} → statement M
+push-jump-spec = tie.close (tie.spec near-requires push-to-requires same-length returns)

@@ -1,0 +1,72 @@
+// Arms that work on the register stack's frames (control.rs: PUSHJ, PUSHGO, POP), in place: the stack moves registers and octabytes,
+// and PC is sent on where that is done. Each judges 1 and 2, as the stack does.
+ghost use mathlib.Core.Path.{_≡_};
+ghost use Prim.Native.Nat.{ℕ, _+_, _*_, _%_, _^_};
+ghost use Rattle.model.specs.Registers.{rJ, sp};
+ghost use Rattle.model.specs.Control.{yzOf};
+ghost use Rattle.model.specs.Frames.{hole, pushFrame, popFrame};
+ghost use Rattle.model.specs.Parts.{made, lent};
+ghost use Rattle.stack.specs.Gives.{guardedOn};
+ghost use Rattle.instruction.specs.Whole.{Whole};
+use model::Reply;
+use model::State;
+use stack::frame::PopFrame;
+
+/// A call of `target` with the hole that x makes.
+pub fn push_to(
+    general: &mut [u64; 256],
+    special: &mut [u64; 32],
+    pc: &mut u64,
+    marks: u64,
+    window: &mut [u8],
+    base: u64,
+    x: u8,
+    target: u64,
+) -> Reply
+    ensures { λ r. ⌜ ((halt : ℕ) → Whole (guardedOn (lent base (now (window .entry))) (made (now (general .entry)) (now (special .entry)) (now (pc .entry)) halt marks) (pushFrame (made (now (general .entry)) (now (special .entry)) (now (pc .entry)) halt marks) (hole (made (now (general .entry)) (now (special .entry)) (now (pc .entry)) halt marks) x) target)) r (made (now (general .exit)) (now (special .exit)) (now (pc .exit)) halt marks) (lent base (now (window .exit)))) ⌝ }
+{
+    let at = *pc;
+    let reply = stack::frame::push_frame(general, special, at, marks, window, base, x);
+    match reply {
+        Reply::Done => {
+            *pc = target;
+        }
+        _ => {}
+    }
+    reply
+}
+
+/// POP.
+pub fn pop_to(
+    general: &mut [u64; 256],
+    special: &mut [u64; 32],
+    pc: &mut u64,
+    halt: &mut u64,
+    marks: u64,
+    window: &[u8],
+    base: u64,
+    x: u8,
+    y: u8,
+    z: u8,
+) -> Reply
+    ensures { λ r. ⌜ Whole (guardedOn (lent base (now (window .entry))) (made (now (general .entry)) (now (special .entry)) (now (pc .entry)) (now (halt .entry)) marks) (popFrame (made (now (general .entry)) (now (special .entry)) (now (pc .entry)) (now (halt .entry)) marks) x ((sp (made (now (general .entry)) (now (special .entry)) (now (pc .entry)) (now (halt .entry)) marks) rJ + 4 * yzOf y z) % 2 ^ 64))) r (made (now (general .exit)) (now (special .exit)) (now (pc .exit)) (now (halt .exit)) marks) (lent base (now (window .entry))) ⌝ }
+{
+    let rj = special[State::RJ];
+    let yz = 256 * (y as u16) + z as u16;
+    let target = stack::pass::wrapping_add(rj, 4 * (yz as u64));
+    let found = stack::frame::pop_frame(general, special, halt, marks, window, base, x, yz);
+    match found {
+        PopFrame::Frame(to) => {
+            *pc = to;
+            Reply::Done
+        }
+        PopFrame::NoFrame => {
+            *pc = target;
+            Reply::Done
+        }
+        PopFrame::Rejected => Reply::Misplaced,
+        PopFrame::Missing => Reply::Missing,
+        PopFrame::NotAdmissible => Reply::NotAdmissible,
+        PopFrame::WindowRule => Reply::WindowRule,
+    }
+}
