@@ -9,7 +9,16 @@ ghost use Rattle.instruction.specs.Whole.{Whole};
 use model::Reply;
 
 /// SAVE $x.
-pub fn save_to(general: &mut [u64; 256], special: &mut [u64; 32], pc: &mut u64, halt: &mut u64, marks: u64, window: &mut [u8], base: u64, x: u8) -> Reply
+pub fn save_to(
+    general: &mut [u64; 256],
+    special: &mut [u64; 32],
+    pc: &mut u64,
+    halt: &mut u64,
+    marks: u64,
+    window: &mut [u8],
+    base: u64,
+    x: u8,
+) -> Reply
     ensures { λ r. ⌜ Whole (guardedOn (lent base (now (window .entry))) (made (now (general .entry)) (now (special .entry)) (now (pc .entry)) (now (halt .entry)) marks) (saveContext (made (now (general .entry)) (now (special .entry)) (now (pc .entry)) (now (halt .entry)) marks) x)) r (made (now (general .exit)) (now (special .exit)) (now (pc .exit)) (now (halt .exit)) marks) (lent base (now (window .exit))) ⌝ }
 {
     let reply = stack::context::save_context(general, special, halt, marks, window, base, x);
@@ -23,10 +32,27 @@ pub fn save_to(general: &mut [u64; 256], special: &mut [u64; 32], pc: &mut u64, 
 }
 
 /// UNSAVE of the context at `address`.
-pub fn unsave_from(general: &mut [u64; 256], special: &mut [u64; 32], pc: &mut u64, halt: &mut u64, marks: u64, window: &[u8], base: u64, address: u64) -> Reply
+pub fn unsave_from(
+    general: &mut [u64; 256],
+    special: &mut [u64; 32],
+    pc: &mut u64,
+    halt: &mut u64,
+    marks: u64,
+    window: &[u8],
+    base: u64,
+    address: u64,
+) -> Reply
     ensures { λ r. ⌜ Whole (guardedOn (lent base (now (window .entry))) (made (now (general .entry)) (now (special .entry)) (now (pc .entry)) (now (halt .entry)) marks) (unsaveContext (made (now (general .entry)) (now (special .entry)) (now (pc .entry)) (now (halt .entry)) marks) address)) r (made (now (general .exit)) (now (special .exit)) (now (pc .exit)) (now (halt .exit)) marks) (lent base (now (window .entry))) ⌝ }
 {
-    let reply = stack::context::unsave_context(general, special, halt, marks, window, base, address);
+    let reply = stack::context::unsave_context(
+        general,
+        special,
+        halt,
+        marks,
+        window,
+        base,
+        address,
+    );
     match reply {
         Reply::Done => {
             *pc = super::target::following(*pc);

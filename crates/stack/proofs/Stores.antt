@@ -5,10 +5,10 @@ use Prim.Native.Nat.{ℕ, _+_, _-_, _*_, _%_, _^_, _≤_, _<_}
 use native.Mathlib.Omega.{arith}
 use lib.ListN.{length, getD, set, length-set}
 use lib.Seq.{getD-set-same}
-use Rattle.model.specs.Fill.{over, tab}
+use Rattle.model.specs.Fill.{tab}
 use Rattle.model.specs.Memory.{Window, Shape, shapeOf, one}
 use Rattle.model.specs.Plan.{worst, puts}
-use Rattle.model.specs.Registers.{rO, rS, rG, rL, rA, sp, reg, stored, spilled, withSpecial}
+use Rattle.model.specs.Registers.{rO, rG, rL, rA, sp, reg, stored, spilled, withSpecial}
 use Rattle.model.specs.Contexts.{extent, savedSpecial, saved, savedRule, savedState}
 use Rattle.model.specs.Step.{refusing}
 use Rattle.model.specs.Parts.{made, lent}
@@ -17,7 +17,7 @@ use Rattle.model.proofs.Good.{Adm}
 use Rattle.model.proofs.Unpark.{saved-local, saved-count, saved-global, saved-twelve, saved-packed}
 use Rattle.machine.specs.Octas.{writtenOcta}
 use Rattle.machine.proofs.Octas.{puts-tab, written-shape}
-use Rattle.stack.specs.Work.{Ranged, Continues, StoresContext}
+use Rattle.stack.specs.Work.{Ranged, Continues, StoresContext, leftGeneral, leftSpecial}
 
 -- as in model: (Unpark) an address further up, modulo 2^64
 pub further : (a b i k : ℕ) → b % 2 ^ 64 ≡ (a + 8 * i) % 2 ^ 64 → (b + 8 * k) % 2 ^ 64 ≡ (a + 8 * (i + k)) % 2 ^ 64
@@ -117,12 +117,10 @@ context-stored general special r w w1 w2 w3 w4 w5 marker globals specials packed
 
 -- ---- the registers after it
 
-pub departed : (general special general' : List ℕ) (x address new : ℕ) → length special ≡ 32
-    → address ≡ (getD special rO 0 + 8 * (getD special rL 0 + 269 - getD special rG 0)) % 2 ^ 64
-    → new ≡ (getD special rO 0 + 8 * (getD special rL 0 + 270 - getD special rG 0)) % 2 ^ 64
-    → general' ≡ over (λ (k : ℕ). 0) 0 (getD special rG 0) general → (pc halt marks : ℕ)
-    → made (set general' x address) (set (set (set special rL 0) rO new) rS new) pc halt marks ≡ savedState (made general special pc halt marks) x
-unfolding savedState savedRule spilled withSpecial stored
-departed general special general' x address new len ea en eg pc halt marks =
+pub departed : (general special general' special' : List ℕ) (x : ℕ) → length special ≡ 32 → general' ≡ leftGeneral general special x
+    → special' ≡ leftSpecial special → (pc halt marks : ℕ) → made general' special' pc halt marks ≡ savedState (made general special pc halt marks) x
+unfolding savedState savedRule spilled withSpecial stored leftGeneral leftSpecial
+departed general special general' special' x len eg es pc halt marks =
+    let new : ℕ = (getD special rO 0 + 8 * (getD special rL 0 + 270 - getD special rG 0)) % 2 ^ 64 in
     let same : getD (set (set special rL 0) rO new) rO 0 ≡ new = getD-set-same (set special rL 0) rO new 0 (omega (arith, length-set special rL 0)) in
     cc

@@ -1,13 +1,13 @@
 -- What the contracts of the private functions cite: bounds, a run of stores that goes on, octabytes as code reads them, and the
 -- twelve special registers loaded one after another.
-use Prim.Native.Nat.{ℕ, zero, suc, _+_, _*_, _%_, _^_, _≤_, _<_}
+use Prim.Native.Nat.{ℕ, zero, suc, _+_, _-_, _*_, _%_, _^_, _≤_, _<_}
 use mathlib.Core.Path.{_≡_}
 use mathlib.Core.List.{List}
 use lib.ListN.{getD, set}
-use Rattle.model.specs.Fill.{tab}
+use Rattle.model.specs.Fill.{over, tab}
 use Rattle.model.specs.Memory.{Window, shapeOf, one}
 use Rattle.model.specs.Plan.{worst, puts}
-use Rattle.model.specs.Registers.{rO, rG, rL, rA}
+use Rattle.model.specs.Registers.{rO, rS, rG, rL, rA}
 use Rattle.model.specs.Contexts.{extent, savedSpecial, saved}
 use Rattle.model.specs.Step.{refusing}
 use Rattle.model.specs.Parts.{made}
@@ -30,6 +30,16 @@ pub record Continues (v : Window) (addr n : ℕ) (g : ℕ → ℕ) (u : Window) 
 pub record StoresContext (general special : List ℕ) (w v : Window) : Type 0 where
   pub stores : (pc halt marks : ℕ) → marks < 512 → worst (refusing (shapeOf w)) (getD special rO 0) (extent (made general special pc halt marks)) ≡ 0
       → v ≡ puts one w (getD special rO 0) (tab 0 (extent (made general special pc halt marks)) (saved (made general special pc halt marks)))
+
+-- the registers that SAVE $x leaves
+unfoldable pub leftGeneral : List ℕ → List ℕ → ℕ → List ℕ
+leftGeneral general special x =
+    set (over (λ k. 0) 0 (getD special rG 0) general) x ((getD special rO 0 + 8 * (getD special rL 0 + 269 - getD special rG 0)) % 2 ^ 64)
+
+unfoldable pub leftSpecial : List ℕ → List ℕ
+leftSpecial special =
+    set (set (set special rL 0) rO ((getD special rO 0 + 8 * (getD special rL 0 + 270 - getD special rG 0)) % 2 ^ 64)) rS
+    ((getD special rO 0 + 8 * (getD special rL 0 + 270 - getD special rG 0)) % 2 ^ 64)
 
 -- the n octabytes from address a up, as code reads them
 unfoldable pub octasFrom : Window → ℕ → ℕ → List ℕ

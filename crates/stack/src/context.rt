@@ -3,13 +3,13 @@ ghost use mathlib.Core.Path.{_≡_};
 ghost use Prim.Native.Nat.{ℕ, _+_, _-_, _*_, _%_, _^_, _≤_, _<_};
 ghost use lib.ListN.{getD};
 ghost use Rattle.model.specs.Fill.{over};
-ghost use Rattle.model.specs.Contexts.{savedSpecial, savedState, unsavedGeneral, unsaved};
+ghost use Rattle.model.specs.Contexts.{savedSpecial, unsavedGeneral, unsaved};
 ghost use Rattle.model.specs.Numbers.{replyOf};
 ghost use Rattle.model.specs.Parts.{made, lent};
 ghost use Rattle.machine.specs.Octas.{readOcta};
 ghost use Rattle.stack.specs.Gives.{Gives};
 ghost use Rattle.stack.specs.Context.{saveOf, unsaveOf, layoutOf, spot, LocatedIs};
-ghost use Rattle.stack.specs.Work.{Ranged, Continues, StoresContext, octasFrom, loaded};
+ghost use Rattle.stack.specs.Work.{Ranged, Continues, StoresContext, leftGeneral, leftSpecial, octasFrom, loaded};
 use model::Reply;
 use model::State;
 
@@ -101,19 +101,29 @@ fn store_context(general: &[u64; 256], special: &[u64; 32], window: &mut [u8], b
     machine::memory::write_octa(window, base, packed, rg * 0x100000000000000 + ra);
 }
 
-/// The registers after the context was stored: $x has its address.
-fn depart(general: &mut [u64; 256], special: &mut [u64; 32], x: u8)
+/// The context is stored; then the registers below rG become 0 and $x gets the context's address.
+fn put_away(general: &mut [u64; 256], special: &[u64; 32], window: &mut [u8], base: u64, x: u8)
     requires { ⌜ Ranged (now special) ⌝ }
-    ensures { λ _. ⌜ ((pc halt marks : ℕ) → made (now (general .exit)) (now (special .exit)) pc halt marks ≡ savedState (made (now (general .entry)) (now (special .entry)) pc halt marks) x) ⌝ }
+    ensures { λ _. ⌜ StoresContext (now (general .entry)) (now (special .entry)) (lent base (now (window .entry))) (lent base (now (window .exit))) × (now (general .exit) ≡ leftGeneral (now (general .entry)) (now (special .entry)) x) ⌝ }
 {
-    machine::registers::counted(general, special);
     let ro = special[State::RO];
     let rl = special[State::RL];
     let rg = special[State::RG];
     let address = machine::number::wrapping_add(ro, 8 * (rl + 269 - rg));
-    let new_ro = machine::number::wrapping_add(ro, 8 * (rl + 270 - rg));
+    store_context(general, special, window, base);
     machine::registers::clear_range(general, 0, rg);
     general[x as usize] = address;
+}
+
+/// The special registers after it: rL is 0, and rO and rS follow the context.
+fn depart(special: &mut [u64; 32])
+    requires { ⌜ Ranged (now special) ⌝ }
+    ensures { λ _. ⌜ now (special .exit) ≡ leftSpecial (now (special .entry)) ⌝ }
+{
+    let ro = special[State::RO];
+    let rl = special[State::RL];
+    let rg = special[State::RG];
+    let new_ro = machine::number::wrapping_add(ro, 8 * (rl + 270 - rg));
     special[State::RL] = 0;
     special[State::RO] = new_ro;
     special[State::RS] = new_ro;
@@ -142,8 +152,9 @@ pub fn save_context(
                 return Reply::SaveLocal;
             }
             if machine::memory::run_refusal(window, base, ro, rl + 270 - rg) == 0 {
-                store_context(general, special, window, base);
-                depart(general, special, x);
+                machine::registers::counted(general, special);
+                put_away(general, special, window, base, x);
+                depart(special);
                 return Reply::Done;
             }
             return Reply::Missing;

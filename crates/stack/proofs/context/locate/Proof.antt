@@ -1,10 +1,18 @@
 -- `locate` meets its contract: each way out is a stage of the context plan, in its order 6, 14, 15, 6, 16, 6.
-use mathlib.Core.Path.{sym, _∙_}
+use mathlib.Core.Path.{_≡_, sym, _∙_}
 use native.Mathlib.Omega.{arith}
-use Rattle.stack.proofs.Places.{told-count, way-lost, way-threshold, way-status, way-outside, way-excess, way-short, way-found}
 use borrow.Author.Needs.{needs}
+use Rattle.model.specs.Memory.{shapeOf}
+use Rattle.model.specs.Plan.{worst}
+use Rattle.model.specs.Step.{refusing}
+use Rattle.model.specs.Parts.{lent}
+use Rattle.stack.proofs.Places.{told-count, way-lost, way-threshold, way-status, way-outside, way-excess, way-short, way-found}
 use Rattle.stack.proofs.context.locate.Statement.{statement}
 use Rattle.stack.proofs.context.locate.Tie as tie
+
+-- the packed octabyte lies inside
+inside : (c : tie.Then1) → worst (refusing (shapeOf (lent (c .before .before .before .args .base) (c .before .before .before .args .window .now)))) (c .before .before .before .args .address) 1 ≡ 0
+inside c = sym (c .before .run-refusal .ensures) ∙ c .if1 .taken
 
 run-refusal-requires : tie.Need-run-refusal-requires
 run-refusal-requires c κs = search needs
@@ -16,13 +24,13 @@ refused-requires : tie.Need-refused-requires
 refused-requires c κs = search needs
 
 returns : tie.Need-returns
-returns c = way-threshold _ _ _ (sym (c .before .before .before .before .run-refusal .ensures) ∙ c .before .before .before .if1 .taken) (c .before .before .read-octa .ensures) _ (c .before .if2 .taken) (c .refused .ensures)
+returns c = way-threshold _ _ _ (inside (c .before .before .before)) (c .before .before .read-octa .ensures) _ (c .before .if2 .taken) (c .refused .ensures)
 
 refused-requires-2 : tie.Need-refused-requires-2
 refused-requires-2 c κs = search needs
 
 returns-2 : tie.Need-returns-2
-returns-2 c = way-status _ _ _ (sym (c .before .before .before .before .before .run-refusal .ensures) ∙ c .before .before .before .before .if1 .taken) (c .before .before .before .read-octa .ensures) (c .before .before .if2 .left) (omega arith) _ (c .before .if3 .taken) (c .refused2 .ensures)
+returns-2 c = way-status _ _ _ (inside (c .before .before .before .before)) (c .before .before .before .read-octa .ensures) (c .before .before .if2 .left) (omega arith) _ (c .before .if3 .taken) (c .refused2 .ensures)
 
 cast-save-context-layout : tie.Need-cast-save-context-layout
 cast-save-context-layout c = search needs
@@ -44,7 +52,9 @@ run-refusal-requires-2 c κs = search needs
 
 returns-3 : tie.Need-returns-3
 returns-3 c =
-    way-found _ _ _ (sym (c .before .before .before .before .before .before .before .before .before .before .run-refusal .ensures) ∙ c .before .before .before .before .before .before .before .before .before .if1 .taken) (c .before .before .before .before .before .before .before .before .read-octa .ensures) (c .before .before .before .before .before .before .before .if2 .left) (omega arith) (c .before .before .before .before .before .before .if3 .left) _ (c .before .before .before .before .before .save-context-layout .ensures) _ (c .before .before .before .layout .given .1)
+    let told = c .before .before .before .before .before in
+    let packed = told .before .before .before in
+    way-found _ _ _ (inside (packed .before)) (packed .read-octa .ensures) (told .before .before .if2 .left) (omega arith) (told .before .if3 .left) _ (told .save-context-layout .ensures) _ (c .before .before .before .layout .given .1)
     (sym (c .before .run-refusal2 .ensures) ∙ c .if4 .taken)
 
 refused-requires-3 : tie.Need-refused-requires-3
@@ -52,7 +62,9 @@ refused-requires-3 c κs = search needs
 
 returns-4 : tie.Need-returns-4
 returns-4 c =
-    way-short _ _ _ (sym (c .before .before .before .before .before .before .before .before .before .before .before .run-refusal .ensures) ∙ c .before .before .before .before .before .before .before .before .before .before .if1 .taken) (c .before .before .before .before .before .before .before .before .before .read-octa .ensures) (c .before .before .before .before .before .before .before .before .if2 .left) (omega arith) (c .before .before .before .before .before .before .before .if3 .left) _ (c .before .before .before .before .before .before .save-context-layout .ensures) _ (c .before .before .before .before .layout .given .1) _
+    let told = c .before .before .before .before .before .before in
+    let packed = told .before .before .before in
+    way-short _ _ _ (inside (packed .before)) (packed .read-octa .ensures) (told .before .before .if2 .left) (omega arith) (told .before .if3 .left) _ (told .save-context-layout .ensures) _ (c .before .before .before .before .layout .given .1) _
     (λ z. c .before .if4 .left (c .before .before .run-refusal2 .ensures ∙ z)) (c .refused3 .ensures)
 
 enum-told : tie.Need-enum-told
@@ -63,7 +75,10 @@ refused-requires-4 c κs = search needs
 
 returns-5 : tie.Need-returns-5
 returns-5 c =
-    way-excess _ _ _ (sym (c .before .before .before .before .before .before .before .before .run-refusal .ensures) ∙ c .before .before .before .before .before .before .before .if1 .taken) (c .before .before .before .before .before .before .read-octa .ensures) (c .before .before .before .before .before .if2 .left) (omega arith) (c .before .before .before .before .if3 .left) _ (c .before .before .before .save-context-layout .ensures) _ _ (c .before .enum-told .given .1) (c .refused4 .ensures)
+    let told = c .before .before .before in
+    let packed = told .before .before .before in
+    way-excess _ _ _ (inside (packed .before)) (packed .read-octa .ensures) (told .before .before .if2 .left) (omega arith) (told .before .if3 .left) _ (told .save-context-layout .ensures) _ _
+    (c .before .enum-told .given .1) (c .refused4 .ensures)
 
 enum-told-2 : tie.Need-enum-told-2
 enum-told-2 c = search needs
@@ -73,7 +88,10 @@ refused-requires-5 c κs = search needs
 
 returns-6 : tie.Need-returns-6
 returns-6 c =
-    way-outside _ _ _ (sym (c .before .before .before .before .before .before .before .before .run-refusal .ensures) ∙ c .before .before .before .before .before .before .before .if1 .taken) (c .before .before .before .before .before .before .read-octa .ensures) (c .before .before .before .before .before .if2 .left) (omega arith) (c .before .before .before .before .if3 .left) _ (c .before .before .before .save-context-layout .ensures) _ (c .before .enum-told2 .given .1) (c .refused5 .ensures)
+    let told = c .before .before .before in
+    let packed = told .before .before .before in
+    way-outside _ _ _ (inside (packed .before)) (packed .read-octa .ensures) (told .before .before .if2 .left) (omega arith) (told .before .if3 .left) _ (told .save-context-layout .ensures) _
+    (c .before .enum-told2 .given .1) (c .refused5 .ensures)
 
 refused-requires-6 : tie.Need-refused-requires-6
 refused-requires-6 c κs = search needs

@@ -1,12 +1,28 @@
--- `save_context` meets its contract: each way out is one of the plan, 1, 2, 13, 6, done.
-use mathlib.Core.Path.{sym, _∙_}
+-- `save_context` meets its contract: each way out is one of the plan: 1, 2, 13, 6, done.
+use mathlib.Core.Path.{_≡_, sym, _∙_}
+use mathlib.Core.Bool.{true}
+use Prim.Native.Nat.{ℕ}
 use native.Mathlib.Omega.{arith}
-use Rattle.model.specs.Registers.{halted}
-use Rattle.stack.specs.Work.{Ranged}
-use Rattle.stack.proofs.Answers.{ranged, save-state, save-window, save-local, save-missing, save-done}
 use borrow.Author.Needs.{needs}
+use Rattle.model.specs.Memory.{shapeOf, ruled}
+use Rattle.model.specs.Registers.{admissible, halted}
+use Rattle.model.specs.Parts.{made, lent}
+use Rattle.stack.specs.Work.{Ranged}
+use Rattle.stack.proofs.Stores.{departed}
+use Rattle.stack.proofs.Answers.{ranged, save-state, save-window, save-local, save-missing, save-done}
 use Rattle.stack.proofs.context.save_context.Statement.{statement}
 use Rattle.stack.proofs.context.save_context.Tie as tie
+
+-- 1 has passed
+judged : (c : tie.Then1) (pc halt : ℕ) → admissible (made (c .before .before .before .before .args .general .now) (c .before .before .before .before .args .special .now) pc halt (c .before .before .before .before .args .marks)) ≡ true
+judged c pc halt = sym (c .before .admissible .ensures (c .before .before .before .before .args .general .now) pc halt) ∙ c .if1 .taken
+
+bounds : (c : tie.Then1) → Ranged (c .before .before .before .before .args .special .now)
+bounds c = ranged _ _ 0 0 _ (judged c 0 0)
+
+-- and 2
+windowed : (c : tie.Then2) → ruled (shapeOf (lent (c .before .before .before .before .before .before .before .args .base) (c .before .before .before .before .before .before .before .args .window .now))) ≡ true
+windowed c = sym (c .before .is-ruled .ensures) ∙ c .if2 .taken
 
 admissible-requires : tie.Need-admissible-requires
 admissible-requires c κs = search needs
@@ -28,12 +44,11 @@ same-length c = search needs
 
 returns : tie.Need-returns
 unfolding halted
-returns c = λ pc. save-local _ _ _ (sym (c .before .before .before .before .before .before .before .before .admissible .ensures (c .before .before .before .before .before .before .before .before .before .before .before .args .general .now) pc (c .before .before .before .before .before .before .before .before .before .before .before .args .halt .now)) ∙ c .before .before .before .before .before .before .before .if1 .taken) (sym (c .before .before .before .before .before .is-ruled .ensures) ∙ c .before .before .before .before .if2 .taken) (c .if3 .taken)
+returns c = λ pc. save-local _ _ _ (judged (c .before .before .before .before .before .before .before) pc _) (windowed (c .before .before .before .before)) (c .if3 .taken)
 
 add-run-refusal : tie.Need-add-run-refusal
 add-run-refusal c =
-    let a = c .before .before .before .before .before .before .before .before .before .before .before .before .args in
-    let e : Ranged (a .special .now) = ranged (a .general .now) (a .special .now) 0 0 (a .marks) (sym (c .before .before .before .before .before .before .before .before .before .admissible .ensures (a .general .now) 0 0) ∙ c .before .before .before .before .before .before .before .before .if1 .taken) in
+    let e = bounds (c .before .before .before .before .before .before .before .before) in
     omega arith
 
 sub-run-refusal : tie.Need-sub-run-refusal
@@ -42,33 +57,41 @@ sub-run-refusal c = search needs
 run-refusal-requires : tie.Need-run-refusal-requires
 run-refusal-requires c κs = search needs
 
-store-context-requires : tie.Need-store-context-requires
-store-context-requires c κs = ranged _ _ 0 0 _ (sym (c .before .before .before .before .before .before .before .before .before .before .before .before .before .before .admissible .ensures (c .before .before .before .before .before .before .before .before .before .before .before .before .before .before .before .before .before .args .general .now) 0 0) ∙ c .before .before .before .before .before .before .before .before .before .before .before .before .before .if1 .taken)
+counted-requires : tie.Need-counted-requires
+counted-requires c κs = search needs
+
+put-away-requires : tie.Need-put-away-requires
+put-away-requires c κs = bounds (c .before .before .before .before .before .before .before .before .before .before .before .before .before .before .before .before)
 
 depart-requires : tie.Need-depart-requires
-depart-requires c κs = ranged _ _ 0 0 _ (sym (c .before .before .before .before .before .before .before .before .before .before .before .before .before .before .before .before .before .before .before .admissible .ensures (c .before .before .before .before .before .before .before .before .before .before .before .before .before .before .before .before .before .before .before .before .before .before .args .general .now) 0 0) ∙ c .before .before .before .before .before .before .before .before .before .before .before .before .before .before .before .before .before .before .if1 .taken)
+depart-requires c κs = bounds (c .before .before .before .before .before .before .before .before .before .before .before .before .before .before .before .before .before .before .before .before)
 
 same-length-2 : tie.Need-same-length-2
 same-length-2 c = search needs
 
 returns-2 : tie.Need-returns-2
-returns-2 c = λ pc. save-done _ _ _ (sym (c .before .before .before .before .before .before .before .before .before .before .before .before .before .before .before .before .before .before .before .before .admissible .ensures (c .before .before .before .before .before .before .before .before .before .before .before .before .before .before .before .before .before .before .before .before .before .before .before .args .general .now) pc (c .before .before .before .before .before .before .before .before .before .before .before .before .before .before .before .before .before .before .before .before .before .before .before .args .halt .now)) ∙ c .before .before .before .before .before .before .before .before .before .before .before .before .before .before .before .before .before .before .before .if1 .taken) (sym (c .before .before .before .before .before .before .before .before .before .before .before .before .before .before .before .before .before .is-ruled .ensures) ∙ c .before .before .before .before .before .before .before .before .before .before .before .before .before .before .before .before .if2 .taken) (c .before .before .before .before .before .before .before .before .before .before .before .before .if3 .left) (sym (c .before .before .before .before .before .before .before .before .before .before .run-refusal .ensures) ∙ c .before .before .before .before .before .before .before .before .before .if4 .taken) _ _ (c .depart .ensures pc _ _)
-    (c .before .before .before .before .before .store-context .ensures)
+returns-2 c =
+    λ pc.
+    let stored = c .before .before .before .before .put-away .ensures in
+    let fits = c .before .before .before .before .before .before .before .before .before .before .before in
+    let passed = fits .before .before .before .before .before .before .before in
+    save-done _ _ _ (judged (passed .before .before .before) pc _) (windowed passed) (fits .before .before .before .if3 .left) (omega (arith, fits .before .run-refusal .ensures, fits .if4 .taken)) _ _
+    (departed _ _ _ _ _ (c .before .before .before .before .before .before .before .before .counted .ensures .1) (stored .1) (c .depart .ensures) pc _ _) (stored .0)
 
 same-length-3 : tie.Need-same-length-3
 same-length-3 c = search needs
 
 returns-3 : tie.Need-returns-3
-returns-3 c = λ pc. save-missing _ _ _ (sym (c .before .before .before .before .before .before .before .before .before .before .before .admissible .ensures (c .before .before .before .before .before .before .before .before .before .before .before .before .before .before .args .general .now) pc (c .before .before .before .before .before .before .before .before .before .before .before .before .before .before .args .halt .now)) ∙ c .before .before .before .before .before .before .before .before .before .before .if1 .taken) (sym (c .before .before .before .before .before .before .before .before .is-ruled .ensures) ∙ c .before .before .before .before .before .before .before .if2 .taken) (c .before .before .before .if3 .left) (λ z. c .if4 .left (c .before .run-refusal .ensures ∙ z))
+returns-3 c = λ pc. save-missing _ _ _ (judged (c .before .before .before .before .before .before .before .before .before .before) pc _) (windowed (c .before .before .before .before .before .before .before)) (c .before .before .before .if3 .left) (λ z. c .if4 .left (c .before .run-refusal .ensures ∙ z))
 
 same-length-4 : tie.Need-same-length-4
 same-length-4 c = search needs
 
 returns-4 : tie.Need-returns-4
-returns-4 c = λ pc. save-window _ _ _ (sym (c .before .before .before .before .admissible .ensures (c .before .before .before .before .before .before .before .args .general .now) pc (c .before .before .before .before .before .before .before .args .halt .now)) ∙ c .before .before .before .if1 .taken) (sym (c .before .is-ruled .ensures) ∙ c .if2 .left)
+returns-4 c = λ pc. save-window _ _ _ (judged (c .before .before .before) pc _) (sym (c .before .is-ruled .ensures) ∙ c .if2 .left)
 
 returns-5 : tie.Need-returns-5
-returns-5 c = λ pc. save-state _ _ _ (sym (c .before .admissible .ensures (c .before .before .before .before .args .general .now) pc (c .before .before .before .before .args .halt .now)) ∙ c .if1 .left)
+returns-5 c = λ pc. save-state _ _ _ (sym (c .before .admissible .ensures _ pc _) ∙ c .if1 .left)
 
 pub save-context-spec : {M : Type 1} → statement M
 save-context-spec =
@@ -84,7 +107,8 @@ save-context-spec =
     add-run-refusal
     sub-run-refusal
     run-refusal-requires
-    store-context-requires
+    counted-requires
+    put-away-requires
     depart-requires
     same-length-2
     returns-2

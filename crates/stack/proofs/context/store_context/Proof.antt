@@ -1,6 +1,6 @@
 -- `store_context` meets its contract: its five stores, one after another, are the context.
-use Rattle.stack.proofs.Stores.{context-stored}
 use borrow.Author.Needs.{needs}
+use Rattle.stack.proofs.Stores.{context-stored}
 use Rattle.stack.proofs.context.store_context.Statement.{statement}
 use Rattle.stack.proofs.context.store_context.Tie as tie
 
@@ -84,16 +84,15 @@ same-length c = search needs
 
 returns : tie.Need-returns
 returns c =
-    context-stored _ _ (c .before .before .before .before .before .before .before .before .before .before .before .before .before .before .before .before .before .before .before .before .before .before .before .before .before .before .before .before .before .pre) _ _ _ _ _ _ _ _ _ _
-    (c .before .before .before .before .before .before .before .before .before .before .before .before .before .before .before .before .before .before .before .before .before .before .store-run .ensures)
-    (c .before .before .before .before .before .before .before .before .before .before .before .before .before .before .before .before .before .before .before .wrapping-add .ensures)
-    (c .before .before .before .before .before .before .before .before .before .before .before .before .before .before .before .before .before .write-octa .ensures)
-    (c .before .before .before .before .before .before .before .before .before .before .before .before .before .before .wrapping-add2 .ensures)
-    (c .before .before .before .before .before .before .before .before .before .before .before .before .store-run2 .ensures)
-    (c .before .before .before .before .before .before .before .before .before .wrapping-add3 .ensures)
-    (c .before .before .before .before .before .before .before .store-specials .ensures)
-    (c .before .before .before .before .wrapping-add4 .ensures)
-    (c .before .before .write-octa2 .ensures)
+    let packed = c .before .before .before .before in
+    let specials = packed .before .before .before .before .before in
+    let globals = specials .before .before .before .before .before in
+    let marker = globals .before .before .before .before .before in
+    let locals = marker .before .before .before in
+    context-stored _ _ (locals .before .before .before .before .before .before .before .pre) _ _ _ _ _ _ _ _ _ _
+    (locals .store-run .ensures) (marker .wrapping-add .ensures) (c .before .before .before .before .before .before .before .before .before .before .before .before .before .before .before .before .before .write-octa .ensures)
+    (globals .wrapping-add2 .ensures) (c .before .before .before .before .before .before .before .before .before .before .before .before .store-run2 .ensures) (specials .wrapping-add3 .ensures) (c .before .before .before .before .before .before .before .store-specials .ensures)
+    (packed .wrapping-add4 .ensures) (c .before .before .write-octa2 .ensures)
 
 pub store-context-spec : {M : Type 1} → statement M
 store-context-spec =

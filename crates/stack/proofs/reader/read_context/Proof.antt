@@ -1,11 +1,23 @@
 -- `read_context` meets its contract: a context that `locate` found lies in the window from its first local up, and any other part is empty.
 use mathlib.Core.Path.{sym, _∙_}
+use Prim.Native.Nat.{_+_, _-_, _*_, _≤_}
 use native.Mathlib.Omega.{arith}
-use Rattle.stack.proofs.Turns.{stands-at}
-use Rattle.stack.proofs.Reading.{handed-rule, handed-part, handed-none, reply-byte, part-ends}
 use borrow.Author.Needs.{needs}
+use lib.ListN.{length}
+use Rattle.model.specs.Parts.{lent}
+use Rattle.stack.proofs.Turns.{Standing, stands-at}
+use Rattle.stack.proofs.Reading.{handed-rule, handed-part, handed-none, reply-byte, part-ends}
 use Rattle.stack.proofs.reader.read_context.Statement.{statement}
 use Rattle.stack.proofs.reader.read_context.Tie as tie
+
+-- the context that was found
+found : (c : tie.Then2) → Standing (lent (c .before .before .before .before .before .args .base) (c .before .before .before .before .before .args .window .now)) (c .before .locate .result)
+found c = stands-at _ _ _ (c .before .locate .ensures) (c .if2 .taken)
+
+-- ends in the window
+ends : (c : tie.After-distance)
+    → c .distance .result + 8 * (c .before .before .locate .result .count + 270 - c .before .before .locate .result .rg) ≤ length (c .before .before .before .before .before .before .args .window .now)
+ends c = omega (arith, c .distance .ensures, part-ends (c .before .before .before .before .before .before .args .base) (c .before .before .before .before .before .before .args .window .now) _ (c .before .before .before .before .before .before .good .0 .0) (found (c .before)))
 
 is-ruled-requires : tie.Need-is-ruled-requires
 is-ruled-requires c κs = search needs
@@ -18,21 +30,21 @@ distance-requires c κs = search needs
 
 add-size : tie.Need-add-size
 add-size c =
-    let s = stands-at _ _ _ (c .before .before .before .locate .ensures) (c .before .before .if2 .taken) in
+    let s = found (c .before .before) in
     omega arith
 
 sub-size : tie.Need-sub-size
 sub-size c =
-    let s = stands-at _ _ _ (c .before .before .before .before .locate .ensures) (c .before .before .before .if2 .taken) in
+    let s = found (c .before .before .before) in
     omega arith
 
 mul-size : tie.Need-mul-size
 mul-size c =
-    let s = stands-at _ _ _ (c .before .before .before .before .locate .ensures) (c .before .before .before .if2 .taken) in
+    let s = found (c .before .before .before) in
     omega arith
 
 add-end : tie.Need-add-end
-add-end c = omega (arith, c .before .before .distance .ensures, part-ends (c .before .before .before .before .before .before .before .before .args .base) (c .before .before .before .before .before .before .before .before .args .window .now) _ (c .before .before .before .before .before .before .before .before .good .0 .0) (stands-at _ _ _ (c .before .before .before .before .locate .ensures) (c .before .before .before .if2 .taken)))
+add-end c = omega (arith, ends (c .before .before))
 
 sub-result : tie.Need-sub-result
 sub-result c = search needs
@@ -41,7 +53,7 @@ part-result-start : tie.Need-part-result-start
 part-result-start c = search needs
 
 part-result-end : tie.Need-part-result-end
-part-result-end c = omega (arith, c .before .before .distance .ensures, part-ends (c .before .before .before .before .before .before .before .before .args .base) (c .before .before .before .before .before .before .before .before .args .window .now) _ (c .before .before .before .before .before .before .before .before .good .0 .0) (stands-at _ _ _ (c .before .before .before .before .locate .ensures) (c .before .before .before .if2 .taken)))
+part-result-end c = omega (arith, ends (c .before .before))
 
 returns : tie.Need-returns
 returns c =
