@@ -6,3 +6,6 @@ pub mod Interrupts
 pub mod Sends
 pub mod Arms
 pub mod Onward
+pub mod SystemArms
+pub mod Groups
+pub mod Judges

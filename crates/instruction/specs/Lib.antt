@@ -3,3 +3,4 @@ pub mod Told
 pub mod Counts
 pub mod Whole
 pub mod Arms
+pub mod Groups

@@ -7,5 +7,6 @@ pub mod contexts;
 pub mod exceptions;
 pub mod registers;
 pub mod step;
+mod system;
 pub mod target;
 pub mod value;

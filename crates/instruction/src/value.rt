@@ -1,6 +1,8 @@
-// The exceptions entry on a state by value.
-ghost use Rattle.model.specs.Step.{exceptionOf};
+// One step and one exception on a state by value.
+ghost use Rattle.model.specs.Step.{stepOf, exceptionOf};
+ghost use Rattle.model.specs.Parts.{lent};
 ghost use Rattle.instruction.specs.Told.{Told};
+ghost use Rattle.instruction.specs.Whole.{Whole};
 use model::Reply;
 use model::State;
 
@@ -40,6 +42,40 @@ pub fn raise_exceptions(
         z,
         y_val,
         z_val,
+    );
+    let next = State {
+        general: general,
+        special: special,
+        pc: pc,
+        halt: halt,
+        marks: marks,
+    };
+    Outcome {
+        reply: reply,
+        state: next,
+    }
+}
+
+pub fn step(state: State, window: &mut [u8], base: u64, op: u8, x: u8, y: u8, z: u8) -> Outcome
+    ensures { λ r. ⌜ Whole (stepOf (lent base (now (window .entry))) state op x y z) (r .reply) (r .state) (lent base (now (window .exit))) ⌝ }
+{
+    let mut general = state.general;
+    let mut special = state.special;
+    let mut pc = state.pc;
+    let mut halt = state.halt;
+    let marks = state.marks;
+    let reply = super::step::step(
+        &mut general,
+        &mut special,
+        &mut pc,
+        &mut halt,
+        marks,
+        window,
+        base,
+        op,
+        x,
+        y,
+        z,
     );
     let next = State {
         general: general,
