@@ -1,2 +1,3 @@
 -- What the library's contracts cite beside the model.
 pub mod Image
+pub mod Entries

@@ -1,0 +1,37 @@
+-- What the exported functions answer, and every byte of image and window afterwards. An image that is not 2,328 bytes long is 1, judged
+-- first, and then nothing changes.
+use Prim.Native.Nat.{ℕ}
+use mathlib.Core.Path.{_≡_}
+use mathlib.Core.Bool.{Bool, cond}
+use mathlib.Core.List.{List}
+use lib.Dec.{eqb}
+use lib.ListN.{length}
+use Rattle.model.specs.Registers.{fresh}
+use Rattle.model.specs.Memory.{Window}
+use Rattle.model.specs.Plan.{Outcome}
+use Rattle.model.specs.Said.{Said}
+use Rattle.model.specs.Step.{stepOf, exceptionOf}
+use Rattle.model.specs.Numbers.{numberOf, replyOf}
+use Rattle.model.specs.declared.State.{State}
+use Rattle.mmix.specs.Image.{imageLength, imageOf, stateOf}
+
+abbrev pub isImage : List ℕ → Bool
+isImage l = eqb (length l) imageLength
+
+pub record Initialized (l : List ℕ) (r : ℕ) (m : List ℕ) : Type 0 where
+  pub reply-is : r ≡ cond (isImage l) 0 1
+  pub image-is : m ≡ cond (isImage l) (imageOf fresh) l
+
+pub record Stepped (l : List ℕ) (w : Window) (op x y z r : ℕ) (m : List ℕ) (v : Window) : Type 0 where
+  pub reply-is : r ≡ cond (isImage l) (numberOf (replyOf (stepOf w (stateOf l) op x y z .reply))) 1
+  pub image-is : m ≡ cond (isImage l) (imageOf (stepOf w (stateOf l) op x y z .state)) l
+  pub window-is : v ≡ cond (isImage l) (stepOf w (stateOf l) op x y z .memory) w
+
+pub record Raised (l : List ℕ) (f op x y z u v r : ℕ) (m : List ℕ) : Type 0 where
+  pub reply-is : r ≡ cond (isImage l) (numberOf (replyOf (exceptionOf (stateOf l) f op x y z u v .reply))) 1
+  pub image-is : m ≡ cond (isImage l) (imageOf (exceptionOf (stateOf l) f op x y z u v .state)) l
+
+pub record SteppedParts (w : Window) (s : State) (op x y z r : ℕ) (t : State) (v : Window) : Type 0 where
+  pub reply-is : r ≡ numberOf (replyOf (stepOf w s op x y z .reply))
+  pub state-is : t ≡ stepOf w s op x y z .state
+  pub window-is : v ≡ stepOf w s op x y z .memory
