@@ -1,41 +1,102 @@
 # Cuqamish. `make` lists the targets.
 
+SHELL = /bin/bash
 CASES ?= 200000
 SEED ?= 2009
+SCRIPT ?= examples/scripts/first.script
+PREFIX ?= /usr/local
 ORACLE = build/oracle/release
 RUST_SRC = $(or $(MMIX_RUST_SRC),../shared/docs/src)
+LIB_DIR = $(or $(MMIX_LIB_DIR),build)
+export MMIX_RUST_SRC := $(abspath $(RUST_SRC))
+export MMIX_LIB_DIR := $(abspath $(LIB_DIR))
 
-.PHONY: help test prove differential mutants clean need-rt oracle
+RATTLE = crates.txt $(shell find crates -name '*.rt' -o -name '*.antt')
+HOST_FLAGS = -O2 -std=c99 -Wall -Wextra -Werror
+
+.PHONY: help test prove lib host host-test oracle oracle-test differential guards mutants speed replay-list clean need-rt need-gcc
 
 help:
-	@echo 'make test                    the gate: compare with the Rust, then prove every crate and try the must-fail edits'
+	@echo 'make test                    the gate: the library, the host, the comparison with the Rust, then all proofs and must-fail edits'
+	@echo 'make lib                     build/libmmix.a and build/mmix.h, proved'
+	@echo 'make host                    build and run examples/relay_host.c'
 	@echo 'make prove                   prove every crate, from what is proved already'
 	@echo 'make differential CASES=n    run n cases on the Rust and beside it; SEED=s for others'
+	@echo 'make guards                  the same with every buffer between guards, and under valgrind'
 	@echo 'make mutants                 put single faults into a copy of the Rust: each must be found'
+	@echo 'make speed                   time the library and the Rust side by side'
 	@echo 'make clean                   remove all that was built'
 
 need-rt:
 	@command -v rt >/dev/null 2>&1 || { \
 	  echo 'rt is not on the PATH: install the Rattle toolchain and put its bin folder on the PATH' >&2; exit 1; }
 
-test: need-rt differential
+need-gcc:
+	@command -v gcc >/dev/null 2>&1 || { echo 'gcc is not on the PATH: install the package gcc' >&2; exit 1; }
+
+test: need-rt host-test oracle-test differential
 	@rt ci
 
 prove: need-rt
 	@rt check
 
-# The harness needs cargo and the Rust that is ported; without them it says so, and fails only where CI is true.
-oracle:
-	@if ! command -v cargo >/dev/null 2>&1; then echo 'no comparison with the Rust: cargo is not on the PATH'; \
-	elif ! [ -f '$(RUST_SRC)/src/mmix.rs' ]; then echo 'no comparison with the Rust: MMIX_RUST_SRC names no folder with src/mmix.rs'; \
-	else MMIX_RUST_SRC='$(abspath $(RUST_SRC))' cargo build --quiet --release --offline --manifest-path oracle/Cargo.toml; exit $$?; fi; \
+# ---- the C library and a host
+
+lib: need-rt build/libmmix.a build/mmix.h
+
+# The log is shown as it goes, crate by crate, and whole where something is not proved.
+build/libmmix.a: $(RATTLE)
+	@mkdir -p build
+	@set -o pipefail; rt staticlib mmix 2>&1 | tee build/lib.log | grep --line-buffered '^rt:' || { cat build/lib.log; exit 1; }
+	@cp target/staticlib/libmmix.a $@
+
+build/mmix.h: include/mmix.h
+	@mkdir -p build
+	@cp $< $@
+
+build/relay_host: examples/relay_host.c build/libmmix.a build/mmix.h
+	@gcc $(HOST_FLAGS) -Ibuild -o $@ $< build/libmmix.a
+
+host: need-rt need-gcc build/relay_host
+	@build/relay_host
+
+# What the host prints is the stored text, and the header serves C++ too.
+host-test: need-rt need-gcc build/relay_host
+	@build/relay_host | diff examples/relay_host.out - && echo 'relay_host: prints what it should'
+	@if command -v g++ >/dev/null 2>&1; then echo '#include "mmix.h"' | g++ -Wall -Wextra -Werror -Iinclude -fsyntax-only -x c++ -; fi
+
+# ---- the Rust beside it
+
+# The harness needs cargo and the Rust that is ported; without them it says so, and fails only where CI is true. With
+# libmmix.a at hand (make lib) it compares the library, else only its own model.
+HARNESS = @if ! command -v cargo >/dev/null 2>&1; then echo 'no comparison with the Rust: cargo is not on the PATH'; \
+	elif ! [ -f '$(MMIX_RUST_SRC)/src/mmix.rs' ]; then echo 'no comparison with the Rust: MMIX_RUST_SRC names no folder with src/mmix.rs'; \
+	else features=; if [ -f '$(MMIX_LIB_DIR)/libmmix.a' ]; then features='--features library,speed/library'; fi; \
+	  cargo $(1) --quiet --release --offline $$features --manifest-path oracle/Cargo.toml; exit $$?; fi; \
 	[ "$${CI:-}" != true ]
 
+oracle: need-rt lib
+	$(call HARNESS,build)
+
+# Bench points, figures of Knuth's texts, tests of the guards.
+oracle-test: oracle
+	$(call HARNESS,test)
+
 differential: oracle
-	@if [ -x $(ORACLE)/differential ]; then MMIX_RUST_SRC='$(abspath $(RUST_SRC))' $(ORACLE)/differential --cases $(CASES) --seed $(SEED); fi
+	@if [ -x $(ORACLE)/differential ]; then $(ORACLE)/differential --cases $(CASES) --seed $(SEED); fi
+
+# No byte outside the buffers is touched: pages that can't be, then valgrind.
+guards: oracle
+	@if [ -x $(ORACLE)/differential ]; then $(ORACLE)/differential --cases $(CASES) --seed $(SEED) --guards pages; fi
+	@if ! command -v valgrind >/dev/null 2>&1; then echo 'no run under valgrind: it is not on the PATH'; [ "$${CI:-}" != true ]; \
+	elif [ -x $(ORACLE)/differential ]; then \
+	  valgrind --error-exitcode=1 $(ORACLE)/differential --cases 20000 --seed $(SEED) --threads 1 --guards heap; fi
 
 mutants: oracle
-	@if [ -x $(ORACLE)/mutants ]; then MMIX_RUST_SRC='$(abspath $(RUST_SRC))' $(ORACLE)/mutants; fi
+	@if [ -x $(ORACLE)/mutants ]; then $(ORACLE)/mutants; fi
+
+speed: oracle
+	@if [ -x $(ORACLE)/speed ]; then $(ORACLE)/speed && $(ORACLE)/stack_use; fi
 
 clean:
 	@rm -rf build target

@@ -1,20 +1,26 @@
-//! One case on both sides. Every entry of the subject that takes the case must give the Rust's reply, state
-//! and window to the last byte.
+//! One case on all sides. Every entry of a subject that takes the case must give the Rust's reply, state and
+//! window to the last byte; the octabytes that the Rust touches must be the needs, which the model tells.
 
-use crate::case::{Call, Case};
+use crate::case::{Call, Case, Instruction};
+use crate::guards::WROTE_OUTSIDE;
+use crate::model;
 use crate::reference::{Answer, Reference};
 use crate::state::{IMAGE_LEN, State};
-use crate::subject::Subject;
+use crate::subject::{Found, Subject};
 
-/// The Rust's answer, or in words how the two sides differ.
-pub fn compare(reference: &mut Reference, subject: &dyn Subject, case: &Case) -> Result<Answer, String> {
+/// The Rust's answer, or in words how a subject differs from it.
+pub fn compare(reference: &mut Reference, subjects: &[Box<dyn Subject>], case: &Case) -> Result<Answer, String> {
     let answer = reference.answer(case)?;
-    match case.call {
-        Call::Initialize => initialize(subject, case, &answer)?,
-        Call::Step(_) => step(subject, case, &answer)?,
-        Call::Exceptions { .. } => exceptions(subject, case, &answer)?,
-        Call::Context { .. } => context(subject, case, &answer)?,
+    for subject in subjects {
+        let same = match case.call {
+            Call::Initialize => initialize(subject.as_ref(), case, &answer),
+            Call::Step(i) => step(subject.as_ref(), case, i, &answer),
+            Call::Exceptions { .. } => exceptions(subject.as_ref(), case, &answer),
+            Call::Context { .. } => context(subject.as_ref(), case, &answer),
+        };
+        same.map_err(|difference| format!("{}: {difference}", subject.name()))?;
     }
+    needs(case, &answer)?;
     Ok(answer)
 }
 
@@ -28,25 +34,23 @@ fn exceptions(subject: &dyn Subject, case: &Case, answer: &Answer) -> Result<(),
     let Call::Exceptions { flags, of, y_val, z_val } = case.call else { unreachable!() };
     let mut image = case.image();
     let reply = subject.exceptions(flags, of, y_val, z_val, &mut image);
-    same_image("mmix_exceptions", case, answer, reply, &image)?;
-    if !answer.touched.is_empty() {
-        return Err(format!("an exception touches {:x?}", answer.touched));
-    }
-    Ok(())
+    same_image("mmix_exceptions", case, answer, reply, &image)
 }
 
+/// Both numbers must be written: the part is empty where the reader refuses.
 fn context(subject: &dyn Subject, case: &Case, answer: &Answer) -> Result<(), String> {
     let Call::Context { address } = case.call else { unreachable!() };
-    let found = subject.context(case.base, address, &case.window);
-    let expected = answer.part;
-    let same = found.reply == expected.reply
-        && found.length == expected.length
-        && (found.length == 0 || found.start == expected.start);
-    if same { Ok(()) } else { Err(format!("mmix_context: {expected:?} against {found:?}")) }
+    let (mut start, mut length) = (usize::MAX, usize::MAX);
+    let found = Found { start: &mut start, length: &mut length };
+    let reply = subject.context(case.base, address, &case.window, found);
+    same_reply("mmix_context", answer, reply)?;
+    if (start, length) == (answer.part.start, answer.part.len()) {
+        return Ok(());
+    }
+    Err(format!("mmix_context: reply {reply}, part {:?} against {length} from {start}", answer.part))
 }
 
-fn step(subject: &dyn Subject, case: &Case, answer: &Answer) -> Result<(), String> {
-    let Call::Step(i) = case.call else { unreachable!() };
+fn step(subject: &dyn Subject, case: &Case, i: Instruction, answer: &Answer) -> Result<(), String> {
     let (mut image, mut window) = (case.image(), case.window.clone());
     let reply = subject.step(case.base, i, &mut image, &mut window);
     same_image("mmix_step", case, answer, reply, &image)?;
@@ -61,33 +65,32 @@ fn step(subject: &dyn Subject, case: &Case, answer: &Answer) -> Result<(), Strin
     same_window("mmix_step_lent", answer, &window)?;
 
     let (mut state, mut window) = (case.state.clone(), case.window.clone());
-    let reply = subject.step_parts(case.base, i, &mut state, &mut window);
+    let reply = subject.step_parts(case.base, i, (&mut state).into(), &mut window);
     same_state("mmix_step_parts", answer, reply, &state)?;
-    same_window("mmix_step_parts", answer, &window)?;
-
-    match subject.needs(case.base, i, &case.state, &case.window) {
-        Some(needs) => same_needs(case, answer, needs),
-        None => Ok(()),
-    }
+    same_window("mmix_step_parts", answer, &window)
 }
 
 fn same_image(entry: &str, case: &Case, answer: &Answer, reply: u64, image: &[u8]) -> Result<(), String> {
     if case.image_len == IMAGE_LEN {
         return same_state(entry, answer, reply, &State::of_image(image));
     }
-    if reply != answer.reply {
-        return Err(format!("{entry}: reply {} against {reply}", answer.reply));
-    }
+    same_reply(entry, answer, reply)?;
     if image != case.image() {
         return Err(format!("{entry}: an image of a wrong length is changed"));
     }
     Ok(())
 }
 
-fn same_state(entry: &str, answer: &Answer, reply: u64, state: &State) -> Result<(), String> {
-    if reply != answer.reply {
-        return Err(format!("{entry}: reply {} against {reply}", answer.reply));
+fn same_reply(entry: &str, answer: &Answer, reply: u64) -> Result<(), String> {
+    match reply {
+        WROTE_OUTSIDE => Err(format!("{entry}: a byte outside its buffers is written")),
+        _ if reply == answer.reply => Ok(()),
+        _ => Err(format!("{entry}: reply {} against {reply}", answer.reply)),
     }
+}
+
+fn same_state(entry: &str, answer: &Answer, reply: u64, state: &State) -> Result<(), String> {
+    same_reply(entry, answer, reply)?;
     match answer.state.difference(state) {
         Some(difference) => Err(format!("{entry}: reply {reply}, {difference}")),
         None => Ok(()),
@@ -105,7 +108,12 @@ fn same_window(entry: &str, answer: &Answer, window: &[u8]) -> Result<(), String
 
 /// Where all is inside, the needs are what the Rust touches. Where 6 is given, what was touched inside may go
 /// on with what was not there, so the needs are among the touched and one of them is missing.
-fn same_needs(case: &Case, answer: &Answer, mut needs: Vec<u64>) -> Result<(), String> {
+fn needs(case: &Case, answer: &Answer) -> Result<(), String> {
+    let mut needs = match case.call {
+        Call::Step(i) if case.image_len == IMAGE_LEN => model::needs(case.base, i, &case.state, &case.window),
+        Call::Context { .. } => return Ok(()),
+        _ => Vec::new(),
+    };
     needs.sort_unstable();
     let outside = |a: &u64| a.wrapping_sub(case.base) >= case.window.len() as u64;
     let fits = if answer.reply == 6 {

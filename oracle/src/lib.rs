@@ -3,12 +3,14 @@
 //! - `state`, `opcodes`, `case`: a machine state with its image of bytes; opcodes by name; one call with all that it is given, and its
 //!   one-line text.
 //! - `reference`: the Rust's answer to a case, with the octabytes that it touched.
-//! - `subject`: the six functions that are compared; `model` (01 as a program) and `library` (C) offer them.
-//! - `compare`: one case on both sides. `shrink`: a smaller case that still differs.
+//! - `subject`: the six functions that are compared; `model` (01 as a program) and `library` (C) offer them, and
+//!   `guards` lends each of their buffers in a guarded place.
+//! - `compare`: one case on all sides. `shrink`: a smaller case that still differs.
 //! - `random`, `states`, `windows`, `rounds`, `sweep`: the cases. `tally`, `situations`: the counts.
 
 pub mod case;
 pub mod compare;
+pub mod guards;
 #[cfg(feature = "library")]
 pub mod library;
 pub mod model;

@@ -1,11 +1,10 @@
 //! The proved library through its C functions (include/mmix.h).
 
-use std::ffi::c_void;
 use std::ptr;
 
 use crate::case::Instruction;
 use crate::state::State;
-use crate::subject::{Part, Subject};
+use crate::subject::{Found, Parts, Subject};
 
 unsafe extern "C" {
     fn mmix_initialize(image: *mut u8, image_len: usize) -> u64;
@@ -45,7 +44,7 @@ unsafe extern "C" {
         x: u8,
         y: u8,
         z: u8,
-        state: *mut c_void,
+        state: *mut State,
         window: *mut u8,
         window_len: usize,
     ) -> u64;
@@ -55,8 +54,8 @@ unsafe extern "C" {
         x: u8,
         y: u8,
         z: u8,
-        general: *mut u64,
-        special: *mut u64,
+        general: *mut [u64; 256],
+        special: *mut [u64; 32],
         pc: *mut u64,
         halt: *mut u64,
         marks: u64,
@@ -65,47 +64,56 @@ unsafe extern "C" {
     ) -> u64;
 }
 
-pub struct Library;
+pub struct Library {
+    /// An empty slice is lent as null, else as where it stands.
+    pub empty_is_null: bool,
+}
 
-/// An empty slice is lent as null.
-fn lent(bytes: &mut [u8]) -> *mut u8 {
-    if bytes.is_empty() { ptr::null_mut() } else { bytes.as_mut_ptr() }
+impl Library {
+    fn lent(&self, bytes: &[u8]) -> *const u8 {
+        if bytes.is_empty() && self.empty_is_null { ptr::null() } else { bytes.as_ptr() }
+    }
+
+    fn lent_mut(&self, bytes: &mut [u8]) -> *mut u8 {
+        if bytes.is_empty() && self.empty_is_null { ptr::null_mut() } else { bytes.as_mut_ptr() }
+    }
 }
 
 // SAFETY, for each call below: every pointer is to memory of the length given beside it, or of the size that
 // the header fixes, lent by a reference that lives through the call; no two of them overlap.
 impl Subject for Library {
+    fn name(&self) -> &'static str {
+        "library"
+    }
+
     fn initialize(&self, image: &mut [u8]) -> u64 {
-        unsafe { mmix_initialize(lent(image), image.len()) }
+        unsafe { mmix_initialize(self.lent_mut(image), image.len()) }
     }
 
     fn step(&self, base: u64, i: Instruction, image: &mut [u8], window: &mut [u8]) -> u64 {
         let Instruction { op, x, y, z } = i;
-        unsafe { mmix_step(base, op, x, y, z, lent(image), image.len(), lent(window), window.len()) }
+        let (bytes, room) = (self.lent_mut(image), self.lent_mut(window));
+        unsafe { mmix_step(base, op, x, y, z, bytes, image.len(), room, window.len()) }
     }
 
     fn exceptions(&self, flags: u8, of: Instruction, y_val: u64, z_val: u64, image: &mut [u8]) -> u64 {
         let Instruction { op, x, y, z } = of;
-        unsafe { mmix_exceptions(flags, op, x, y, z, y_val, z_val, lent(image), image.len()) }
+        unsafe { mmix_exceptions(flags, op, x, y, z, y_val, z_val, self.lent_mut(image), image.len()) }
     }
 
-    fn context(&self, base: u64, address: u64, window: &[u8]) -> Part {
-        let bytes = if window.is_empty() { ptr::null() } else { window.as_ptr() };
-        let (mut start, mut length) = (0, 0);
-        let reply = unsafe { mmix_context(base, address, bytes, window.len(), &mut start, &mut length) };
-        Part { reply, start, length }
+    fn context(&self, base: u64, address: u64, window: &[u8], found: Found) -> u64 {
+        unsafe { mmix_context(base, address, self.lent(window), window.len(), found.start, found.length) }
     }
 
     fn step_lent(&self, base: u64, i: Instruction, state: &mut State, window: &mut [u8]) -> u64 {
         let Instruction { op, x, y, z } = i;
-        let state = ptr::from_mut(state).cast();
-        unsafe { mmix_step_lent(base, op, x, y, z, state, lent(window), window.len()) }
+        unsafe { mmix_step_lent(base, op, x, y, z, state, self.lent_mut(window), window.len()) }
     }
 
-    fn step_parts(&self, base: u64, i: Instruction, state: &mut State, window: &mut [u8]) -> u64 {
+    fn step_parts(&self, base: u64, i: Instruction, parts: Parts, window: &mut [u8]) -> u64 {
         let Instruction { op, x, y, z } = i;
-        let State { general, special, pc, halt, marks } = state;
-        let (general, special) = (general.as_mut_ptr(), special.as_mut_ptr());
-        unsafe { mmix_step_parts(base, op, x, y, z, general, special, pc, halt, *marks, lent(window), window.len()) }
+        let Parts { general, special, pc, halt, marks } = parts;
+        let room = self.lent_mut(window);
+        unsafe { mmix_step_parts(base, op, x, y, z, general, special, pc, halt, marks, room, window.len()) }
     }
 }

@@ -4,6 +4,7 @@
 //! diagnostic that the Rust sends.
 
 use std::cell::RefCell;
+use std::ops::Range;
 use std::panic::{self, AssertUnwindSafe};
 use std::rc::Rc;
 use std::sync::OnceLock;
@@ -15,7 +16,6 @@ use taken::mmixal::Opcode;
 use crate::case::{Call, Case, Instruction};
 use crate::opcodes::{GET, RESUME, TRAP};
 use crate::state::{IMAGE_LEN, RG, RL, RO, State, WINDOW_MAX, octabyte};
-use crate::subject::Part;
 
 /// What the Rust leaves. The window is as before where the reply is 1 to 6.
 #[derive(Clone)]
@@ -25,8 +25,8 @@ pub struct Answer {
     pub window: Vec<u8>,
     /// The octabytes touched, in ascending order, each once; for a reply of 1 to 5 none.
     pub touched: Vec<u64>,
-    /// Of a context that was found: start and length of its part.
-    pub part: Part,
+    /// The part of the window that a context has; empty where none was found.
+    pub part: Range<usize>,
 }
 
 #[derive(Clone, Copy, PartialEq, Eq, Debug)]
@@ -108,13 +108,7 @@ impl Reference {
     }
 
     fn unchanged(&self, case: &Case, reply: u64) -> Answer {
-        Answer {
-            reply,
-            state: case.state.clone(),
-            window: case.window.clone(),
-            touched: Vec::new(),
-            part: Part { reply, start: 0, length: 0 },
-        }
+        Answer { reply, state: case.state.clone(), window: case.window.clone(), touched: Vec::new(), part: 0..0 }
     }
 
     /// Make the machine's memory hold this window and nothing else.
@@ -180,15 +174,12 @@ impl Reference {
     }
 
     /// The part of the window that a context takes, by the state that UNSAVE made of it.
-    fn part(&self, case: &Case, reply: u64, after: &State) -> Part {
-        match case.call {
-            Call::Context { .. } if reply == 0 => {
-                let start = (after.special[RO] & !7).wrapping_sub(case.base) as usize;
-                let length = 8 * (after.special[RL] + 270 - after.special[RG]) as usize;
-                Part { reply, start, length }
-            }
-            _ => Part { reply, start: 0, length: 0 },
+    fn part(&self, case: &Case, reply: u64, after: &State) -> Range<usize> {
+        if reply != 0 || !matches!(case.call, Call::Context { .. }) {
+            return 0..0;
         }
+        let start = (after.special[RO] & !7).wrapping_sub(case.base) as usize;
+        start..start + 8 * (after.special[RL] + 270 - after.special[RG]) as usize
     }
 }
 

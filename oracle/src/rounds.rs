@@ -259,7 +259,7 @@ fn put_value(random: &mut Random, x: usize, rg: u64, rl: u64) -> u64 {
             1 => random.pick(&[rl.saturating_sub(1), rl, rl + 1]),
             _ => random.range(0, rg),
         },
-        RA => match random.below(3) {
+        RA => match random.below(2) {
             0 => random.pick(&[0, RA_MAX, RA_MAX + 1, RA_MAX + 2, 1 << 32, u64::MAX]),
             _ => random.below(RA_MAX + 1),
         },

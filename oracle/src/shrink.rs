@@ -7,7 +7,7 @@ use crate::state::{RG, RO, RS, STACK_START};
 use crate::subject::Subject;
 
 /// Shrink a case that differs. At most `PASSES` times over all its parts.
-pub fn shrink(reference: &mut Reference, subject: &dyn Subject, case: &Case) -> Case {
+pub fn shrink(reference: &mut Reference, subjects: &[Box<dyn Subject>], case: &Case) -> Case {
     const PASSES: usize = 4;
     let mut small = case.clone();
     for _ in 0..PASSES {
@@ -15,7 +15,7 @@ pub fn shrink(reference: &mut Reference, subject: &dyn Subject, case: &Case) -> 
         for change in changes(&small) {
             let mut next = small.clone();
             change(&mut next);
-            if next != small && compare(reference, subject, &next).is_err() {
+            if next != small && compare(reference, subjects, &next).is_err() {
                 small = next;
             }
         }

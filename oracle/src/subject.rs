@@ -2,36 +2,62 @@
 //! 1 to 20 are 01's numbers.
 
 use crate::case::Instruction;
+use crate::guards::{Guard, Guarded};
+#[cfg(feature = "library")]
+use crate::library::Library;
+use crate::model::Model;
 use crate::state::State;
 
-/// What the context reader found: a part of the window, empty where it refuses.
-#[derive(Clone, Copy, PartialEq, Eq, Debug)]
-pub struct Part {
-    pub reply: u64,
-    pub start: usize,
-    pub length: usize,
+/// A state in parts; the marks are only read.
+pub struct Parts<'a> {
+    pub general: &'a mut [u64; 256],
+    pub special: &'a mut [u64; 32],
+    pub pc: &'a mut u64,
+    pub halt: &'a mut u64,
+    pub marks: u64,
 }
 
-pub trait Subject: Sync {
-    fn initialize(&self, image: &mut [u8]) -> u64;
-    fn step(&self, base: u64, i: Instruction, image: &mut [u8], window: &mut [u8]) -> u64;
-    fn exceptions(&self, flags: u8, of: Instruction, y_val: u64, z_val: u64, image: &mut [u8]) -> u64;
-    fn context(&self, base: u64, address: u64, window: &[u8]) -> Part;
-    fn step_lent(&self, base: u64, i: Instruction, state: &mut State, window: &mut [u8]) -> u64;
-
-    /// The state in parts; the marks are only read.
-    fn step_parts(&self, base: u64, i: Instruction, state: &mut State, window: &mut [u8]) -> u64;
-
-    /// The octabytes that a step needs, where the subject can tell: in any order, each once.
-    fn needs(&self, _base: u64, _i: Instruction, _state: &State, _window: &[u8]) -> Option<Vec<u64>> {
-        None
+impl<'a> From<&'a mut State> for Parts<'a> {
+    fn from(state: &'a mut State) -> Self {
+        let State { general, special, pc, halt, marks } = state;
+        Self { general, special, pc, halt, marks: *marks }
     }
 }
 
-/// The subject of this build: the library where it is linked, else the model.
-pub fn chosen() -> &'static dyn Subject {
+/// Where the context reader puts the part of the window that it found.
+pub struct Found<'a> {
+    pub start: &'a mut usize,
+    pub length: &'a mut usize,
+}
+
+pub trait Subject {
+    fn name(&self) -> &'static str;
+    fn initialize(&self, image: &mut [u8]) -> u64;
+    fn step(&self, base: u64, i: Instruction, image: &mut [u8], window: &mut [u8]) -> u64;
+    fn exceptions(&self, flags: u8, of: Instruction, y_val: u64, z_val: u64, image: &mut [u8]) -> u64;
+    fn context(&self, base: u64, address: u64, window: &[u8], found: Found) -> u64;
+    fn step_lent(&self, base: u64, i: Instruction, state: &mut State, window: &mut [u8]) -> u64;
+    fn step_parts(&self, base: u64, i: Instruction, parts: Parts, window: &mut [u8]) -> u64;
+}
+
+/// The subject that counts in this build: the library where it is linked, else the model.
+pub fn chosen() -> impl Subject {
     #[cfg(feature = "library")]
-    return &crate::library::Library;
+    return Library { empty_is_null: true };
     #[cfg(not(feature = "library"))]
-    &crate::model::Model
+    Model
+}
+
+/// All subjects of this build: the chosen one first, and the model.
+pub fn subjects() -> Vec<Box<dyn Subject>> {
+    if cfg!(feature = "library") { vec![Box::new(chosen()), Box::new(Model)] } else { vec![Box::new(Model)] }
+}
+
+/// The chosen one with guarded buffers. Between pages, an empty one is lent as an address that can't be touched.
+pub fn guarded(guard: Guard) -> Box<dyn Subject> {
+    #[cfg(feature = "library")]
+    let chosen = Library { empty_is_null: guard != Guard::Pages };
+    #[cfg(not(feature = "library"))]
+    let chosen = Model;
+    Box::new(Guarded::new(Box::new(chosen), guard))
 }

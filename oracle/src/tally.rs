@@ -1,10 +1,37 @@
 //! How often each opcode met each reply, and how often each situation was met.
 
 use crate::case::{Call, Case};
-use crate::reference::{Answer, has_arm};
+use crate::opcodes::*;
+use crate::reference::Answer;
 use crate::situations::{self, SITUATIONS};
 
 const REPLIES: usize = 21;
+/// Met less often than this, a pair of opcode and reply, an opcode that is done, or a situation is met too seldom.
+const PAIR_LEAST: u64 = 100;
+const DONE_LEAST: u64 = 500;
+const SITUATION_LEAST: u64 = 50;
+
+/// The replies that each opcode can get, 1 and 2 apart, which each can.
+fn replies(op: u8) -> &'static [usize] {
+    match op {
+        BN..=PBEVB | GO | GOI | JMP | JMPB | GETA | GETAB | SWYM => &[0],
+        PUSHGO | PUSHGOI | PUSHJ | PUSHJB => &[0, 6],
+        TRAP => &[4, 20],
+        PUT => &[0, 7, 8, 9, 10, 11],
+        PUTI => &[0, 7, 8, 9, 10],
+        POP => &[0, 6, 12],
+        SAVE => &[0, 6, 13],
+        UNSAVE => &[0, 6, 14, 15, 16],
+        SYNC => &[0, 17, 18],
+        GET => &[0, 5],
+        TRIP => &[0, 19],
+        _ => &[3],
+    }
+}
+
+const EXCEPTION_REPLIES: [usize; 3] = [0, 1, 19];
+const CONTEXT_REPLIES: [usize; 6] = [0, 2, 6, 14, 15, 16];
+const INITIALIZE_REPLIES: [usize; 2] = [0, 1];
 
 #[derive(Clone)]
 pub struct Tally {
@@ -51,33 +78,49 @@ impl Tally {
         self.rows().flatten().sum()
     }
 
+    /// The rows by name, each with the replies that it can have.
+    fn named(&self) -> Vec<(String, &[u64; REPLIES], Vec<usize>)> {
+        let step = |(op, row)| (format!("{op:02x}"), row, [&[1, 2], replies(op as u8)].concat());
+        let mut rows: Vec<_> = self.steps.iter().enumerate().map(step).collect();
+        rows.push(("exceptions".to_string(), &self.exceptions, EXCEPTION_REPLIES.to_vec()));
+        rows.push(("context".to_string(), &self.contexts, CONTEXT_REPLIES.to_vec()));
+        rows.push(("initialize".to_string(), &self.initialized, INITIALIZE_REPLIES.to_vec()));
+        rows
+    }
+
     /// One line an opcode, `reply:count`; the situations; the pairs met least.
     pub fn print(&self) {
-        let line = |name: &str, row: &[u64; REPLIES]| {
-            let met: Vec<String> =
-                row.iter().enumerate().filter(|(_, n)| **n > 0).map(|(r, n)| format!("{r}:{n}")).collect();
-            println!("{name:<12} {}", met.join(" "));
-        };
-        for (op, row) in self.steps.iter().enumerate() {
-            line(&format!("{op:02x}"), row);
+        let mut pairs: Vec<(u64, String)> = Vec::new();
+        for (name, row, _) in self.named() {
+            let met = row.iter().enumerate().filter(|(_, n)| **n > 0);
+            let counts: Vec<String> = met.clone().map(|(r, n)| format!("{r}:{n}")).collect();
+            println!("{name:<12} {}", counts.join(" "));
+            pairs.extend(met.map(|(r, n)| (*n, format!("{name}/{r}:{n}"))));
         }
-        line("exceptions", &self.exceptions);
-        line("context", &self.contexts);
-        line("initialize", &self.initialized);
-
         for ((name, _), n) in SITUATIONS.iter().zip(&self.situations) {
             println!("{n:>9} {name}");
         }
-        let mut pairs: Vec<(u64, usize, usize)> = Vec::new();
-        for (op, row) in self.steps.iter().enumerate() {
-            pairs.extend(row.iter().enumerate().filter(|(_, n)| **n > 0).map(|(r, n)| (*n, op, r)));
-        }
         pairs.sort_unstable();
-        let least: Vec<String> = pairs.iter().take(8).map(|(n, op, r)| format!("{op:02x}/{r}:{n}")).collect();
+        let least: Vec<&str> = pairs.iter().take(8).map(|(_, text)| text.as_str()).collect();
         println!("{} pairs of opcode and reply; met least: {}", pairs.len(), least.join(" "));
-        let done = (0..256).filter(|op| *op != 0 && has_arm(*op as u8)).map(|op| (self.steps[op][0], op)).min();
-        if let Some((n, op)) = done {
-            println!("done least, of opcodes with an arm: {op:02x} {n} times");
+    }
+
+    /// What was met too seldom, or should not have been met at all.
+    pub fn seldom(&self) -> Vec<String> {
+        let mut list = Vec::new();
+        for (name, row, can) in self.named() {
+            for (reply, n) in row.iter().enumerate() {
+                let least = if reply == 0 { DONE_LEAST } else { PAIR_LEAST };
+                match can.contains(&reply) {
+                    true if *n < least => list.push(format!("{name} reply {reply}, {n} times")),
+                    false if *n > 0 => list.push(format!("{name} reply {reply}, which it can't have, {n} times")),
+                    _ => {}
+                }
+            }
         }
+        for ((name, _), n) in SITUATIONS.iter().zip(&self.situations).filter(|(_, n)| **n < SITUATION_LEAST) {
+            list.push(format!("{name}, {n} times"));
+        }
+        list
     }
 }

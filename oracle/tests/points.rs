@@ -1,37 +1,14 @@
-//! The bench points P1 to P14 of document 01, on the subject and through the comparison with the Rust.
+//! The bench points P1 to P14 of document 01, on the Rust and on the subjects.
 
+mod common;
+
+use common::{run, special, start, step};
 use oracle::case::{Call, Case, Instruction};
 use oracle::compare::compare;
 use oracle::opcodes::{BNB, POP, PUSHJ, PUT, SAVE};
-use oracle::reference::{Answer, Reference};
+use oracle::reference::Reference;
 use oracle::state::*;
-use oracle::subject::chosen;
-
-/// The fresh state with all vectors loaded, and 2,048 bytes at the stack start.
-fn start() -> Case {
-    let mut image = vec![0; IMAGE_LEN];
-    assert_eq!(chosen().initialize(&mut image), 0);
-    let mut state = State::of_image(&image);
-    state.marks = MARKS_MAX;
-    Case::new(Call::Initialize, state, STACK_START, vec![0; 2048])
-}
-
-/// Do one step on both sides; the case goes on from what it left.
-fn step(case: &mut Case, op: u8, x: u8, y: u8, z: u8) -> Answer {
-    case.call = Call::Step(Instruction { op, x, y, z });
-    run(case)
-}
-
-fn run(case: &mut Case) -> Answer {
-    let answer = compare(&mut Reference::new(), chosen(), case).expect("the two sides agree");
-    case.state = answer.state.clone();
-    case.window = answer.window.clone();
-    answer
-}
-
-fn special(case: &Case, register: usize) -> u64 {
-    case.state.special[register]
-}
+use oracle::subject::subjects;
 
 /// `(set (reg 0) 7)`, `(set (reg 1) 9)`, PUSHJ $1.
 fn called() -> Case {
@@ -143,7 +120,7 @@ fn lines_read_back() {
     for round in 0..20 {
         let mut run = |case: &Case| {
             assert_eq!(&oracle::case::parse(&case.to_string()).expect("a line"), case);
-            compare(&mut Reference::new(), chosen(), case).ok()
+            compare(&mut Reference::new(), &subjects(), case).ok()
         };
         oracle::rounds::round(5, round, &mut run).expect("the two sides agree");
     }

@@ -16,13 +16,13 @@ use Rattle.model.specs.declared.Reply.{Reply}
 use Rattle.instruction.specs.Told.{Told}
 use Rattle.instruction.specs.Whole.{Whole}
 use Rattle.mmix.specs.Image.{imageLength, imageOf, stateOf, decoded, encoded}
-use Rattle.mmix.specs.Entries.{isImage, Initialized, Stepped, SteppedParts, Raised}
+use Rattle.mmix.specs.Entries.{isImage, Initialized, Stepped, SteppedState, Raised}
 
 -- ---- on the parts of a state
 
-pub stepped-parts : (w : Window) (s : State) (op x y z : ℕ) (q : Reply) (t : State) (v : Window) → Whole (stepOf w s op x y z) q t v
-    → (r : ℕ) → r ≡ numberOf q → SteppedParts w s op x y z r t v
-stepped-parts w s op x y z q t v g r e = record { reply-is = e ∙ ap numberOf (g .reply-is); state-is = g .state-is; window-is = g .window-is }
+pub stepped-state : (w : Window) (s : State) (op x y z : ℕ) (q : Reply) (t : State) (v : Window) → Whole (stepOf w s op x y z) q t v
+    → (r : ℕ) → r ≡ numberOf q → SteppedState w s op x y z r t v
+stepped-state w s op x y z q t v g r e = record { reply-is = e ∙ ap numberOf (g .reply-is); state-is = g .state-is; window-is = g .window-is }
 
 -- ---- on an image of another length
 
@@ -57,12 +57,12 @@ module _ (l : List ℕ) (n : length l ≡ imageLength) where
   initialized s e m k = record { reply-is = image _ _; image-is = k ∙ encoded-is s ∙ ap imageOf e ∙ image _ _ }
 
   pub stepped : (w : Window) (op x y z : ℕ) (s : State) → s ≡ decoded l
-      → (q : Reply) (t : State) (v : Window) → Whole (stepOf w s op x y z) q t v
-      → (m : List ℕ) → m ≡ encoded l t → (r : ℕ) → r ≡ numberOf q → Stepped l w op x y z r m v
-  stepped w op x y z s e q t v g m k r f =
+      → (r : ℕ) (t : State) (v : Window) → SteppedState w s op x y z r t v
+      → (m : List ℕ) → m ≡ encoded l t → Stepped l w op x y z r m v
+  stepped w op x y z s e r t v g m k =
       let d : stepOf w s op x y z ≡ stepOf w (stateOf l) op x y z = ap (λ (a : State). stepOf w a op x y z) (e ∙ decoded-is) in
       record {
-        reply-is = f ∙ ap numberOf (g .reply-is) ∙ ap (λ (o : Outcome State Window). numberOf (replyOf (o .reply))) d ∙ image _ _;
+        reply-is = g .reply-is ∙ ap (λ (o : Outcome State Window). numberOf (replyOf (o .reply))) d ∙ image _ _;
         image-is = k ∙ encoded-is t ∙ ap imageOf (g .state-is) ∙ ap (λ (o : Outcome State Window). imageOf (o .state)) d ∙ image _ _;
         window-is = g .window-is ∙ ap (λ (o : Outcome State Window). o .memory) d ∙ image _ _;
       }

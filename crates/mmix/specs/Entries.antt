@@ -11,6 +11,7 @@ use Rattle.model.specs.Memory.{Window}
 use Rattle.model.specs.Plan.{Outcome}
 use Rattle.model.specs.Said.{Said}
 use Rattle.model.specs.Step.{stepOf, exceptionOf}
+use Rattle.model.specs.Reader.{Part, readContext}
 use Rattle.model.specs.Numbers.{numberOf, replyOf}
 use Rattle.model.specs.declared.State.{State}
 use Rattle.mmix.specs.Image.{imageLength, imageOf, stateOf}
@@ -31,7 +32,13 @@ pub record Raised (l : List ℕ) (f op x y z u v r : ℕ) (m : List ℕ) : Type 
   pub reply-is : r ≡ cond (isImage l) (numberOf (replyOf (exceptionOf (stateOf l) f op x y z u v .reply))) 1
   pub image-is : m ≡ cond (isImage l) (imageOf (exceptionOf (stateOf l) f op x y z u v .state)) l
 
-pub record SteppedParts (w : Window) (s : State) (op x y z r : ℕ) (t : State) (v : Window) : Type 0 where
+-- a state lent whole or in parts
+pub record SteppedState (w : Window) (s : State) (op x y z r : ℕ) (t : State) (v : Window) : Type 0 where
   pub reply-is : r ≡ numberOf (replyOf (stepOf w s op x y z .reply))
   pub state-is : t ≡ stepOf w s op x y z .state
   pub window-is : v ≡ stepOf w s op x y z .memory
+
+pub record ContextAt (w : Window) (p r start length : ℕ) : Type 0 where
+  pub reply-is : r ≡ readContext w p .reply
+  pub start-is : start ≡ readContext w p .state .start
+  pub length-is : length ≡ readContext w p .state .size

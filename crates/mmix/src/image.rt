@@ -1,13 +1,21 @@
 // The state image: 291 octabytes, high byte first.
 ghost use mathlib.Core.Path.{_≡_};
-ghost use Prim.Native.Nat.{_+_, _*_, _≤_, _<_};
+ghost use Prim.Native.Nat.{ℕ, _+_, _*_, _≤_, _<_};
 ghost use lib.ListN.{length, getD};
 ghost use Rattle.model.specs.Octa.{part, written, valueOf, bytesOf};
+ghost use Rattle.model.specs.Parts.{made};
 ghost use Rattle.mmix.specs.Image.{flat, octas, decoded, encoded};
 use model::State;
 
 /// Bytes of an image.
 pub const IMAGE_LEN: usize = 2328;
+
+/// What a state has beside its registers.
+pub struct Rest {
+    pub pc: u64,
+    pub halt: u64,
+    pub marks: u64,
+}
 
 fn wide(b: u8) -> u64
     ensures { λ r. ⌜ r ≡ b ⌝ }
@@ -80,6 +88,30 @@ fn store_all(image: &mut [u8], at: usize, values: &[u64])
     }
 }
 
+// The registers of an image go to the arrays; the rest is the answer.
+pub(crate) fn load_state(image: &[u8], general: &mut [u64; 256], special: &mut [u64; 32]) -> Rest
+    requires { ⌜ length (now image) ≡ 2328 ⌝ }
+    ensures { λ r. ⌜ made (now (general .exit)) (now (special .exit)) (r .pc) (r .halt) (r .marks) ≡ decoded (now (image .entry)) ⌝ }
+{
+    load_all(image, 0, general);
+    load_all(image, 2048, special);
+    let pc = load(image, 2304);
+    let halt = load(image, 2312);
+    let marks = load(image, 2320);
+    Rest { pc, halt, marks }
+}
+
+// The image becomes that of a state in parts.
+pub(crate) fn store_state(image: &mut [u8], general: &[u64; 256], special: &[u64; 32], rest: Rest)
+    requires { ⌜ length (now image) ≡ 2328 ⌝ }
+    ensures { λ _. ⌜ now (image .exit) ≡ encoded (now (image .entry)) (made (now (general .entry)) (now (special .entry)) (rest .pc) (rest .halt) (rest .marks)) ⌝ }
+{
+    store_all(&mut *image, 0, general);
+    store_all(&mut *image, 2048, special);
+    let numbers = [rest.pc, rest.halt, rest.marks];
+    store_all(&mut *image, 2304, &numbers);
+}
+
 /// The state of an image; of one that is not 2,328 bytes long, the fresh state.
 pub fn decode(image: &[u8]) -> State
     ensures { λ r. ⌜ r ≡ decoded (now (image .entry)) ⌝ }
@@ -88,18 +120,14 @@ pub fn decode(image: &[u8]) -> State
         return State::initialize();
     }
     let mut general = [0u64; 256];
-    load_all(image, 0, &mut general);
     let mut special = [0u64; 32];
-    load_all(image, 2048, &mut special);
-    let pc = load(image, 2304);
-    let halt = load(image, 2312);
-    let marks = load(image, 2320);
+    let rest = load_state(image, &mut general, &mut special);
     State {
-        general,
-        special,
-        pc,
-        halt,
-        marks,
+        general: general,
+        special: special,
+        pc: rest.pc,
+        halt: rest.halt,
+        marks: rest.marks,
     }
 }
 
@@ -110,8 +138,12 @@ pub fn encode(image: &mut [u8], state: State)
     if image.len() != IMAGE_LEN {
         return;
     }
-    store_all(&mut *image, 0, &state.general);
-    store_all(&mut *image, 2048, &state.special);
-    let rest = [state.pc, state.halt, state.marks];
-    store_all(&mut *image, 2304, &rest);
+    let general = state.general;
+    let special = state.special;
+    let rest = Rest {
+        pc: state.pc,
+        halt: state.halt,
+        marks: state.marks,
+    };
+    store_state(&mut *image, &general, &special, rest);
 }

@@ -4,11 +4,19 @@ ghost use mathlib.Core.Path.{_≡_};
 ghost use Prim.Native.Nat.{ℕ};
 ghost use Rattle.model.specs.Numbers.{numberOf};
 ghost use Rattle.model.specs.Parts.{made, lent};
-ghost use Rattle.mmix.specs.Entries.{Initialized, Stepped, SteppedParts, Raised};
+ghost use Rattle.mmix.specs.Entries.{Initialized, Stepped, SteppedState, Raised, ContextAt};
+use image::IMAGE_LEN;
+use image::Rest;
 use model::Reply;
 use model::State;
 
 pub mod image;
+
+/// A reply's number, and the state that it leaves.
+pub struct Answer {
+    pub reply: u64,
+    pub state: State,
+}
 
 /// The number of a reply.
 pub fn number_of(reply: Reply) -> u64
@@ -44,7 +52,7 @@ pub fn number_of(reply: Reply) -> u64
 pub extern "C" fn mmix_initialize(image: &mut [u8]) -> u64
     ensures { λ r. ⌜ Initialized (now (image .entry)) r (now (image .exit)) ⌝ }
 {
-    if image.len() != 2328 {
+    if image.len() != IMAGE_LEN {
         return 1;
     }
     let fresh = State::initialize();
@@ -65,15 +73,83 @@ pub extern "C" fn mmix_step(
 ) -> u64
     ensures { λ r. ⌜ Stepped (now (image .entry)) (lent base (now (window .entry))) op x y z r (now (image .exit)) (lent base (now (window .exit))) ⌝ }
 {
-    if image.len() != 2328 {
+    if image.len() != IMAGE_LEN {
         return 1;
     }
-    let before = image::decode(&*image);
-    let out = instruction::value::step(before, &mut *window, base, op, x, y, z);
-    let reply = out.reply;
-    let after = out.state;
-    image::encode(&mut *image, after);
-    number_of(reply)
+    let mut general = [0u64; 256];
+    let mut special = [0u64; 32];
+    let rest = image::load_state(&*image, &mut general, &mut special);
+    let mut pc = rest.pc;
+    let mut halt = rest.halt;
+    let marks = rest.marks;
+    let reply = mmix_step_parts(
+        base,
+        op,
+        x,
+        y,
+        z,
+        &mut general,
+        &mut special,
+        &mut pc,
+        &mut halt,
+        marks,
+        window,
+    );
+    image::store_state(&mut *image, &general, &special, Rest { pc, halt, marks });
+    reply
+}
+
+/// One step on a state by value.
+pub fn step(base: u64, op: u8, x: u8, y: u8, z: u8, state: State, window: &mut [u8]) -> Answer
+    ensures { λ r. ⌜ SteppedState (lent base (now (window .entry))) state op x y z (r .reply) (r .state) (lent base (now (window .exit))) ⌝ }
+{
+    let mut general = state.general;
+    let mut special = state.special;
+    let mut pc = state.pc;
+    let mut halt = state.halt;
+    let marks = state.marks;
+    let reply = mmix_step_parts(
+        base,
+        op,
+        x,
+        y,
+        z,
+        &mut general,
+        &mut special,
+        &mut pc,
+        &mut halt,
+        marks,
+        window,
+    );
+    let next = State {
+        general: general,
+        special: special,
+        pc: pc,
+        halt: halt,
+        marks: marks,
+    };
+    Answer {
+        reply: reply,
+        state: next,
+    }
+}
+
+/// One step on a lent state, changed in place.
+#[no_mangle]
+pub extern "C" fn mmix_step_lent(
+    base: u64,
+    op: u8,
+    x: u8,
+    y: u8,
+    z: u8,
+    state: &mut State,
+    window: &mut [u8],
+) -> u64
+    ensures { λ r. ⌜ SteppedState (lent base (now (window .entry))) (now (state .entry)) op x y z r (now (state .exit)) (lent base (now (window .exit))) ⌝ }
+{
+    let out = step(base, op, x, y, z, *state, &mut *window);
+    *state = out.state;
+    out.reply
 }
 
 /// One exception on an image.
@@ -90,14 +166,30 @@ pub extern "C" fn mmix_exceptions(
 ) -> u64
     ensures { λ r. ⌜ Raised (now (image .entry)) flags op x y z «y_val» «z_val» r (now (image .exit)) ⌝ }
 {
-    if image.len() != 2328 {
+    if image.len() != IMAGE_LEN {
         return 1;
     }
-    let before = image::decode(&*image);
-    let out = instruction::value::raise_exceptions(before, flags, op, x, y, z, y_val, z_val);
-    let reply = out.reply;
-    let after = out.state;
-    image::encode(&mut *image, after);
+    let mut general = [0u64; 256];
+    let mut special = [0u64; 32];
+    let rest = image::load_state(&*image, &mut general, &mut special);
+    let mut pc = rest.pc;
+    let mut halt = rest.halt;
+    let marks = rest.marks;
+    let reply = instruction::exceptions::raise_exceptions(
+        &mut general,
+        &mut special,
+        &mut pc,
+        &mut halt,
+        marks,
+        flags,
+        op,
+        x,
+        y,
+        z,
+        y_val,
+        z_val,
+    );
+    image::store_state(&mut *image, &general, &special, Rest { pc, halt, marks });
     number_of(reply)
 }
 
@@ -116,7 +208,7 @@ pub extern "C" fn mmix_step_parts(
     marks: u64,
     window: &mut [u8],
 ) -> u64
-    ensures { λ r. ⌜ SteppedParts (lent base (now (window .entry))) (made (now (general .entry)) (now (special .entry)) (now (pc .entry)) (now (halt .entry)) marks) op x y z r (made (now (general .exit)) (now (special .exit)) (now (pc .exit)) (now (halt .exit)) marks) (lent base (now (window .exit))) ⌝ }
+    ensures { λ r. ⌜ SteppedState (lent base (now (window .entry))) (made (now (general .entry)) (now (special .entry)) (now (pc .entry)) (now (halt .entry)) marks) op x y z r (made (now (general .exit)) (now (special .exit)) (now (pc .exit)) (now (halt .exit)) marks) (lent base (now (window .exit))) ⌝ }
 {
     let reply = instruction::step::step(
         general,
@@ -132,4 +224,21 @@ pub extern "C" fn mmix_step_parts(
         z,
     );
     number_of(reply)
+}
+
+/// Where the context saved at `address` lies in the window: its first byte's index and its length, both 0 where it is refused.
+#[no_mangle]
+pub extern "C" fn mmix_context(
+    base: u64,
+    address: u64,
+    window: &[u8],
+    start: &mut usize,
+    length: &mut usize,
+) -> u64
+    ensures { λ r. ⌜ ContextAt (lent base (now (window .entry))) address r (now (start .exit)) (now (length .exit)) ⌝ }
+{
+    let at = stack::reader::place_context(window, base, address);
+    *start = at.start;
+    *length = at.size;
+    at.reply
 }

@@ -1,39 +1,52 @@
--- The ways out of read_context: each hands back the part that the reader's plan says, and its reply.
+-- The ways out of place_context: each answers the part that the reader's plan says, and its reply.
 use mathlib.Core.Path.{_≡_, sym, ap, _∙_}
 use mathlib.Core.Bool.{true, false}
-use mathlib.Core.List.{List, []}
+use mathlib.Core.List.{List}
 use Prim.Native.Nat.{ℕ, _+_, _-_, _*_, _^_, _≤_, _<_}
 use native.Mathlib.Omega.{arith}
 use native.Mathlib.Decide.{ℕ-discrete}
-use lib.ListN.{length, take, drop}
+use lib.ListN.{length}
 use Rattle.model.specs.Memory.{Window, shapeOf, ruled, offset}
 use Rattle.model.specs.Plan.{Outcome}
 use Rattle.model.specs.Contexts.{contextAt}
-use Rattle.model.specs.Reader.{Part, emptyPart, partAt, readContext, bytesIn}
+use Rattle.model.specs.Reader.{Part, emptyPart, partAt, readContext}
 use Rattle.model.specs.Parts.{lent}
 use Rattle.model.proofs.Entry.{performOn}
 use Rattle.machine.proofs.Spans.{run-end}
-use Rattle.stack.specs.Context.{LocatedIs}
+use Rattle.stack.specs.Context.{LocatedIs, PlaceIs}
 use Rattle.stack.specs.Work.{octasFrom}
 use Rattle.stack.specs.declared.context.Located.{Located}
-use Rattle.stack.proofs.Turns.{Standing, Comes, comes, refused-by}
+use Rattle.stack.specs.declared.reader.Place.{Place}
+use Rattle.stack.proofs.Turns.{Standing, stands-at, Comes, comes, refused-by}
 
--- the bytes and the reply that the reader hands back
-pub record Handed (w : Window) (p : ℕ) (bytes : List ℕ) (reply : ℕ) : Type 0 where
-  pub bytes-are : bytes ≡ bytesIn w (readContext w p .state)
-  pub reply-is : reply ≡ readContext w p .reply
+abbrev place : ℕ → Part → Place
+place n q = record { reply = n; start = q .start; size = q .size }
 
-by-outcome : (w : Window) (p n : ℕ) (q : Part) → readContext w p ≡ record { reply = n; state = q; memory = w } → Handed w p (bytesIn w q) n
-by-outcome w p n q e = record {
-  bytes-are = sym (ap (λ (o : Outcome Part Window). bytesIn w (o .state)) e);
+by-outcome : (w : Window) (p n : ℕ) (q : Part) → n ≤ 16 → q .start + q .size ≤ length (w .bytes) → readContext w p ≡ record { reply = n; state = q; memory = w } → PlaceIs w p (place n q)
+by-outcome w p n q m i e = record {
   reply-is = sym (ap (λ (o : Outcome Part Window). o .reply) e);
+  start-is = sym (ap (λ (o : Outcome Part Window). o .state .start) e);
+  size-is = sym (ap (λ (o : Outcome Part Window). o .state .size) e);
+  reply-most = m;
+  lies-inside = i;
 }
 
-pub handed-rule : (w : Window) (p : ℕ) → ruled (shapeOf w) ≡ false → Handed w p [] 2
+pub place-rule : (w : Window) (p : ℕ) → ruled (shapeOf w) ≡ false → PlaceIs w p (place 2 emptyPart)
 unfolding readContext
-handed-rule w p r = by-outcome w p 2 emptyPart (rw r)
+place-rule w p r = by-outcome w p 2 emptyPart (omega arith) (omega arith) (rw r)
 
-module _ (w : Window) (p : ℕ) (r : ruled (shapeOf w) ≡ true) (at : Located) (h : LocatedIs w p at) where
+-- the part of a context that stands ends in the window
+pub part-ends : (base : ℕ) (bytes : List ℕ) (at : Located) → length bytes < 2 ^ 64 → Standing (lent base bytes) at
+    → offset base (at .first) + 8 * (at .count + 270 - at .rg) ≤ length bytes
+unfolding shapeOf
+part-ends base bytes at short s =
+    let g : at .rg ≤ 255 = s .g-high in
+    run-end (shapeOf (lent base bytes)) short (at .first) (at .count + 270 - at .rg) (omega arith) (s .inside)
+
+module _ (base : ℕ) (bytes : List ℕ) (p : ℕ) (r : ruled (shapeOf (lent base bytes)) ≡ true) (at : Located) (h : LocatedIs (lent base bytes) p at) where
+  abbrev w : Window
+  w = lent base bytes
+
   -- as in model: (Reader)
   reader-open : readContext w p ≡ performOn w emptyPart (contextAt emptyPart (partAt w) p)
   unfolding readContext
@@ -42,32 +55,16 @@ module _ (w : Window) (p : ℕ) (r : ruled (shapeOf w) ≡ true) (at : Located) 
   comes-of : Comes w emptyPart emptyPart (partAt w) at (performOn w emptyPart (contextAt emptyPart (partAt w) p))
   comes-of = comes w p emptyPart emptyPart (partAt w) at h
 
-  pub handed-part : (start : ℕ) → at .reply ≡ 0 → start ≡ offset (w .base) (at .first)
-      → Handed w p (take (start + 8 * (at .count + 270 - at .rg) - start) (drop start (w .bytes))) 0
+  pub place-part : length bytes < 2 ^ 64 → (start : ℕ) → at .reply ≡ 0 → start ≡ offset base (at .first)
+      → PlaceIs w p (place 0 (record { start = start; size = 8 * (at .count + 270 - at .rg) }))
   unfolding partAt
-  handed-part start z e =
-      let n : start + 8 * (at .count + 270 - at .rg) - start ≡ 8 * (at .count + 270 - at .rg) = omega arith in
-      rw (n, e) (by-outcome w p 0 (partAt w (at .first) (at .rg) (at .ra) (at .count) (octasFrom w (at .first) (at .count + 270 - at .rg))) (reader-open ∙ comes-of .done z))
+  place-part short start z e =
+      rw e (by-outcome w p 0 (partAt w (at .first) (at .rg) (at .ra) (at .count) (octasFrom w (at .first) (at .count + 270 - at .rg)))
+      (omega arith) (part-ends base bytes at short (stands-at w p at h z)) (reader-open ∙ comes-of .done z))
 
-  pub handed-none : (at .reply ≡ 0 → ⊥) → Handed w p [] (at .reply)
-  handed-none f = go (ℕ-discrete (at .reply) 6)
+  pub place-none : (at .reply ≡ 0 → ⊥) → PlaceIs w p (place (at .reply) emptyPart)
+  place-none f = go (ℕ-discrete (at .reply) 6)
     where
-      go : Dec (at .reply ≡ 6) → Handed w p [] (at .reply)
-      go (yes e) = rw e (by-outcome w p 6 emptyPart (reader-open ∙ comes-of .six e))
-      go (no n) = by-outcome w p (at .reply) emptyPart (reader-open ∙ comes-of .other f n)
-
--- the numbers that refuse are bytes
-pub reply-byte : (w : Window) (p : ℕ) (at : Located) → LocatedIs w p at → (at .reply ≡ 0 → ⊥) → at .reply < 256
-reply-byte w p at h f = go (ℕ-discrete (at .reply) 6)
-  where
-    go : Dec (at .reply ≡ 6) → at .reply < 256
-    go (yes e) = omega arith
-    go (no n) = let m : at .reply ≤ 16 = refused-by w p at h f n .1 in omega arith
-
--- the part ends in the window
-pub part-ends : (base : ℕ) (bytes : List ℕ) (at : Located) → length bytes < 2 ^ 64 → Standing (lent base bytes) at
-    → offset base (at .first) + 8 * (at .count + 270 - at .rg) ≤ length bytes
-unfolding shapeOf
-part-ends base bytes at short s =
-    let g : at .rg ≤ 255 = s .g-high in
-    run-end (shapeOf (lent base bytes)) short (at .first) (at .count + 270 - at .rg) (omega arith) (s .inside)
+      go : Dec (at .reply ≡ 6) → PlaceIs w p (place (at .reply) emptyPart)
+      go (yes e) = rw e (by-outcome w p 6 emptyPart (omega arith) (omega arith) (reader-open ∙ comes-of .six e))
+      go (no n) = by-outcome w p (at .reply) emptyPart (refused-by w p at h f n .1) (omega arith) (reader-open ∙ comes-of .other f n)

@@ -1,19 +1,22 @@
 -- What save_context, unsave_context, locate and read_context answer and leave.
-use Prim.Native.Nat.{ℕ, _+_, _-_, _*_, _%_, _^_}
+use Prim.Native.Nat.{ℕ, _+_, _-_, _*_, _%_, _^_, _≤_}
 use mathlib.Core.Path.{_≡_}
 use mathlib.Core.Bool.{cond}
 use mathlib.Core.List.{List}
 use lib.Dec.{leb, eqb}
+use lib.ListN.{length}
 use Rattle.model.specs.Memory.{Window, shapeOf, has, one}
 use Rattle.model.specs.Plan.{Outcome, perform, look}
 use Rattle.model.specs.Contexts.{below, saveContext, contextAt, unsaveContext}
 use Rattle.model.specs.Step.{refusing}
+use Rattle.model.specs.Reader.{Part, readContext}
 use Rattle.stack.specs.Gives.{guardedOn}
 use Rattle.model.specs.declared.State.{State}
 use Rattle.stack.specs.declared.context.Located.{Located}
 use Rattle.stack.specs.declared.context.Layout.{Layout}
 use Rattle.stack.specs.declared.context.Layout.the-variants.{Found, Excess, Outside}
 use Rattle.stack.specs.declared.context.SaveContextLayout.{SaveContextLayout}
+use Rattle.stack.specs.declared.reader.Place.{Place}
 
 unfoldable pub saveOf : Window → State → ℕ → Outcome State Window
 saveOf w s x = guardedOn w s (saveContext s x)
@@ -58,3 +61,11 @@ pub record LocatedIs (w : Window) (p : ℕ) (r : Located) : Type 0 where
   pub rg-is : r .rg ≡ locatedOf w p .state .rg
   pub ra-is : r .ra ≡ locatedOf w p .state .ra
   pub count-is : r .count ≡ locatedOf w p .state .count
+
+-- the reader's reply and part as numbers; the part lies in the window
+pub record PlaceIs (w : Window) (p : ℕ) (r : Place) : Type 0 where
+  pub reply-is : r .reply ≡ readContext w p .reply
+  pub start-is : r .start ≡ readContext w p .state .start
+  pub size-is : r .size ≡ readContext w p .state .size
+  pub reply-most : r .reply ≤ 16
+  pub lies-inside : r .start + r .size ≤ length (w .bytes)

@@ -4,9 +4,11 @@
 //!
 //! The subject is the proved library with the feature `library`, else the model. Columns: the Rust's arm in place;
 //! the same instruction fetched from the Rust's memory and decoded; the subject's step on parts, on a lent state
-//! and on an image. A point of two instructions has the sum of both.
+//! and on an image (there exceptions too). A point of two instructions has the sum of both. Behind the times stand
+//! the ratios, each with its target and whether it is met.
 
 mod points;
+mod report;
 
 use std::hint::black_box;
 use std::time::Instant;
@@ -14,18 +16,14 @@ use std::time::Instant;
 use oracle::case::Instruction;
 use oracle::opcodes::{PUT, PUTI, RESUME, TRAP};
 use oracle::state::{STACK_START, State};
-use oracle::subject::Subject;
+use oracle::subject::{Subject, chosen};
 use points::{Point, Work, points};
+use report::Row;
 use taken_plain::mmix::{Host, MMix};
 use taken_plain::mmixal::Opcode;
 
-#[cfg(feature = "library")]
-const SUBJECT: (&str, oracle::library::Library) = ("library", oracle::library::Library);
-#[cfg(not(feature = "library"))]
-const SUBJECT: (&str, oracle::model::Model) = ("model", oracle::model::Model);
-
 /// The whole table is measured so often, each time with so many repeats: a slow spell meets all columns alike.
-const PASSES: usize = 6;
+const PASSES: usize = 20;
 const REPEATS: usize = 80;
 const WINDOW_LEN: usize = 8192;
 const CODE_START: u64 = 0x1000;
@@ -116,26 +114,18 @@ fn rust_fetched(point: &Point) -> f64 {
     })
 }
 
-fn on_parts(subject: &impl Subject, point: &Point) -> f64 {
+/// A point's steps, each by `step`, on a state and a window that stay from call to call.
+fn on_state(point: &Point, step: impl Fn(Instruction, &mut State, &mut [u8]) -> u64) -> f64 {
     let Work::Steps(code) = &point.work else { return f64::INFINITY };
     let (mut state, mut window) = (point.state.clone(), vec![0; WINDOW_LEN]);
     least(|| {
         for i in code {
-            black_box(subject.step_parts(STACK_START, *i, &mut state, &mut window));
+            black_box(step(*i, &mut state, &mut window));
         }
     })
 }
 
-fn on_lent(subject: &impl Subject, point: &Point) -> f64 {
-    let Work::Steps(code) = &point.work else { return f64::INFINITY };
-    let (mut state, mut window) = (point.state.clone(), vec![0; WINDOW_LEN]);
-    least(|| {
-        for i in code {
-            black_box(subject.step_lent(STACK_START, *i, &mut state, &mut window));
-        }
-    })
-}
-
+/// A point's steps, or its exception, on an image.
 fn on_image(subject: &impl Subject, point: &Point) -> f64 {
     let (mut image, mut window) = (point.state.image(), vec![0; WINDOW_LEN]);
     match &point.work {
@@ -166,31 +156,40 @@ fn check(subject: &impl Subject, point: &Point) {
     assert!(machine.general() == &state.general && machine.special() == &state.special, "{}: differs", point.name);
 }
 
-/// The five columns of a point, once.
-fn measured(subject: &impl Subject, point: &Point) -> [f64; 5] {
-    [rust_arm(point), rust_fetched(point), on_parts(subject, point), on_lent(subject, point), on_image(subject, point)]
+/// A point's row, measured once.
+fn measured(subject: &impl Subject, point: &Point) -> Row {
+    Row {
+        arm: rust_arm(point),
+        fetched: rust_fetched(point),
+        parts: on_state(point, |i, state, window| subject.step_parts(STACK_START, i, state.into(), window)),
+        lent: on_state(point, |i, state, window| subject.step_lent(STACK_START, i, state, window)),
+        image: on_image(subject, point),
+    }
+}
+
+/// The time of copying an image, measured once.
+fn copied() -> f64 {
+    let (from, mut to) = (State::zero().image(), State::zero().image());
+    least(|| black_box(&mut to).copy_from_slice(black_box(&from)))
 }
 
 fn main() {
     let only = std::env::args().nth(1).unwrap_or_default();
-    let (name, subject) = SUBJECT;
+    let subject = chosen();
     let points: Vec<Point> = points().into_iter().filter(|p| p.name.contains(&only)).collect();
     points.iter().for_each(|point| check(&subject, point));
 
-    let (from, mut to) = (State::zero().image(), State::zero().image());
     let mut copy = f64::INFINITY;
-    let mut table = vec![[f64::INFINITY; 5]; points.len()];
+    let mut rows = vec![Row::NONE; points.len()];
     for _ in 0..PASSES {
-        copy = copy.min(least(|| black_box(&mut to).copy_from_slice(black_box(&from))));
-        for (row, point) in table.iter_mut().zip(&points) {
-            row.iter_mut().zip(measured(&subject, point)).for_each(|(old, new)| *old = old.min(new));
+        copy = copy.min(copied());
+        for (row, point) in rows.iter_mut().zip(&points) {
+            *row = row.least(&measured(&subject, point));
         }
     }
-
-    println!("nanoseconds, the least of {PASSES} x {REPEATS}; memcpy of an image {copy:.1}; subject: {name}");
-    println!("{:<26}{:>10}{:>10}{:>10}{:>10}{:>10}", "point", "arm", "fetched", "parts", "lent", "image");
-    for (row, point) in table.iter().zip(&points) {
-        let columns = row.map(|t| if t.is_finite() { format!("{t:>10.1}") } else { format!("{:>10}", "-") });
-        println!("{:<26}{}", point.name, columns.concat());
-    }
+    println!(
+        "nanoseconds, the least of {PASSES} x {REPEATS}; memcpy of an image {copy:.1}; subject: {}",
+        subject.name()
+    );
+    report::print(&points, &rows, copy);
 }

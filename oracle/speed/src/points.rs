@@ -10,8 +10,20 @@ pub enum Work {
     Exceptions(u8),
 }
 
+/// What a point is held to.
+#[derive(Clone, Copy, PartialEq, Eq)]
+pub enum Kind {
+    Simple,
+    Exception,
+    /// So many times as fast as the Rust's arms.
+    Memory {
+        times: u64,
+    },
+}
+
 pub struct Point {
     pub name: String,
+    pub kind: Kind,
     pub state: State,
     pub work: Work,
 }
@@ -30,13 +42,17 @@ fn start(rg: u64, rl: u64) -> State {
 
 fn steps(name: &str, state: State, code: &[[u8; 4]]) -> Point {
     let code = code.iter().map(|&[op, x, y, z]| Instruction { op, x, y, z }).collect();
-    Point { name: name.to_string(), state, work: Work::Steps(code) }
+    Point { name: name.to_string(), kind: Kind::Simple, state, work: Work::Steps(code) }
+}
+
+fn memory(name: &str, times: u64, state: State, code: &[[u8; 4]]) -> Point {
+    Point { kind: Kind::Memory { times }, ..steps(name, state, code) }
 }
 
 fn exceptions(name: &str, enables: u64, flags: u8) -> Point {
     let mut state = start(32, 10);
     state.special[RA] = enables << 8;
-    Point { name: name.to_string(), state, work: Work::Exceptions(flags) }
+    Point { name: name.to_string(), kind: Kind::Exception, state, work: Work::Exceptions(flags) }
 }
 
 pub fn points() -> Vec<Point> {
@@ -56,13 +72,13 @@ pub fn points() -> Vec<Point> {
         exceptions("exception taken", 0x80, 0x80),
         exceptions("exception not taken", 0, 0x80),
     ];
-    for hole in [0, 8, 31, 200] {
-        let name = format!("PUSHJ + POP, H {hole}");
-        points.push(steps(&name, start(255, hole as u64), &[[PUSHJ, hole, 0, 5], [POP, 0, 0, 0]]));
+    for (hole, rg) in [(0, 32), (8, 32), (31, 32), (0, 255), (8, 255), (31, 255), (200, 255)] {
+        let (name, times) = (format!("PUSHJ + POP, H {hole}, rG {rg}"), if hole == 0 { 4 } else { 20 });
+        points.push(memory(&name, times, start(rg, hole as u64), &[[PUSHJ, hole, 0, 5], [POP, 0, 0, 0]]));
     }
     for rg in [32, 255] {
         let name = format!("SAVE + UNSAVE, rG {rg}");
-        points.push(steps(&name, start(rg, 10), &[[SAVE, 255, 0, 0], [UNSAVE, 0, 0, 255]]));
+        points.push(memory(&name, 20, start(rg, 10), &[[SAVE, 255, 0, 0], [UNSAVE, 0, 0, 255]]));
     }
     points
 }

@@ -1,10 +1,13 @@
-//! Compare the subject with the Rust on many cases.
+//! Compare with the Rust on many cases: the library where it is linked, and the model.
 //!
-//!     differential [--cases N] [--seed S] [--threads T]
-//!     differential --replay LINE
+//!     differential [--cases N] [--seed S] [--threads T] [--guards pages|heap]
+//!     differential --replay LINE [--guards pages|heap]
 //!
-//! Runs N drawn cases (200,000 unless told) and then the sweeps, and prints how often each opcode met each reply.
-//! A case that differs is printed as one line, made small, that `--replay` runs again; the exit status is then 1.
+//! Runs N drawn cases (200,000 unless told), then the sweeps if N is at least 100,000, and prints how often each
+//! opcode met each reply; if N is at least 200,000, each must have been met often enough. A case that differs is
+//! printed as one line, made small, that `--replay` runs again. With guards, only the library is compared (the model
+//! where it is not linked), each of its buffers in a guarded place (src/guards.rs). The exit status is 1 where
+//! something differs or was met too seldom.
 
 use std::process::ExitCode;
 use std::sync::Mutex;
@@ -14,42 +17,54 @@ use std::time::Instant;
 
 use oracle::case::{self, Case};
 use oracle::compare::compare;
+use oracle::guards::{self, Guard};
 use oracle::reference::{Answer, Reference};
 use oracle::rounds::{ROUND, round};
 use oracle::shrink::shrink;
-use oracle::subject::{Subject, chosen};
+use oracle::subject::{Subject, guarded, subjects};
 use oracle::sweep;
 use oracle::tally::Tally;
+
+/// The least number of cases with which the sweeps are run, and with which the counts are judged.
+const SWEPT_FROM: u64 = 100_000;
+const COUNTED_FROM: u64 = 200_000;
 
 struct Options {
     cases: u64,
     seed: u64,
     threads: u64,
+    guard: Option<Guard>,
     replay: Option<String>,
 }
 
 fn options() -> Result<Options, String> {
     let threads = thread::available_parallelism().map_or(1, |n| n.get() as u64);
-    let mut options = Options { cases: 200_000, seed: 2009, threads, replay: None };
+    let mut options = Options { cases: 200_000, seed: 2009, threads, guard: None, replay: None };
     let mut arguments = std::env::args().skip(1);
     while let Some(name) = arguments.next() {
         let value = arguments.next().ok_or_else(|| format!("{name} has no value"))?;
         let number = || value.parse().map_err(|e| format!("{name} {value}: {e}"));
-        match name.as_str() {
-            "--cases" => options.cases = number()?,
-            "--seed" => options.seed = number()?,
-            "--threads" => options.threads = number()?.max(1),
-            "--replay" => options.replay = Some(value),
-            _ => return Err(format!("no such option: {name}")),
+        match (name.as_str(), value.as_str()) {
+            ("--cases", _) => options.cases = number()?,
+            ("--seed", _) => options.seed = number()?,
+            ("--threads", _) => options.threads = number()?.max(1),
+            ("--guards", "pages") => options.guard = Some(Guard::Pages),
+            ("--guards", "heap") => options.guard = Some(Guard::Heap),
+            ("--replay", _) => options.replay = Some(value),
+            _ => return Err(format!("no such option: {name} {value}")),
         }
     }
     Ok(options)
 }
 
+fn chosen(guard: Option<Guard>) -> Vec<Box<dyn Subject>> {
+    guard.map_or_else(subjects, |guard| vec![guarded(guard)])
+}
+
 /// Compares case after case, until one differs.
 struct Runner<'a> {
     reference: Reference,
-    subject: &'static dyn Subject,
+    subjects: Vec<Box<dyn Subject>>,
     tally: Tally,
     stop: &'a AtomicBool,
     found: &'a Mutex<Vec<String>>,
@@ -60,7 +75,8 @@ impl Runner<'_> {
         if self.stop.load(Ordering::Relaxed) {
             return None;
         }
-        match compare(&mut self.reference, self.subject, case) {
+        guards::at_case(case);
+        match compare(&mut self.reference, &self.subjects, case) {
             Ok(answer) => {
                 self.tally.count(case, &answer);
                 Some(answer)
@@ -74,8 +90,8 @@ impl Runner<'_> {
     }
 
     fn report(&mut self, case: &Case) {
-        let small = shrink(&mut Reference::new(), self.subject, case);
-        let difference = match compare(&mut Reference::new(), self.subject, &small) {
+        let small = shrink(&mut Reference::new(), &self.subjects, case);
+        let difference = match compare(&mut Reference::new(), &self.subjects, &small) {
             Err(difference) => format!("{difference}\n{small}"),
             Ok(_) => format!("differs only after other cases\n{case}"),
         };
@@ -91,7 +107,7 @@ impl Runner<'_> {
                 return None;
             }
         }
-        if part == 0 {
+        if part == 0 && options.cases >= SWEPT_FROM {
             sweep::exceptions(&mut |case| self.run(case))?;
             sweep::frames(&mut |case| self.run(case))?;
         }
@@ -99,9 +115,10 @@ impl Runner<'_> {
     }
 }
 
-fn replay(line: &str) -> Result<bool, String> {
+fn replay(line: &str, guard: Option<Guard>) -> Result<bool, String> {
     let case = case::parse(line)?;
-    match compare(&mut Reference::new(), chosen(), &case) {
+    guards::at_case(&case);
+    match compare(&mut Reference::new(), &chosen(guard), &case) {
         Ok(answer) => {
             println!("same: reply {}, PC {:x}", answer.reply, answer.state.pc);
             Ok(true)
@@ -113,43 +130,53 @@ fn replay(line: &str) -> Result<bool, String> {
     }
 }
 
-fn differential(options: &Options) -> bool {
-    let began = Instant::now();
+/// All cases on all threads: the counts, and what differs.
+fn run(options: &Options) -> (Tally, Vec<String>) {
     let (stop, found) = (AtomicBool::new(false), Mutex::new(Vec::new()));
     let mut total = Tally::default();
+    let worker = |part: u64| {
+        let (reference, subjects) = (Reference::new(), chosen(options.guard));
+        let mut runner = Runner { reference, subjects, tally: Tally::default(), stop: &stop, found: &found };
+        runner.work(options, part);
+        runner.tally
+    };
     thread::scope(|scope| {
-        let workers: Vec<_> = (0..options.threads)
-            .map(|part| {
-                let (stop, found) = (&stop, &found);
-                scope.spawn(move || {
-                    let reference = Reference::new();
-                    let mut runner = Runner { reference, subject: chosen(), tally: Tally::default(), stop, found };
-                    runner.work(options, part);
-                    runner.tally
-                })
-            })
-            .collect();
+        let workers: Vec<_> = (0..options.threads).map(|part| scope.spawn(move || worker(part))).collect();
         for worker in workers {
             total.add(&worker.join().expect("a worker panicked"));
         }
     });
+    (total, found.into_inner().unwrap())
+}
+
+fn differential(options: &Options) -> bool {
+    let began = Instant::now();
+    let (total, found) = run(options);
     total.print();
-    let found = found.into_inner().unwrap();
+    let seldom = if options.cases >= COUNTED_FROM && found.is_empty() { total.seldom() } else { Vec::new() };
+    seldom.iter().for_each(|pair| println!("TOO SELDOM: {pair}"));
     found.iter().for_each(|difference| println!("DIFFERS: {difference}"));
+    let names: Vec<&str> = chosen(options.guard).iter().map(|subject| subject.name()).collect();
     println!(
-        "{} cases, seed {}, {:.1} s: {}",
+        "{} cases, seed {}, Rust against {}, {:.1} s: {}",
         total.cases(),
         options.seed,
+        names.join(" and "),
         began.elapsed().as_secs_f64(),
         if found.is_empty() { "no difference" } else { "differences found" }
     );
-    found.is_empty()
+    found.is_empty() && seldom.is_empty()
 }
 
 fn main() -> ExitCode {
-    let outcome = options().and_then(|options| match &options.replay {
-        Some(line) => replay(line),
-        None => Ok(differential(&options)),
+    let outcome = options().and_then(|options| {
+        if options.guard.is_some() {
+            guards::report_faults();
+        }
+        match &options.replay {
+            Some(line) => replay(line, options.guard),
+            None => Ok(differential(&options)),
+        }
     });
     match outcome {
         Ok(true) => ExitCode::SUCCESS,

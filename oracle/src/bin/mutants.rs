@@ -89,15 +89,21 @@ fn try_fault(places: &Places, job: usize, fault: &Fault, cases: &str) -> Result<
         .args(["--threads", "1", "--cases", cases])
         .output()
         .map_err(|e| format!("differential: {e}"))?;
-    let said = String::from_utf8_lossy(&ran.stdout);
-    if ran.status.success() {
+    found(&String::from_utf8_lossy(&ran.stdout), &String::from_utf8_lossy(&ran.stderr))
+}
+
+/// What a run of `differential` said of a fault: the case that differs, or the panic that it led to.
+fn found(said: &str, complained: &str) -> Result<String, String> {
+    let last = said.lines().last().unwrap_or_default();
+    if last.ends_with("no difference") {
         return Err("not found".to_string());
     }
-    let first = said.lines().find_map(|line| line.strip_prefix("DIFFERS: "));
-    let count = said.lines().last().and_then(|line| line.split(' ').next()).unwrap_or("?");
-    match first {
-        Some(difference) => Ok(format!("after {count} cases: {}", difference.chars().take(90).collect::<String>())),
-        None => Ok(format!("panics: {}", String::from_utf8_lossy(&ran.stderr).lines().next().unwrap_or_default())),
+    match said.lines().find_map(|line| line.strip_prefix("DIFFERS: ")) {
+        Some(difference) => {
+            let (count, start) = (last.split(' ').next().unwrap_or("?"), difference.chars().take(90));
+            Ok(format!("after {count} cases: {}", start.collect::<String>()))
+        }
+        None => Ok(format!("panics: {}", complained.lines().next().unwrap_or_default())),
     }
 }
 

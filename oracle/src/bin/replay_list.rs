@@ -4,19 +4,19 @@
 //!     replay_list --check FILE              replay it on the subject
 //!
 //! The file is octabytes, high byte first: the number of records, then the records. A record is
-//!  1     the call as bytes: kind (0 step, 1 exceptions), flags, op, X, Y, Z, 0, 0
-//!  2, 3  the two operands of an exception
-//!  4, 5  the window's base; its length in octabytes
-//!  6, 7  g, h: $k is g + k × h for k below rL and from rG on, the others 0
-//!  8, 9  s, t: special k is s + k × t
-//! 10, 11 w, v: octabyte j of the window is w + j × v
-//! 12-14  PC, halt code, marks
-//! 15-19  rG, rL, rA, rO, rS
-//! 20     n, then n pairs of a place and a value set there: a place below 291 is an octabyte of the state, in
-//!        the order of its image; 4096 + j is octabyte j of the window
-//! and after these what the Rust leaves: reply, PC, halt code, rG, rL, rO, then two sums of the state's 291
-//! octabytes and two of the window's. The first sum of a list adds its octabytes, the second adds up the first
-//! sum after each octabyte, so that order counts. All arithmetic is modulo 2^64.
+//!  1      the call as bytes: kind (0 step, 1 exceptions), flags, op, X, Y, Z, 0, 0
+//!  2, 3   the two operands of an exception; 0 for a step
+//!  4, 5   the window's base; its length in octabytes, at most 512
+//!  6, 7   g, h: $k is g + k × h for k below rL and for k from rG to 255, the others are 0
+//!  8, 9   s, t: special k is s + k × t, the five below apart
+//! 10, 11  w, v: octabyte j of the window is w + j × v
+//! 12-14   PC, halt code, marks
+//! 15-19   rG, rL, rA, rO, rS; rG is 32 to 255 and rL at most rG, whatever the reply
+//! 20      m, then m pairs of a place and a value that is set there, one after the other, over what is above: a place
+//!         below 256 is a general register, 4096 + j is octabyte j of the window
+//! and then the ten octabytes that the Rust leaves: reply, PC, halt code, rG, rL, rO, two sums of the state's 291
+//! octabytes in the order of its image and two of the window's octabytes. The first sum of a list adds its octabytes,
+//! the second adds up the first sum after each octabyte, so that order counts. All arithmetic is modulo 2^64.
 
 use std::process::ExitCode;
 use std::{env, fs};
@@ -26,14 +26,15 @@ use oracle::opcodes::*;
 use oracle::random::Random;
 use oracle::reference::Reference;
 use oracle::rounds::{exception, single};
-use oracle::state::{RA, RG, RL, RO, RS, State, octabyte};
-use oracle::subject::chosen;
+use oracle::state::{IMAGE_LEN, MARKS_MAX, RA, RA_MAX, RG, RL, RO, RS, State, octabyte};
+use oracle::subject::{Subject, chosen};
 
 /// The opcodes of the list, in turn; those with the most ways to go stand here most often. Five are branches and
 /// two have no arm.
-const OPCODES: [u8; 32] = [
-    PUSHJ, POP, SAVE, UNSAVE, PUSHJB, POP, PUSHGO, UNSAVE, PUSHJ, POP, PUSHGOI, UNSAVE, PUT, PUTI, GET, GETA, GETAB,
-    GO, GOI, JMP, JMPB, SYNC, SWYM, TRIP, TRAP, BN, BNB, BZ, BNZ, PBEVB, 0x20, RESUME,
+const OPCODES: [u8; 40] = [
+    PUSHJ, POP, SAVE, UNSAVE, PUT, POP, PUSHJB, UNSAVE, PUT, POP, SAVE, UNSAVE, PUSHGO, PUT, PUTI, GET, GETA, GETAB,
+    PUSHGOI, PUT, PUTI, SAVE, GO, GOI, JMP, JMPB, PUT, SYNC, SWYM, TRIP, TRAP, BN, BNB, BZ, BNZ, PBEVB, PUT, GET, 0x20,
+    RESUME,
 ];
 const WINDOW_PLACES: u64 = 4096;
 const FIELDS: usize = 19;
@@ -67,25 +68,31 @@ impl Start {
         let window = (0..len as usize).flat_map(|j| line(w, v, j).to_be_bytes()).collect();
         let mut case = Case::new(call, state, base, window);
         for &(place, value) in &self.places {
-            match place {
-                0..256 => case.state.general[place as usize] = value,
-                256..288 => case.state.special[place as usize - 256] = value,
-                _ => {
-                    let at = 8 * (place - WINDOW_PLACES) as usize;
-                    case.window[at..at + 8].copy_from_slice(&value.to_be_bytes());
-                }
+            if place < WINDOW_PLACES {
+                case.state.general[place as usize] = value;
+            } else {
+                let at = 8 * (place - WINDOW_PLACES) as usize;
+                case.window[at..at + 8].copy_from_slice(&value.to_be_bytes());
             }
         }
         case
     }
 
+    /// In one record of 16, by its number, break a rule of the state or of the window.
+    fn spoil(&mut self, number: u64) {
+        let [_, _, _, base, .., marks, _, _, ra, _, _] = &mut self.fields;
+        match (number % 16, number / 16 % 3) {
+            (15, 0) => *marks += MARKS_MAX + 1,
+            (15, 1) => *ra += RA_MAX + 1,
+            (15, _) => *base += 1 + number / 48 % 7,
+            _ => {}
+        }
+    }
+
     /// The start nearest to a drawn case: registers and window become lines of numbers but for what the
     /// instruction is about.
-    fn of(case: &Case, random: &mut Random) -> Option<Self> {
+    fn of(case: &Case, random: &mut Random) -> Self {
         let State { special, pc, halt, marks, .. } = &case.state;
-        if case.window.len() > 8 * WINDOW_MOST {
-            return None;
-        }
         let (mut y, mut z, mut places) = (0, 0, Vec::new());
         let call = match case.call {
             Call::Step(i) => {
@@ -98,7 +105,7 @@ impl Start {
                 (y, z) = (y_val, z_val);
                 [1, flags, of.op, of.x, of.y, of.z, 0, 0]
             }
-            _ => return None,
+            _ => unreachable!("the list has steps and exceptions"),
         };
         for address in about(case) {
             let at = (address & !7).wrapping_sub(case.base) as usize;
@@ -127,7 +134,7 @@ impl Start {
             special[RO],
             special[RS],
         ];
-        Some(Self { fields, places })
+        Self { fields, places }
     }
 }
 
@@ -159,20 +166,25 @@ fn results(reply: u64, state: &State, window: &[u8]) -> [u64; RESULTS] {
     [reply, *pc, *halt, special[RG], special[RL], special[RO], sa, sb, wa, wb]
 }
 
+/// A case for a record, by its number; none where the draw does not fit the list.
+fn drawn(random: &mut Random, number: u64) -> Option<Case> {
+    let turn = (number % (OPCODES.len() as u64 + 2)) as usize;
+    let case = match OPCODES.get(turn) {
+        Some(op) => single(random, *op),
+        None => exception(random),
+    };
+    let fits = case.state.admissible() && case.image_len == IMAGE_LEN && case.window.len() <= 8 * WINDOW_MOST;
+    fits.then_some(case)
+}
+
 fn write(file: &str, records: u64, seed: u64) -> Result<(), String> {
     let (mut random, mut reference) = (Random::new(seed, 0), Reference::new());
     let mut list = vec![records];
     let mut written = 0;
     while written < records {
-        let turn = (written % (OPCODES.len() as u64 + 2)) as usize;
-        let drawn = match OPCODES.get(turn) {
-            Some(op) => single(&mut random, *op),
-            None => exception(&mut random),
-        };
-        let Some(start) = Start::of(&drawn, &mut random) else { continue };
-        if !drawn.state.admissible() || drawn.image_len != drawn.state.image().len() {
-            continue;
-        }
+        let Some(case) = drawn(&mut random, written) else { continue };
+        let mut start = Start::of(&case, &mut random);
+        start.spoil(written);
         let answer = reference.answer(&start.case())?;
         list.extend(start.fields);
         list.push(start.places.len() as u64);
@@ -185,11 +197,22 @@ fn write(file: &str, records: u64, seed: u64) -> Result<(), String> {
     fs::write(file, bytes).map_err(|e| format!("{file}: {e}"))
 }
 
+/// What the subject leaves of a case.
+fn replayed(subject: &impl Subject, case: &Case) -> [u64; RESULTS] {
+    let (mut image, mut window) = (case.state.image(), case.window.clone());
+    let reply = match case.call {
+        Call::Step(i) => subject.step(case.base, i, &mut image, &mut window),
+        Call::Exceptions { flags, of, y_val, z_val } => subject.exceptions(flags, of, y_val, z_val, &mut image),
+        _ => unreachable!("the list has steps and exceptions"),
+    };
+    results(reply, &State::of_image(&image), &window)
+}
+
 fn check(file: &str) -> Result<(), String> {
     let bytes = fs::read(file).map_err(|e| format!("{file}: {e}"))?;
     let mut list = bytes.chunks_exact(8).map(octabyte);
     let mut next = || list.next().ok_or("the list is cut short");
-    let records = next()?;
+    let (subject, records, mut replies) = (chosen(), next()?, [0; 21]);
     for record in 0..records {
         let mut fields = [0; FIELDS];
         for field in &mut fields {
@@ -204,18 +227,16 @@ fn check(file: &str) -> Result<(), String> {
             *field = next()?;
         }
         let case = Start { fields, places }.case();
-        let (mut image, mut window) = (case.state.image(), case.window.clone());
-        let reply = match case.call {
-            Call::Step(i) => chosen().step(case.base, i, &mut image, &mut window),
-            Call::Exceptions { flags, of, y_val, z_val } => chosen().exceptions(flags, of, y_val, z_val, &mut image),
-            _ => unreachable!("the list has steps and exceptions"),
-        };
-        let found = results(reply, &State::of_image(&image), &window);
+        let found = replayed(&subject, &case);
         if found != expected {
             return Err(format!("record {record}: {expected:x?} against {found:x?}\n{case}"));
         }
+        replies[found[0] as usize] += 1;
     }
-    println!("{records} records agree");
+    if list.next().is_some() {
+        return Err("more than the records".to_string());
+    }
+    println!("{records} records agree ({}); replies 0 to 20: {replies:?}", subject.name());
     Ok(())
 }
 

@@ -7,7 +7,7 @@ mod stack;
 
 use crate::case::Instruction;
 use crate::state::{IMAGE_LEN, RG, RK, RL, RN, RO, RS, RT, RTT, RV, STACK_START, State, WINDOW_MAX};
-use crate::subject::{Part, Subject};
+use crate::subject::{Found, Parts, Subject};
 use memory::Window;
 
 /// What a step leaves: the reply, the state, the octabytes stored (address and value) and those needed.
@@ -114,6 +114,10 @@ fn apply(base: u64, stores: &[(u64, u64)], bytes: &mut [u8]) {
 pub struct Model;
 
 impl Subject for Model {
+    fn name(&self) -> &'static str {
+        "model"
+    }
+
     fn initialize(&self, image: &mut [u8]) -> u64 {
         if image.len() != IMAGE_LEN {
             return 1;
@@ -145,16 +149,17 @@ impl Subject for Model {
         outcome.reply
     }
 
-    fn context(&self, base: u64, address: u64, window: &[u8]) -> Part {
-        let empty = |reply| Part { reply, start: 0, length: 0 };
+    fn context(&self, base: u64, address: u64, window: &[u8], found: Found) -> u64 {
+        (*found.start, *found.length) = (0, 0);
         if !window_rule(base, window.len()) {
-            return empty(2);
+            return 2;
         }
         match stack::find_context(&Window { base, bytes: window }, address) {
-            Err((reply, _)) => empty(reply),
+            Err((reply, _)) => reply,
             Ok(context) => {
-                let start = memory::offset(base, context.first()) as usize;
-                Part { reply: 0, start, length: 8 * context.octabytes() as usize }
+                *found.start = memory::offset(base, context.first()) as usize;
+                *found.length = 8 * context.octabytes() as usize;
+                0
             }
         }
     }
@@ -166,11 +171,16 @@ impl Subject for Model {
         outcome.reply
     }
 
-    fn step_parts(&self, base: u64, i: Instruction, state: &mut State, window: &mut [u8]) -> u64 {
-        self.step_lent(base, i, state, window)
+    fn step_parts(&self, base: u64, i: Instruction, parts: Parts, window: &mut [u8]) -> u64 {
+        let Parts { general, special, pc, halt, marks } = parts;
+        let mut state = State { general: *general, special: *special, pc: *pc, halt: *halt, marks };
+        let reply = self.step_lent(base, i, &mut state, window);
+        (*general, *special, *pc, *halt) = (state.general, state.special, state.pc, state.halt);
+        reply
     }
+}
 
-    fn needs(&self, base: u64, i: Instruction, state: &State, window: &[u8]) -> Option<Vec<u64>> {
-        Some(step(base, i, state, window).needs)
-    }
+/// The octabytes that a step needs: in any order, each once.
+pub fn needs(base: u64, i: Instruction, state: &State, window: &[u8]) -> Vec<u64> {
+    step(base, i, state, window).needs
 }

@@ -1,21 +1,21 @@
--- `mmix_exceptions` meets its contract: the image's state takes the exception, and its image is encoded.
+-- `mmix_exceptions` meets its contract: the image's state takes the exception, and goes back into the image.
 use native.Mathlib.Omega.{arith}
-use borrow.Author.Needs.{needs}
 use Rattle.mmix.proofs.Entries.{raised-else, raised}
+use borrow.Author.Needs.{needs}
 use Rattle.mmix.proofs.mmix_exceptions.Statement.{statement}
 use Rattle.mmix.proofs.mmix_exceptions.Tie as tie
 
 returns : tie.Need-returns
 returns c = raised-else _ (λ e. omega arith) _ _ _ _ _ _ _
 
-decode-requires : tie.Need-decode-requires
-decode-requires c κs = search needs
+load-state-requires : tie.Need-load-state-requires
+load-state-requires c κs = search needs
 
 raise-exceptions-requires : tie.Need-raise-exceptions-requires
 raise-exceptions-requires c κs = search needs
 
-encode-requires : tie.Need-encode-requires
-encode-requires c κs = search needs
+store-state-requires : tie.Need-store-state-requires
+store-state-requires c κs = search needs
 
 number-of-requires : tie.Need-number-of-requires
 number-of-requires c κs = search needs
@@ -25,11 +25,19 @@ same-length c = search needs
 
 returns-2 : tie.Need-returns-2
 returns-2 c =
-    let encoding = c .before .before .before in
-    let raising = encoding .before .before .before in
-    let decoding = raising .before in
-    let a = decoding .before .before .before .before .args in
-    raised (a .image .now) (omega arith) _ _ _ _ _ _ _ _ (decoding .decode .ensures) _ _ (raising .raise-exceptions .ensures) _ (encoding .encode .ensures) _ (c .number-of .ensures)
+    let storing = c .before .before .before in
+    let raising = storing .before .before .before .before in
+    let loading = raising .before .before .before .before .before in
+    raised (loading .before .before .before .before .before .before .args .image .now) (omega arith) _ _ _ _ _ _ _ _ (loading .load-state .ensures) _ _ (raising .raise-exceptions .ensures) _ (storing .store-state .ensures) _ (c .number-of .ensures)
 
 pub mmix-exceptions-spec : {M : Type 1} → statement M
-mmix-exceptions-spec = tie.close (tie.spec returns decode-requires raise-exceptions-requires encode-requires number-of-requires same-length returns-2)
+mmix-exceptions-spec =
+    tie.close
+    (tie.spec
+    returns
+    load-state-requires
+    raise-exceptions-requires
+    store-state-requires
+    number-of-requires
+    same-length
+    returns-2)

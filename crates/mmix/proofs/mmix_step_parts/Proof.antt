@@ -1,6 +1,6 @@
 -- `mmix_step_parts` meets its contract: it is the step in place, with the reply's number.
 use borrow.Author.Needs.{needs}
-use Rattle.mmix.proofs.Entries.{stepped-parts}
+use Rattle.mmix.proofs.Entries.{stepped-state}
 use Rattle.mmix.proofs.mmix_step_parts.Statement.{statement}
 use Rattle.mmix.proofs.mmix_step_parts.Tie as tie
 
@@ -14,7 +14,7 @@ same-length : tie.Need-same-length
 same-length c = search needs
 
 returns : tie.Need-returns
-returns c = stepped-parts _ _ _ _ _ _ _ _ _ (c .before .before .before .step .ensures) _ (c .number-of .ensures)
+returns c = stepped-state _ _ _ _ _ _ _ _ _ (c .before .before .before .step .ensures) _ (c .number-of .ensures)
 
 pub mmix-step-parts-spec : {M : Type 1} → statement M
 mmix-step-parts-spec = tie.close (tie.spec step-requires number-of-requires same-length returns)

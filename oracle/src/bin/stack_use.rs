@@ -1,0 +1,186 @@
+//! How deep each entry goes into its stack.
+//!
+//!     stack_use [CASES] [SEED]
+//!
+//! Threads with a stack of 64 KiB, painted before, run the entries on drawn cases (100,000 unless told); the lowest
+//! byte that was overwritten tells the depth. A thread that does the same but for the entry itself is taken off.
+//! The exit status is 1 if an entry uses more than half of such a stack.
+
+use std::ffi::{c_int, c_void};
+use std::process::ExitCode;
+use std::{env, ptr};
+
+use oracle::case::{Call, Case, Instruction};
+use oracle::reference::Reference;
+use oracle::rounds::{ROUND, round};
+use oracle::state::State;
+use oracle::subject::{Found, Parts, Subject, chosen};
+
+const STACK: usize = 64 * 1024;
+const MOST: usize = STACK / 2;
+const PAINT: u8 = 0xA7;
+/// Rounds of cases that one thread runs.
+const BATCH: u64 = 20;
+
+/// Room for a pthread_attr_t of any Linux.
+#[repr(C, align(16))]
+struct Attributes([u8; 128]);
+
+unsafe extern "C" {
+    fn pthread_attr_init(attributes: *mut Attributes) -> c_int;
+    fn pthread_attr_setstack(attributes: *mut Attributes, stack: *mut c_void, size: usize) -> c_int;
+    fn pthread_create(
+        thread: *mut usize,
+        attributes: *const Attributes,
+        start: extern "C" fn(*mut c_void) -> *mut c_void,
+        argument: *mut c_void,
+    ) -> c_int;
+    fn pthread_join(thread: usize, result: *mut *mut c_void) -> c_int;
+}
+
+/// Half of it is a thread's stack; the half below must stay painted.
+#[repr(align(4096))]
+struct Painted([u8; 2 * STACK]);
+
+impl Painted {
+    /// Run `work` on a thread of its own; how far down it overwrote the paint.
+    fn depth(&mut self, work: &mut Work) -> usize {
+        self.0.fill(PAINT);
+        // SAFETY: the stack and `work` outlive the thread, which is joined here.
+        unsafe {
+            let (mut attributes, mut thread) = (Attributes([0; 128]), 0);
+            let stack = self.0.as_mut_ptr().wrapping_add(STACK).cast();
+            let made = pthread_attr_init(&mut attributes) | pthread_attr_setstack(&mut attributes, stack, STACK);
+            let started = pthread_create(&mut thread, &attributes, start, ptr::from_mut(work).cast());
+            assert!(made == 0 && started == 0 && pthread_join(thread, ptr::null_mut()) == 0, "no thread");
+        }
+        let kept = self.0.iter().position(|byte| *byte != PAINT).expect("a thread uses its stack");
+        assert!(kept >= STACK, "a stack of {STACK} bytes is too small");
+        2 * STACK - kept
+    }
+}
+
+/// One entry on many cases, each with its buffers.
+struct Work<'a> {
+    subject: &'a dyn Subject,
+    entry: fn(&dyn Subject, &mut Lent),
+    cases: &'a mut [Lent],
+}
+
+struct Lent {
+    case: Case,
+    image: Vec<u8>,
+    state: State,
+    window: Vec<u8>,
+}
+
+impl Lent {
+    fn of(case: &Case) -> Self {
+        Self { image: case.image(), state: case.state.clone(), window: case.window.clone(), case: case.clone() }
+    }
+}
+
+extern "C" fn start(work: *mut c_void) -> *mut c_void {
+    // SAFETY: `depth` passes a Work that nothing else uses until the thread ends.
+    let work = unsafe { &mut *work.cast::<Work>() };
+    for lent in work.cases.iter_mut() {
+        (work.entry)(work.subject, lent);
+    }
+    ptr::null_mut()
+}
+
+/// Does nothing: what is left is the harness's own use.
+struct Nothing;
+
+impl Subject for Nothing {
+    fn name(&self) -> &'static str {
+        "nothing"
+    }
+    fn initialize(&self, _: &mut [u8]) -> u64 {
+        0
+    }
+    fn step(&self, _: u64, _: Instruction, _: &mut [u8], _: &mut [u8]) -> u64 {
+        0
+    }
+    fn exceptions(&self, _: u8, _: Instruction, _: u64, _: u64, _: &mut [u8]) -> u64 {
+        0
+    }
+    fn context(&self, _: u64, _: u64, _: &[u8], _: Found) -> u64 {
+        0
+    }
+    fn step_lent(&self, _: u64, _: Instruction, _: &mut State, _: &mut [u8]) -> u64 {
+        0
+    }
+    fn step_parts(&self, _: u64, _: Instruction, _: Parts, _: &mut [u8]) -> u64 {
+        0
+    }
+}
+
+type Entry = fn(&dyn Subject, &mut Lent);
+
+/// The entries by name; each takes the cases that are its own.
+const ENTRIES: [(&str, Entry); 6] = [
+    ("mmix_initialize", |subject, lent| {
+        if let Call::Initialize = lent.case.call {
+            subject.initialize(&mut lent.image);
+        }
+    }),
+    ("mmix_step", |subject, lent| {
+        if let Call::Step(i) = lent.case.call {
+            subject.step(lent.case.base, i, &mut lent.image, &mut lent.window);
+        }
+    }),
+    ("mmix_exceptions", |subject, lent| {
+        if let Call::Exceptions { flags, of, y_val, z_val } = lent.case.call {
+            subject.exceptions(flags, of, y_val, z_val, &mut lent.image);
+        }
+    }),
+    ("mmix_context", |subject, lent| {
+        if let Call::Context { address } = lent.case.call {
+            let (mut start, mut length) = (0, 0);
+            let found = Found { start: &mut start, length: &mut length };
+            subject.context(lent.case.base, address, &lent.window, found);
+        }
+    }),
+    ("mmix_step_lent", |subject, lent| {
+        if let Call::Step(i) = lent.case.call {
+            subject.step_lent(lent.case.base, i, &mut lent.state, &mut lent.window);
+        }
+    }),
+    ("mmix_step_parts", |subject, lent| {
+        if let Call::Step(i) = lent.case.call {
+            subject.step_parts(lent.case.base, i, (&mut lent.state).into(), &mut lent.window);
+        }
+    }),
+];
+
+/// The depth of each entry over one batch of rounds, the harness's own taken off.
+fn depths(painted: &mut Painted, reference: &mut Reference, seed: u64, batch: u64) -> [usize; ENTRIES.len()] {
+    let mut cases = Vec::new();
+    for number in BATCH * batch..BATCH * (batch + 1) {
+        round(seed, number, &mut |case| {
+            cases.push(case.clone());
+            reference.answer(case).ok()
+        });
+    }
+    let mut deep = |subject: &dyn Subject, entry| {
+        let mut cases: Vec<Lent> = cases.iter().map(Lent::of).collect();
+        painted.depth(&mut Work { subject, entry, cases: &mut cases })
+    };
+    ENTRIES.map(|(_, entry)| deep(&chosen(), entry).saturating_sub(deep(&Nothing, entry)))
+}
+
+fn main() -> ExitCode {
+    let number = |k, otherwise: u64| env::args().nth(k).map_or(otherwise, |text| text.parse().expect("a number"));
+    let (cases, seed) = (number(1, 100_000), number(2, 2009));
+    let batches = cases.div_ceil(BATCH * ROUND);
+    let (mut painted, mut reference) = (Box::new(Painted([0; 2 * STACK])), Reference::new());
+    let mut most = [0; ENTRIES.len()];
+    for batch in 0..batches {
+        let depths = depths(&mut painted, &mut reference, seed, batch);
+        most.iter_mut().zip(depths).for_each(|(most, depth)| *most = depth.max(*most));
+    }
+    println!("bytes of stack, {} cases, seed {seed}; subject: {}", batches * BATCH * ROUND, chosen().name());
+    ENTRIES.iter().zip(&most).for_each(|((name, _), most)| println!("{name:<18}{most:>8}"));
+    if most.iter().all(|most| *most <= MOST) { ExitCode::SUCCESS } else { ExitCode::FAILURE }
+}

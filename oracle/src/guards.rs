@@ -1,0 +1,242 @@
+//! A subject whose every buffer stands in a place of its own, so that a byte touched outside it is seen: between
+//! pages that can't be touched, flush against the one after it or, in turn, the one before it, with a canary on the
+//! other side; or in an allocation of exactly its size, for valgrind.
+
+use std::alloc::{self, Layout};
+use std::cell::{Cell, RefCell};
+use std::ffi::{c_int, c_void};
+use std::{process, ptr, slice};
+
+use crate::case::{Case, Instruction};
+use crate::state::{IMAGE_LEN, State, WINDOW_MAX};
+use crate::subject::{Found, Parts, Subject};
+
+unsafe extern "C" {
+    fn mmap(at: *mut c_void, len: usize, protection: c_int, flags: c_int, file: c_int, offset: i64) -> *mut c_void;
+    fn mprotect(at: *mut c_void, len: usize, protection: c_int) -> c_int;
+    fn munmap(at: *mut c_void, len: usize) -> c_int;
+    fn signal(number: c_int, handler: extern "C" fn(c_int)) -> usize;
+}
+
+const PROT_NONE: c_int = 0;
+const PROT_READ_WRITE: c_int = 3;
+const MAP_PRIVATE_ANONYMOUS: c_int = 0x22;
+const SIGSEGV: c_int = 11;
+
+const PAGE: usize = 4096;
+const CANARY: u8 = 0xC5;
+
+/// How buffers are guarded.
+#[derive(Clone, Copy, PartialEq, Eq, Debug)]
+pub enum Guard {
+    Pages,
+    Heap,
+}
+
+/// Pages that may be touched between two that may not. All bytes are canaries while nothing stands here.
+struct Area {
+    start: *mut u8,
+    len: usize,
+}
+
+impl Area {
+    fn new(len: usize) -> Self {
+        let len = len.next_multiple_of(PAGE);
+        // SAFETY: a new mapping, of which the part that is opened lies between its first and its last page.
+        unsafe {
+            let all = mmap(ptr::null_mut(), len + 2 * PAGE, PROT_NONE, MAP_PRIVATE_ANONYMOUS, -1, 0);
+            let start = all.cast::<u8>().wrapping_add(PAGE);
+            let opened = mprotect(start.cast(), len, PROT_READ_WRITE);
+            assert_eq!(opened, 0, "no memory between guard pages, or pages are not of {PAGE} bytes");
+            start.write_bytes(CANARY, len);
+            Self { start, len }
+        }
+    }
+
+    /// Where `len` bytes stand, flush against an end.
+    fn place(&self, len: usize, at_end: bool) -> *mut u8 {
+        self.start.wrapping_add(if at_end { self.len - len } else { 0 })
+    }
+
+    /// Put the canaries back over `len` bytes; whether all others are as they were.
+    fn clear(&mut self, at: *mut u8, len: usize) -> bool {
+        // SAFETY: `at` and `len` lie in the area, and no reference into it is left.
+        let bytes = unsafe {
+            at.write_bytes(CANARY, len);
+            slice::from_raw_parts(self.start, self.len)
+        };
+        let whole = bytes.as_chunks::<PAGE>().0.iter().all(|page| page == &[CANARY; PAGE]);
+        if !whole {
+            unsafe { self.start.write_bytes(CANARY, self.len) };
+        }
+        whole
+    }
+}
+
+impl Drop for Area {
+    fn drop(&mut self) {
+        // SAFETY: the mapping made by `new`, to which no reference is left.
+        unsafe { munmap(self.start.wrapping_sub(PAGE).cast(), self.len + 2 * PAGE) };
+    }
+}
+
+/// What stands in octabytes and may hold any bytes.
+trait Plain {}
+impl Plain for State {}
+impl Plain for [u64; 256] {}
+impl Plain for [u64; 32] {}
+impl Plain for u64 {}
+impl Plain for usize {}
+
+fn bytes_of<T: Plain>(value: &mut T) -> &mut [u8] {
+    // SAFETY: a plain value without padding, as bytes.
+    unsafe { slice::from_raw_parts_mut(ptr::from_mut(value).cast(), size_of::<T>()) }
+}
+
+fn of_bytes<T: Plain>(bytes: &mut [u8]) -> &mut T {
+    assert!(bytes.len() == size_of::<T>() && bytes.as_ptr().cast::<T>().is_aligned());
+    // SAFETY: size and alignment are right, and any bytes are such a value.
+    unsafe { &mut *bytes.as_mut_ptr().cast() }
+}
+
+pub struct Guarded {
+    subject: Box<dyn Subject>,
+    guard: Guard,
+    /// Short areas first.
+    areas: RefCell<Vec<Area>>,
+    at_end: Cell<bool>,
+}
+
+impl Guarded {
+    pub fn new(subject: Box<dyn Subject>, guard: Guard) -> Self {
+        let areas = match guard {
+            Guard::Pages => [2 * IMAGE_LEN; 5].into_iter().chain([WINDOW_MAX + 2 * PAGE]).map(Area::new).collect(),
+            Guard::Heap => Vec::new(),
+        };
+        Self { subject, guard, areas: RefCell::new(areas), at_end: Cell::new(false) }
+    }
+
+    /// Copy the buffers to guarded places, call, and copy them back.
+    fn call<const N: usize>(&self, buffers: [&mut [u8]; N], call: impl FnOnce([&mut [u8]; N]) -> u64) -> u64 {
+        match self.guard {
+            Guard::Pages => self.between_pages(buffers, call),
+            Guard::Heap => on_the_heap(buffers, call),
+        }
+    }
+
+    fn between_pages<const N: usize>(
+        &self,
+        mut buffers: [&mut [u8]; N],
+        call: impl FnOnce([&mut [u8]; N]) -> u64,
+    ) -> u64 {
+        let mut areas = self.areas.borrow_mut();
+        let at_end = !self.at_end.get();
+        self.at_end.set(at_end);
+        let mut used = [0; N];
+        for k in 0..N {
+            let fits = |a: &usize| !used[..k].contains(a) && buffers[k].len() <= areas[*a].len;
+            used[k] = (0..areas.len()).find(fits).expect("an area that is free and long enough");
+        }
+        let places: [*mut u8; N] = std::array::from_fn(|k| areas[used[k]].place(buffers[k].len(), at_end));
+        let reply = lend(&mut buffers, places, call);
+        for k in 0..N {
+            if !areas[used[k]].clear(places[k], buffers[k].len()) {
+                return WROTE_OUTSIDE;
+            }
+        }
+        reply
+    }
+}
+
+/// The reply of a call that wrote a byte outside its buffers: none of 01's.
+pub const WROTE_OUTSIDE: u64 = u64::MAX;
+
+/// Each buffer in an allocation of exactly its size.
+fn on_the_heap<const N: usize>(mut buffers: [&mut [u8]; N], call: impl FnOnce([&mut [u8]; N]) -> u64) -> u64 {
+    let layouts = buffers.each_ref().map(|b| Layout::from_size_align(b.len().max(1), 8).unwrap());
+    // SAFETY: no layout is of size 0, and what is freed was allocated with the same layout.
+    let places = layouts.map(|layout| unsafe { alloc::alloc(layout) });
+    let reply = lend(&mut buffers, places, call);
+    places.iter().zip(layouts).for_each(|(at, layout)| unsafe { alloc::dealloc(*at, layout) });
+    reply
+}
+
+/// Call with the buffers' bytes at `places`, and copy them back.
+fn lend<const N: usize>(
+    buffers: &mut [&mut [u8]; N],
+    places: [*mut u8; N],
+    call: impl FnOnce([&mut [u8]; N]) -> u64,
+) -> u64 {
+    // SAFETY: the places are apart, each has room for its buffer, and nothing else refers to them.
+    let lent = |k: usize| unsafe { slice::from_raw_parts_mut(places[k], buffers[k].len()) };
+    (0..N).for_each(|k| unsafe { ptr::copy_nonoverlapping(buffers[k].as_ptr(), places[k], buffers[k].len()) });
+    let reply = call(std::array::from_fn(lent));
+    (0..N).for_each(|k| unsafe { ptr::copy_nonoverlapping(places[k], buffers[k].as_mut_ptr(), buffers[k].len()) });
+    reply
+}
+
+impl Subject for Guarded {
+    fn name(&self) -> &'static str {
+        self.subject.name()
+    }
+
+    fn initialize(&self, image: &mut [u8]) -> u64 {
+        self.call([image], |[image]| self.subject.initialize(image))
+    }
+
+    fn step(&self, base: u64, i: Instruction, image: &mut [u8], window: &mut [u8]) -> u64 {
+        self.call([image, window], |[image, window]| self.subject.step(base, i, image, window))
+    }
+
+    fn exceptions(&self, flags: u8, of: Instruction, y_val: u64, z_val: u64, image: &mut [u8]) -> u64 {
+        self.call([image], |[image]| self.subject.exceptions(flags, of, y_val, z_val, image))
+    }
+
+    fn context(&self, base: u64, address: u64, window: &[u8], found: Found) -> u64 {
+        let mut copy = window.to_vec();
+        let buffers = [bytes_of(found.start), bytes_of(found.length), &mut copy];
+        let reply = self.call(buffers, |[start, length, window]| {
+            let found = Found { start: of_bytes(start), length: of_bytes(length) };
+            self.subject.context(base, address, window, found)
+        });
+        if copy == window { reply } else { WROTE_OUTSIDE }
+    }
+
+    fn step_lent(&self, base: u64, i: Instruction, state: &mut State, window: &mut [u8]) -> u64 {
+        self.call([bytes_of(state), window], |[state, window]| self.subject.step_lent(base, i, of_bytes(state), window))
+    }
+
+    fn step_parts(&self, base: u64, i: Instruction, parts: Parts, window: &mut [u8]) -> u64 {
+        let Parts { general, special, pc, halt, marks } = parts;
+        let buffers = [bytes_of(general), bytes_of(special), bytes_of(pc), bytes_of(halt), window];
+        self.call(buffers, |[general, special, pc, halt, window]| {
+            let (general, special) = (of_bytes(general), of_bytes(special));
+            let parts = Parts { general, special, pc: of_bytes(pc), halt: of_bytes(halt), marks };
+            self.subject.step_parts(base, i, parts, window)
+        })
+    }
+}
+
+thread_local! {
+    static CASE: Cell<*const Case> = const { Cell::new(ptr::null()) };
+}
+
+/// Where a page is touched that may not be, print the case that this thread is at and end with status 1.
+pub fn report_faults() {
+    // SAFETY: the handler ends the process.
+    unsafe { signal(SIGSEGV, at_fault) };
+}
+
+/// Name the case that comes next.
+pub fn at_case(case: &Case) {
+    CASE.set(case);
+}
+
+extern "C" fn at_fault(_signal: c_int) {
+    // SAFETY: the case named last is the one that is being compared, and it is compared by reference.
+    match unsafe { CASE.get().as_ref() } {
+        Some(case) => println!("DIFFERS: a byte outside is touched\n{case}"),
+        None => println!("DIFFERS: a byte outside is touched"),
+    }
+    process::exit(1);
+}

@@ -1,0 +1,82 @@
+//! The guards see what they are for: a byte written beside a buffer, and pages that can't be touched.
+
+use std::ffi::{c_int, c_void};
+use std::fs::File;
+use std::os::fd::AsRawFd;
+
+use oracle::case::Instruction;
+use oracle::guards::{Guard, Guarded, WROTE_OUTSIDE};
+use oracle::state::{IMAGE_LEN, State};
+use oracle::subject::{Found, Parts, Subject};
+
+unsafe extern "C" {
+    fn write(file: c_int, bytes: *const c_void, count: usize) -> isize;
+}
+
+/// Whether a byte may be read: the system refuses to copy one that may not.
+fn readable(address: *const u8) -> bool {
+    let name = std::env::temp_dir().join(format!("guards-{}-{:?}", std::process::id(), std::thread::current().id()));
+    let file = File::create(&name).expect("a file");
+    // SAFETY: the system checks the address.
+    let written = unsafe { write(file.as_raw_fd(), address.cast(), 1) };
+    std::fs::remove_file(name).expect("the file that was made");
+    written == 1
+}
+
+/// Writes one byte after the image, or before it; or tells whether the bytes there may be read.
+enum Probe {
+    WriteAfter,
+    WriteBefore,
+    ReadAround,
+}
+
+impl Subject for Probe {
+    fn name(&self) -> &'static str {
+        "probe"
+    }
+    fn initialize(&self, image: &mut [u8]) -> u64 {
+        let (before, after) = (image.as_mut_ptr().wrapping_sub(1), image.as_mut_ptr().wrapping_add(image.len()));
+        // SAFETY: none; the guarded places are such that these bytes may be written or are not.
+        unsafe {
+            match self {
+                Probe::WriteAfter if readable(after) => *after = 1,
+                Probe::WriteBefore if readable(before) => *before = 1,
+                _ => {}
+            }
+        }
+        2 * readable(before) as u64 + readable(after) as u64
+    }
+    fn step(&self, _: u64, _: Instruction, _: &mut [u8], _: &mut [u8]) -> u64 {
+        0
+    }
+    fn exceptions(&self, _: u8, _: Instruction, _: u64, _: u64, _: &mut [u8]) -> u64 {
+        0
+    }
+    fn context(&self, _: u64, _: u64, _: &[u8], _: Found) -> u64 {
+        0
+    }
+    fn step_lent(&self, _: u64, _: Instruction, _: &mut State, _: &mut [u8]) -> u64 {
+        0
+    }
+    fn step_parts(&self, _: u64, _: Instruction, _: Parts, _: &mut [u8]) -> u64 {
+        0
+    }
+}
+
+/// Two calls in turn: flush against the page after the buffer, then against the one before it.
+fn twice(probe: Probe) -> [u64; 2] {
+    let guarded = Guarded::new(Box::new(probe), Guard::Pages);
+    let mut image = vec![0; IMAGE_LEN];
+    [guarded.initialize(&mut image), guarded.initialize(&mut image)]
+}
+
+#[test]
+fn pages_beside_a_buffer_cannot_be_touched() {
+    assert_eq!(twice(Probe::ReadAround), [2, 1]);
+}
+
+#[test]
+fn canaries_see_a_byte_written() {
+    assert_eq!(twice(Probe::WriteAfter), [2, WROTE_OUTSIDE]);
+    assert_eq!(twice(Probe::WriteBefore), [WROTE_OUTSIDE, 1]);
+}

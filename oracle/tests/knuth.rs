@@ -1,0 +1,177 @@
+//! Figures of Knuth's texts for the register stack and for SAVE, on the Rust and on the subjects. Each names its
+//! place in mmix-doc (MMIXware, "Definition of MMIX"), whose words are given as we know them; Fascicle 1 has the
+//! same rules in sections 1.3.1' and 1.4.1'.
+
+mod common;
+
+use common::{special, start, step};
+use oracle::case::Case;
+use oracle::opcodes::*;
+use oracle::state::*;
+
+/// A routine with its locals, rG 32, in the middle of things: PC is 0x1000.
+fn routine(locals: &[u64]) -> Case {
+    let mut case = start();
+    case.state.general[..locals.len()].copy_from_slice(locals);
+    case.state.special[RL] = locals.len() as u64;
+    case.state.pc = 0x1000;
+    case
+}
+
+fn done(case: &mut Case, op: u8, x: u8, y: u8, z: u8) {
+    assert_eq!(step(case, op, x, y, z).reply, 0);
+}
+
+/// $x gets a value that a special register has: the loads of the whole machine are not here.
+fn set(case: &mut Case, x: u8, value: u64) {
+    case.state.special[RD] = value;
+    done(case, GET, x, 0, RD as u8);
+}
+
+fn locals(case: &Case) -> &[u64] {
+    &case.state.general[..special(case, RL) as usize]
+}
+
+/// POP: "suppose that a subroutine has three input parameters ($0,$1,$2) and produces two outputs ($0,$1) ... it
+/// should begin by saving rJ, for example with the instruction `GET $4,rJ` if it will be using local registers $0
+/// through $3, and it should use `PUSHJ $5` or `PUSHGO $5` when calling sub-subroutines; finally it should
+/// `PUT rJ,$4` before saying `POP 2,0`. To call the subroutine from another routine that has, say, 6 local
+/// registers, we would put the input arguments into $7, $8, and $9, then issue the command `PUSHGO $6,base,Subr`;
+/// in due time the outputs of the subroutine will appear in $7 and $6."
+#[test]
+fn outputs_appear_in_7_and_6() {
+    let mut case = routine(&[10, 11, 12, 13, 14, 15, 0, 70, 80, 90]);
+    case.state.general[254] = 0x2000;
+    done(&mut case, PUSHGOI, 6, 254, 0x40);
+    assert_eq!((case.state.pc, special(&case, RJ)), (0x2040, 0x1004));
+    assert_eq!(locals(&case), [70, 80, 90]);
+
+    set(&mut case, 3, 33);
+    done(&mut case, GET, 4, 0, RJ as u8);
+    done(&mut case, PUSHJ, 5, 0, 9);
+    assert_eq!(locals(&case), [0; 0]);
+    done(&mut case, POP, 0, 0, 0);
+    assert_eq!(locals(&case), [70, 80, 90, 33, 0x1004]);
+
+    set(&mut case, 0, 100);
+    set(&mut case, 1, 101);
+    done(&mut case, PUT, RJ as u8, 0, 4);
+    done(&mut case, POP, 2, 0, 0);
+    assert_eq!(case.state.pc, 0x1004);
+    assert_eq!(locals(&case), [10, 11, 12, 13, 14, 15, 101, 100]);
+}
+
+/// POP: "A subroutine with no outputs ends with `POP 0,0` and the hole disappears (becomes marginal). A subroutine
+/// with one output $0 ends with `POP 1,0` and the hole gets the former value of $0. A subroutine with two outputs
+/// ($0,$1) ends with `POP 2,0` and the hole gets the former value of $1 ... If a subroutine has, say, five outputs
+/// ($0,...,$4), it ends with `POP 5,0` and $4 goes into the hole position, where it is followed by ($0,$1,$2,$3)."
+#[test]
+fn the_hole_gets_the_last_output() {
+    let after = |outputs: u8| {
+        let mut case = routine(&[10, 11]);
+        done(&mut case, PUSHJ, 2, 0, 5);
+        (0..5).for_each(|k| set(&mut case, k, 100 + k as u64));
+        done(&mut case, POP, outputs, 0, 0);
+        assert_eq!(case.state.general[special(&case, RL) as usize..32], [0; 32][special(&case, RL) as usize..]);
+        locals(&case).to_vec()
+    };
+    assert_eq!(after(0), [10, 11]);
+    assert_eq!(after(1), [10, 11, 100]);
+    assert_eq!(after(2), [10, 11, 101, 100]);
+    assert_eq!(after(5), [10, 11, 104, 100, 101, 102, 103]);
+}
+
+/// POP: "there is good use for subroutines that convert a sequence of register contents like (x,a,b,c) into (f,a,b,c)
+/// where f is a function of a, b, and c but not x."
+#[test]
+fn x_a_b_c_becomes_f_a_b_c() {
+    let (x, a, b, c, f) = (1, 2, 3, 4, 5);
+    let mut case = routine(&[9, x, a, b, c]);
+    done(&mut case, PUSHJ, 1, 0, 5);
+    assert_eq!(locals(&case), [a, b, c]);
+    set(&mut case, 3, f);
+    done(&mut case, POP, 4, 0, 0);
+    assert_eq!(locals(&case), [9, f, a, b, c]);
+}
+
+/// POP returns to M[4YZ + rJ]: with YZ = 1 one instruction is skipped.
+#[test]
+fn pop_may_skip() {
+    let mut case = routine(&[]);
+    done(&mut case, PUSHJ, 0, 0, 5);
+    done(&mut case, POP, 0, 0, 1);
+    assert_eq!(case.state.pc, 0x1008);
+}
+
+/// PUSHJ with X ≥ rG pushes all local registers down, as X = rL would.
+#[test]
+fn push_of_a_global_pushes_all_locals() {
+    let mut case = routine(&[10, 11, 12]);
+    let mut other = case.clone();
+    done(&mut case, PUSHJ, 255, 0, 5);
+    done(&mut other, PUSHJ, 3, 0, 5);
+    assert_eq!((case.state, case.window), (other.state, other.window));
+}
+
+/// "Registers": a marginal register that is set becomes local, and rL grows to include it; those that become local
+/// with it are zero. rL can be made smaller by PUT, never larger.
+#[test]
+fn marginal_registers_become_local() {
+    let mut case = routine(&[10, 11]);
+    set(&mut case, 4, 44);
+    assert_eq!(locals(&case), [10, 11, 0, 0, 44]);
+    done(&mut case, PUTI, RL as u8, 0, 9);
+    assert_eq!(special(&case, RL), 5);
+    done(&mut case, PUTI, RL as u8, 0, 1);
+    assert_eq!(locals(&case), [10]);
+    set(&mut case, 4, 55);
+    assert_eq!(locals(&case), [10, 0, 0, 0, 55]);
+}
+
+/// The stack of registers in memory: $0 of the current routine belongs to address rO, so that a push leaves
+/// $0, ..., $(X−1) and the hole X below it.
+#[test]
+fn pushed_registers_lie_below_ro() {
+    let mut case = routine(&[10, 11, 12, 13]);
+    done(&mut case, PUSHJ, 2, 0, 5);
+    done(&mut case, PUSHJ, 0, 0, 5);
+    let stored: Vec<u64> = case.window.chunks_exact(8).take(4).map(octabyte).collect();
+    assert_eq!(stored, [10, 11, 2, 0]);
+    assert_eq!(special(&case, RO), STACK_START + 32);
+}
+
+/// SAVE: "First the current local registers $0, $1, ..., $(L−1) are pushed down as in `PUSHGO $255`, and L is set to
+/// zero. Then the current global registers $G, $(G+1), ..., $255 are placed above them in the register stack; finally
+/// rB, rD, rE, rH, rJ, rM, rR, rP, rW, rX, rY, and rZ are placed at the very top, followed by registers rG and rA
+/// packed into eight bytes [rG in the high byte, rA in the low half]. The address of the topmost octabyte is then
+/// placed in register $X, which must be a global register ... Immediately after a SAVE the values of rO and rS are
+/// equal to the location of the first byte following the stack just saved."
+#[test]
+fn save_stores_in_this_order() {
+    let mut case = routine(&[10, 11, 12]);
+    case.state.special[RG] = 250;
+    (250..256).for_each(|k| case.state.general[k] = 1000 + k as u64);
+    let order = [RB, RD, RE, RH, RJ, RM, RR, RP, RW, RX, RY, RZ];
+    order.iter().for_each(|r| case.state.special[*r] = 2000 + *r as u64);
+    case.state.special[RA] = 0x2_1234;
+    let before = case.state.clone();
+
+    done(&mut case, SAVE, 255, 0, 0);
+    let mut expected = vec![10, 11, 12, 3];
+    expected.extend((250..256).map(|k| 1000 + k));
+    expected.extend(order.map(|r| 2000 + r as u64));
+    expected.push(250 << 56 | 0x2_1234);
+    let stored: Vec<u64> = case.window.chunks_exact(8).take(expected.len()).map(octabyte).collect();
+    assert_eq!(stored, expected);
+    let top = STACK_START + 8 * (expected.len() as u64 - 1);
+    assert_eq!((case.state.general[255], special(&case, RL)), (top, 0));
+    assert_eq!((special(&case, RO), special(&case, RS)), (top + 8, top + 8));
+
+    case.state.general[254] = case.state.general[255];
+    order.iter().for_each(|r| case.state.special[*r] = 0);
+    done(&mut case, UNSAVE, 0, 0, 254);
+    assert_eq!(special(&case, RO), special(&case, RS));
+    let (now, then) = (&case.state, &before);
+    assert_eq!((now.general, special(&case, RL), special(&case, RG)), (then.general, 3, 250));
+    assert!(order.iter().chain(&[RA, RO]).all(|r| now.special[*r] == then.special[*r]));
+}
