@@ -14,12 +14,13 @@ export MMIX_LIB_DIR := $(abspath $(LIB_DIR))
 RATTLE = crates.txt $(shell find crates -name '*.rt' -o -name '*.antt')
 HOST_FLAGS = -O2 -std=c99 -Wall -Wextra -Werror
 
-.PHONY: help test prove lib host host-test oracle oracle-test differential guards mutants speed replay-list clean need-rt need-gcc
+.PHONY: help test prove lib install host host-test oracle oracle-test differential guards mutants speed replay-list clean need-rt need-gcc
 
 help:
 	@echo 'make test                    the gate: the library, the host, the comparison with the Rust, then all proofs and must-fail edits'
 	@echo 'make lib                     build/libmmix.a and build/mmix.h, proved'
 	@echo 'make host                    build and run examples/relay_host.c'
+	@echo 'make install PREFIX=dir      libmmix.a, mmix.h and mmix.pc under dir (/usr/local)'
 	@echo 'make prove                   prove every crate, from what is proved already'
 	@echo 'make differential CASES=n    run n cases on the Rust and beside it; SEED=s for others'
 	@echo 'make guards                  the same with every buffer between guards, and under valgrind'
@@ -35,6 +36,7 @@ need-gcc:
 	@command -v gcc >/dev/null 2>&1 || { echo 'gcc is not on the PATH: install the package gcc' >&2; exit 1; }
 
 test: need-rt host-test oracle-test differential
+	@docs/check_traceability
 	@rt ci
 
 prove: need-rt
@@ -64,6 +66,13 @@ host: need-rt need-gcc build/relay_host
 host-test: need-rt need-gcc build/relay_host
 	@build/relay_host | diff examples/relay_host.out - && echo 'relay_host: prints what it should'
 	@if command -v g++ >/dev/null 2>&1; then echo '#include "mmix.h"' | g++ -Wall -Wextra -Werror -Iinclude -fsyntax-only -x c++ -; fi
+
+install: lib
+	@install -D -m 644 build/libmmix.a '$(DESTDIR)$(PREFIX)/lib/libmmix.a'
+	@install -D -m 644 build/mmix.h '$(DESTDIR)$(PREFIX)/include/mmix.h'
+	@mkdir -p '$(DESTDIR)$(PREFIX)/lib/pkgconfig'
+	@sed 's|@PREFIX@|$(abspath $(PREFIX))|' include/mmix.pc.in > '$(DESTDIR)$(PREFIX)/lib/pkgconfig/mmix.pc'
+	@echo 'libmmix.a, mmix.h and mmix.pc are under $(DESTDIR)$(PREFIX)'
 
 # ---- the Rust beside it
 
