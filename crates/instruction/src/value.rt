@@ -1,5 +1,7 @@
 // One step and one exception on a state by value.
+ghost use mathlib.Core.Path.{_≡_};
 ghost use Rattle.model.specs.Step.{stepOf, exceptionOf};
+ghost use Rattle.model.specs.Numbers.{numberOf};
 ghost use Rattle.model.specs.Parts.{lent};
 ghost use Rattle.instruction.specs.Told.{Told};
 ghost use Rattle.instruction.specs.Whole.{Whole};
@@ -10,6 +12,35 @@ use model::State;
 pub struct Outcome {
     pub reply: Reply,
     pub state: State,
+}
+
+/// The number of a reply.
+pub fn number_of(reply: Reply) -> u64
+    ensures { λ r. ⌜ r ≡ numberOf reply ⌝ }
+{
+    match reply {
+        Reply::Done => 0,
+        Reply::NotAdmissible => 1,
+        Reply::WindowRule => 2,
+        Reply::NoArm => 3,
+        Reply::NamedTrap => 4,
+        Reply::NoSpecial => 5,
+        Reply::Missing => 6,
+        Reply::PutUnknown => 7,
+        Reply::PutPrivileged => 8,
+        Reply::PutIllegal => 9,
+        Reply::PutThreshold => 10,
+        Reply::PutStatus => 11,
+        Reply::Misplaced => 12,
+        Reply::SaveLocal => 13,
+        Reply::SavedThreshold => 14,
+        Reply::SavedStatus => 15,
+        Reply::SavedCount => 16,
+        Reply::SyncPrivileged => 17,
+        Reply::SyncIllegal => 18,
+        Reply::NotLoaded => 19,
+        Reply::Trapped => 20,
+    }
 }
 
 pub fn raise_exceptions(

@@ -2,12 +2,10 @@
 
 ghost use mathlib.Core.Path.{_≡_};
 ghost use Prim.Native.Nat.{ℕ};
-ghost use Rattle.model.specs.Numbers.{numberOf};
 ghost use Rattle.model.specs.Parts.{made, lent};
 ghost use Rattle.mmix.specs.Entries.{Initialized, Stepped, SteppedState, Raised, ContextAt};
 use image::IMAGE_LEN;
 use image::Rest;
-use model::Reply;
 use model::State;
 
 pub mod image;
@@ -16,35 +14,6 @@ pub mod image;
 pub struct Answer {
     pub reply: u64,
     pub state: State,
-}
-
-/// The number of a reply.
-pub fn number_of(reply: Reply) -> u64
-    ensures { λ r. ⌜ r ≡ numberOf reply ⌝ }
-{
-    match reply {
-        Reply::Done => 0,
-        Reply::NotAdmissible => 1,
-        Reply::WindowRule => 2,
-        Reply::NoArm => 3,
-        Reply::NamedTrap => 4,
-        Reply::NoSpecial => 5,
-        Reply::Missing => 6,
-        Reply::PutUnknown => 7,
-        Reply::PutPrivileged => 8,
-        Reply::PutIllegal => 9,
-        Reply::PutThreshold => 10,
-        Reply::PutStatus => 11,
-        Reply::Misplaced => 12,
-        Reply::SaveLocal => 13,
-        Reply::SavedThreshold => 14,
-        Reply::SavedStatus => 15,
-        Reply::SavedCount => 16,
-        Reply::SyncPrivileged => 17,
-        Reply::SyncIllegal => 18,
-        Reply::NotLoaded => 19,
-        Reply::Trapped => 20,
-    }
 }
 
 /// The image becomes that of the fresh state; 1 where it is not 2,328 bytes long.
@@ -190,7 +159,7 @@ pub extern "C" fn mmix_exceptions(
         z_val,
     );
     image::store_state(&mut *image, &general, &special, Rest { pc, halt, marks });
-    number_of(reply)
+    instruction::value::number_of(reply)
 }
 
 /// One step in place on the parts of a state, for a host that steps millions of times.
@@ -223,7 +192,7 @@ pub extern "C" fn mmix_step_parts(
         y,
         z,
     );
-    number_of(reply)
+    instruction::value::number_of(reply)
 }
 
 /// Where the context saved at `address` lies in the window: its first byte's index and its length, both 0 where it is refused.

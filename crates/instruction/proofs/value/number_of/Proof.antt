@@ -2,8 +2,8 @@
 use mathlib.Core.Path.{sym, ap}
 use borrow.Author.Needs.{needs}
 use Rattle.model.specs.Numbers.{numberOf}
-use Rattle.mmix.proofs.number_of.Statement.{statement}
-use Rattle.mmix.proofs.number_of.Tie as tie
+use Rattle.instruction.proofs.value.number_of.Statement.{statement}
+use Rattle.instruction.proofs.value.number_of.Tie as tie
 
 enum-told : tie.Need-enum-told
 enum-told c = search needs

@@ -1,0 +1,21 @@
+-- 01's sample script, carried through the definitions by one result that antt computes.
+use mathlib.Core.Path.{refl}
+use Rattle.model.specs.Fill.{over, indexed, within, tab}
+use Rattle.model.specs.Octa.{octa, part, written, valueOf, bytesOf}
+use Rattle.model.specs.Registers.{admissible, fresh, goes, withSpecial, cleared, claimLocal, stored, setRegister, spilled}
+use Rattle.model.specs.Memory.{shapeOf, ruled, offset, has, octaBytes, writeOcta, one}
+use Rattle.model.specs.Plan.{worst, named, look, looks, puts, perform}
+use Rattle.model.specs.Opcodes.{conditionOf, armOf}
+use Rattle.model.specs.Said.{tell}
+use Rattle.model.specs.Control.{targetOf}
+use Rattle.model.specs.Frames.{hole, framed, slid, slide, pushedRule, pushed, pushFrame, countOf, lastOutput, restored, unslide, popped, popTo, popRule, noFrame, misplaced, popFrame}
+use Rattle.model.specs.Step.{refusalOf, judged, refusing, planOf, stepPlan, stepOf}
+use Rattle.model.specs.Bench.{start}
+use Rattle.script.specs.Codes.{codes}
+use Rattle.script.specs.Text.{glyph, numeral, filled}
+use Rattle.script.specs.Line.{registerLine, specialLine, stepLine, digitOf, digitsAt, isNumber, numberOf, matched, registerForm, specialForm, stepForm, lineOf}
+use Rattle.script.specs.Script.{doneLine, refusedLine, badLine, stepText, badText, turnOf, pieces, carried, window, printed, sample, sampleText, SamplePrinted}
+
+pub sample-printed : SamplePrinted
+unfolding over indexed within tab octa part written valueOf bytesOf admissible fresh goes withSpecial cleared claimLocal stored setRegister spilled shapeOf ruled offset has octaBytes writeOcta one worst named look looks puts perform conditionOf armOf tell targetOf hole framed slid slide pushedRule pushed pushFrame countOf lastOutput restored unslide popped popTo popRule noFrame misplaced popFrame refusalOf judged refusing planOf stepPlan stepOf start codes glyph numeral filled registerLine specialLine stepLine digitOf digitsAt isNumber numberOf matched registerForm specialForm stepForm lineOf doneLine refusedLine badLine stepText badText turnOf pieces carried window printed sample sampleText
+sample-printed = refl

@@ -1,0 +1,51 @@
+-- `run` meets its contract: it starts in the start and the window of the definition.
+use mathlib.Core.Path.{refl}
+use borrow.Author.Needs.{needs}
+use Rattle.script.specs.Script.{window}
+use Rattle.script.proofs.Carries.{start-is, prints-long, prints-carried}
+use Rattle.script.proofs.script.run.Statement.{statement}
+use Rattle.script.proofs.script.run.Tie as tie
+
+put-bad-requires : tie.Need-put-bad-requires
+put-bad-requires c κs = search needs
+
+same-length : tie.Need-same-length
+same-length c = search needs
+
+returns : tie.Need-returns
+returns c =
+    let printing = c .before .before in
+    prints-long (printing .before .before .before .before .before .args .script .now) _ _ _ (printing .before .before .if1 .taken) (printing .put-bad .ensures)
+
+initialize-requires : tie.Need-initialize-requires
+initialize-requires c κs = search needs
+
+slice-aggregate-carry : tie.Need-slice-aggregate-carry
+slice-aggregate-carry c = search needs
+
+carry-requires : tie.Need-carry-requires
+carry-requires c κs = search needs
+
+same-length-2 : tie.Need-same-length-2
+same-length-2 c = search needs
+
+returns-2 : tie.Need-returns-2
+unfolding window
+returns-2 c =
+    let carrying = c .before .before .before in
+    let making = carrying .before .before .before .before .before in
+    let here = making .before in
+    prints-carried (here .before .before .before .args .script .now) _ _ _ (here .if1 .left) _ _ (start-is (making .initialize .result) (making .initialize .ensures)) refl (carrying .carry .ensures)
+
+pub run-spec : {M : Type 1} → statement M
+run-spec =
+    tie.close
+    (tie.spec
+    put-bad-requires
+    same-length
+    returns
+    initialize-requires
+    slice-aggregate-carry
+    carry-requires
+    same-length-2
+    returns-2)

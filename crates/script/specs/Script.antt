@@ -1,0 +1,107 @@
+-- What a script prints. 01: "a refused step prints its line and ends; a bad line [..] prints `(bad N)`, N its line from 1, and ends.
+-- A longer script prints only `(bad 0)`."
+use Prim.Native.Nat.{ℕ, zero, suc, _+_, _*_, _≤_}
+use mathlib.Core.Path.{_≡_}
+use mathlib.Core.Bool.{Bool, true, false, cond}
+use mathlib.Core.List.{List, [], _∷_, _++_}
+use lib.Dec.{leb, eqb}
+use lib.ListN.{length, replicate}
+use Rattle.model.specs.Registers.{rG, rL, rO, sp, stackStart, setRegister, withSpecial}
+use Rattle.model.specs.Memory.{Window}
+use Rattle.model.specs.Plan.{Outcome}
+use Rattle.model.specs.Step.{stepOf}
+use Rattle.model.specs.Bench.{start}
+use Rattle.model.specs.declared.State.{State}
+use Rattle.script.specs.Codes.{codes}
+use Rattle.script.specs.Text.{filled}
+use Rattle.script.specs.Line.{lineOf}
+use Rattle.script.specs.declared.line.Form.{Form}
+use Rattle.script.specs.declared.line.Form.the-variants.{Register, Special, Step, Bad}
+use Rattle.script.specs.declared.line.Instruction.{Instruction}
+
+-- ---- what is printed
+
+unfoldable pub doneLine : List ℕ
+doneLine = codes "(# # # # (done) (pc #) (rG #) (rL #) (rO #))\n"
+
+unfoldable pub refusedLine : List ℕ
+refusedLine = codes "(# # # # (refused %) (pc #) (rG #) (rL #) (rO #))\n"
+
+unfoldable pub badLine : List ℕ
+badLine = codes "(bad %)\n"
+
+-- "opcode, X, Y, Z, reply (`(done)` or `(refused N)`), PC, rG, rL, rO"
+unfoldable pub stepText : Instruction → ℕ → State → List ℕ
+stepText i n s =
+    cond (eqb n 0)
+    (filled doneLine (i .op ∷ i .x ∷ i .y ∷ i .z ∷ s .pc ∷ sp s rG ∷ sp s rL ∷ sp s rO ∷ []))
+    (filled refusedLine (i .op ∷ i .x ∷ i .y ∷ i .z ∷ n ∷ s .pc ∷ sp s rG ∷ sp s rL ∷ sp s rO ∷ []))
+
+unfoldable pub badText : ℕ → List ℕ
+badText n = filled badLine (n ∷ [])
+
+-- ---- one line
+
+-- what it prints, whether the script goes on, and the machine after it
+pub record Turn : Type 0 where
+  pub text : List ℕ
+  pub goesOn : Bool
+  pub state : State
+  pub window : Window
+
+abbrev turn : List ℕ → Bool → State → Window → Turn
+turn t b s w = record { text = t; goesOn = b; state = s; window = w }
+
+abbrev stepTurn : Instruction → Outcome State Window → Turn
+stepTurn i o = turn (stepText i (o .reply) (o .state)) (eqb (o .reply) 0) (o .state) (o .memory)
+
+-- "`reg` is written as by `set_register`, `special` (up to 1f) directly"; n is the line's number
+unfoldable pub turnOf : ℕ → State → Window → Form → Turn
+turnOf n s w (Register a) = turn [] true (setRegister s (a .index) (a .value)) w
+turnOf n s w (Special a) = turn [] true (withSpecial s (a .index) (a .value)) w
+turnOf n s w (Step i) = stepTurn i (stepOf w s (i .op) (i .x) (i .y) (i .z))
+turnOf n s w Bad = turn (badText n) false s w
+
+-- ---- a whole script
+
+abbrev pub atFirst : ℕ → List (List ℕ) → List (List ℕ)
+atFirst b [] = (b ∷ []) ∷ []
+atFirst b (p ∷ ps) = (b ∷ p) ∷ ps
+
+-- the lines, and at the end what follows the last newline
+unfoldable pub pieces : List ℕ → List (List ℕ)
+pieces [] = [] ∷ []
+pieces (b ∷ l) = cond (eqb b 10) ([] ∷ pieces l) (atFirst b (pieces l))
+
+-- from line n on; "a newline ends each line", so what follows the last one is bad unless it is nothing
+unfoldable pub carried : ℕ → State → Window → List (List ℕ) → List ℕ
+carried n s w [] = []
+carried n s w (p ∷ []) = cond (eqb (length p) 0) [] (badText n)
+carried n s w (p ∷ q ∷ ps) =
+    turnOf n s w (lineOf p) .text
+    ++ cond (turnOf n s w (lineOf p) .goesOn) (carried (suc n) (turnOf n s w (lineOf p) .state) (turnOf n s w (lineOf p) .window) (q ∷ ps)) []
+
+-- "window base 0x6000000000000000 and 2,048 bytes, all 0"; the start is that of the bench points
+unfoldable pub window : Window
+window = record { base = stackStart; bytes = replicate 2048 0 }
+
+abbrev pub scriptMost : ℕ
+scriptMost = 65536
+
+-- THE text that a script prints
+unfoldable pub printed : List ℕ → List ℕ
+printed l = cond (leb (length l) scriptMost) (carried 1 start window (pieces l)) (badText 0)
+
+-- THEOREM: how long it can be
+abbrev pub Bounded : Type 0
+Bounded = (l : List ℕ) → length (printed l) ≤ 12 * length l + 27
+
+-- THEOREM: 01's sample
+unfoldable pub sample : List ℕ
+sample = codes "(set (reg 0) 7)\n(set (reg 1) 9)\n(step (f2 1 0 5))\n(step (f8 0 0 0))\n"
+
+unfoldable pub sampleText : List ℕ
+sampleText = codes "(f2 1 0 5 (done) (pc 14) (rG 20) (rL 0) (rO 6000000000000010))\n(f8 0 0 0 (done) (pc 4) (rG 20) (rL 1) (rO 6000000000000000))\n"
+
+abbrev pub SamplePrinted : Type 0
+SamplePrinted = printed sample ≡ sampleText

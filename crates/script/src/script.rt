@@ -1,0 +1,214 @@
+// A whole script: its lines carried out one after another, and what they print.
+ghost use mathlib.Core.Path.{_≡_};
+ghost use Prim.Native.Nat.{ℕ, _+_, _≤_, _<_, _^_};
+ghost use lib.ListN.{length, drop};
+ghost use Rattle.model.specs.Octa.{written};
+ghost use Rattle.model.specs.Registers.{setRegister, withSpecial, stackStart};
+ghost use Rattle.model.specs.Parts.{lent};
+ghost use Rattle.script.specs.Script.{stepText, badText, turnOf, pieces, carried, scriptMost, printed};
+ghost use Rattle.script.specs.Writing.{Wrote, Leaves, lineLength};
+ghost use Rattle.script.specs.declared.line.Form.the-variants.{Step as Form·Step};
+use super::line::Form;
+use super::line::Instruction;
+use super::line::Setting;
+use model::State;
+
+const NEWLINE: u8 = 10;
+
+/// The longest script.
+const SCRIPT_MOST: usize = 65536;
+
+const WINDOW_SIZE: usize = 2048;
+
+/// The marks of a state in which every vector is loaded.
+const ALL_LOADED: u64 = 0x1FF;
+
+/// What a line leaves: whether the script goes on, where its text ends, and the state.
+struct After {
+    going: bool,
+    next: usize,
+    state: State,
+}
+
+fn set_register(state: State, setting: Setting) -> State
+    ensures { λ r. ⌜ r ≡ setRegister state (setting .index) (setting .value) ⌝ }
+{
+    let mut general = state.general;
+    let mut special = state.special;
+    stack::pass::set_register(&mut general, &mut special, setting.index, setting.value);
+    State {
+        general: general,
+        special: special,
+        pc: state.pc,
+        halt: state.halt,
+        marks: state.marks,
+    }
+}
+
+fn set_special(state: State, setting: Setting) -> State
+    ensures { λ r. ⌜ r ≡ withSpecial state (setting .index) (setting .value) ⌝ }
+{
+    let k = setting.index as usize;
+    if 31 < k {
+        return state;
+    }
+    let general = state.general;
+    let mut special = state.special;
+    special[k] = setting.value;
+    State {
+        general: general,
+        special: special,
+        pc: state.pc,
+        halt: state.halt,
+        marks: state.marks,
+    }
+}
+
+/// The line of a step: its reply's number and the state that it left.
+fn put_step(out: &mut [u8], at: usize, i: Instruction, number: u64, state: State) -> usize
+    requires { ⌜ at < 2 ^ 63 ⌝ }
+    ensures { λ r. ⌜ Wrote (now (out .entry)) at (stepText i number state) (now (out .exit)) r ⌝ }
+{
+    let op = i.op as u64;
+    let x = i.x as u64;
+    let y = i.y as u64;
+    let z = i.z as u64;
+    let pc = state.pc;
+    let special = state.special;
+    let rg = special[State::RG];
+    let rl = special[State::RL];
+    let ro = special[State::RO];
+    if number == 0 {
+        let fields = [op, x, y, z, pc, rg, rl, ro];
+        let done = b"(# # # # (done) (pc #) (rG #) (rL #) (rO #))\n";
+        return super::text::write(out, at, done, &fields);
+    }
+    let fields = [op, x, y, z, number, pc, rg, rl, ro];
+    let refused = b"(# # # # (refused %) (pc #) (rG #) (rL #) (rO #))\n";
+    super::text::write(out, at, refused, &fields)
+}
+
+/// The line that says that line n is bad.
+fn put_bad(out: &mut [u8], at: usize, n: u64) -> usize
+    requires { ⌜ at < 2 ^ 63 ⌝ }
+    ensures { λ r. ⌜ Wrote (now (out .entry)) at (badText n) (now (out .exit)) r ⌝ }
+{
+    let fields = [n];
+    super::text::write(out, at, b"(bad %)\n", &fields)
+}
+
+/// A step is done or refused, and printed; a refused one ends the script.
+fn step(out: &mut [u8], window: &mut [u8], at: usize, state: State, i: Instruction) -> After
+    requires { ⌜ at < 2 ^ 63 ⌝ }
+    ensures { λ r. ⌜ ((n : ℕ) → Leaves (turnOf n state (lent stackStart (now (window .entry))) (Form·Step i)) (now (out .entry)) at (now (out .exit)) (r .next) (r .going) (r .state) (lent stackStart (now (window .exit)))) ⌝ }
+{
+    let outcome = instruction::value::step(state, window, State::STACK_START, i.op, i.x, i.y, i.z);
+    let reply = outcome.reply;
+    let after = outcome.state;
+    let number = instruction::value::number_of(reply);
+    let end = put_step(out, at, i, number, after);
+    After {
+        going: number == 0,
+        next: end,
+        state: after,
+    }
+}
+
+/// One line, number n of the script.
+fn turn(out: &mut [u8], window: &mut [u8], at: usize, n: u64, state: State, form: Form) -> After
+    requires { ⌜ at < 2 ^ 63 ⌝ }
+    ensures { λ r. ⌜ Leaves (turnOf n state (lent stackStart (now (window .entry))) form) (now (out .entry)) at (now (out .exit)) (r .next) (r .going) (r .state) (lent stackStart (now (window .exit))) ⌝ }
+{
+    match form {
+        Form::Register(setting) => {
+            let left = set_register(state, setting);
+            After {
+                going: true,
+                next: at,
+                state: left,
+            }
+        }
+        Form::Special(setting) => {
+            let left = set_special(state, setting);
+            After {
+                going: true,
+                next: at,
+                state: left,
+            }
+        }
+        Form::Step(i) => step(out, window, at, state, i),
+        Form::Bad => {
+            let end = put_bad(out, at, n);
+            After {
+                going: false,
+                next: end,
+                state: state,
+            }
+        }
+    }
+}
+
+/// Where the line from `at` on ends: at its newline, or at the script's end where it has none.
+fn line_end(script: &[u8], at: usize) -> usize
+    requires { ⌜ at ≤ length (now script) ⌝ }
+    ensures { λ r. ⌜ r ≡ at + lineLength (drop at (now (script .entry))) ⌝ }
+{
+    let mut i = at;
+    while i < script.len() {
+        if script[i] == NEWLINE {
+            return i;
+        }
+        i += 1;
+    }
+    i
+}
+
+/// The lines from the first on, until one ends the script.
+fn carry(script: &[u8], out: &mut [u8], window: &mut [u8], first: State) -> usize
+    requires { ⌜ length (now script) ≤ scriptMost ⌝ }
+    ensures { λ r. ⌜ Wrote (now (out .entry)) 0 (carried 1 first (lent stackStart (now (window .entry))) (pieces (now (script .entry)))) (now (out .exit)) r ⌝ }
+{
+    let mut state = first;
+    let mut next: usize = 0;
+    let mut at: usize = 0;
+    let mut n: u64 = 1;
+    while at < script.len() {
+        let end = line_end(script, at);
+        if end == script.len() {
+            return put_bad(out, next, n);
+        }
+        let form = super::line::read(&script[at..end]);
+        let after = turn(out, window, next, n, state, form);
+        next = after.next;
+        let left = after.state;
+        let going = after.going;
+        if !going {
+            return next;
+        }
+        state = left;
+        at = end + 1;
+        n += 1;
+    }
+    next
+}
+
+/// The script's text goes to the start of `out`, as far as it goes; how long the text is.
+pub fn run(script: &[u8], out: &mut [u8]) -> usize
+    ensures { λ r. ⌜ (now (out .exit) ≡ written (now (out .entry)) 0 (printed (now (script .entry)))) × (r ≡ length (printed (now (script .entry)))) ⌝ }
+{
+    if SCRIPT_MOST < script.len() {
+        return put_bad(out, 0, 0);
+    }
+    let fresh = State::initialize();
+    let general = fresh.general;
+    let special = fresh.special;
+    let first = State {
+        general: general,
+        special: special,
+        pc: fresh.pc,
+        halt: fresh.halt,
+        marks: ALL_LOADED,
+    };
+    let mut window = [0u8; WINDOW_SIZE];
+    carry(script, out, &mut window, first)
+}
