@@ -86,30 +86,36 @@ impl Subject for Library {
         "library"
     }
 
+    #[inline]
     fn initialize(&self, image: &mut [u8]) -> u64 {
         unsafe { mmix_initialize(self.lent_mut(image), image.len()) }
     }
 
+    #[inline]
     fn step(&self, base: u64, i: Instruction, image: &mut [u8], window: &mut [u8]) -> u64 {
         let Instruction { op, x, y, z } = i;
         let (bytes, room) = (self.lent_mut(image), self.lent_mut(window));
         unsafe { mmix_step(base, op, x, y, z, bytes, image.len(), room, window.len()) }
     }
 
+    #[inline]
     fn exceptions(&self, flags: u8, of: Instruction, y_val: u64, z_val: u64, image: &mut [u8]) -> u64 {
         let Instruction { op, x, y, z } = of;
         unsafe { mmix_exceptions(flags, op, x, y, z, y_val, z_val, self.lent_mut(image), image.len()) }
     }
 
+    #[inline]
     fn context(&self, base: u64, address: u64, window: &[u8], found: Found) -> u64 {
         unsafe { mmix_context(base, address, self.lent(window), window.len(), found.start, found.length) }
     }
 
+    #[inline]
     fn step_lent(&self, base: u64, i: Instruction, state: &mut State, window: &mut [u8]) -> u64 {
         let Instruction { op, x, y, z } = i;
         unsafe { mmix_step_lent(base, op, x, y, z, state, self.lent_mut(window), window.len()) }
     }
 
+    #[inline]
     fn step_parts(&self, base: u64, i: Instruction, parts: Parts, window: &mut [u8]) -> u64 {
         let Instruction { op, x, y, z } = i;
         let Parts { general, special, pc, halt, marks } = parts;

@@ -1,11 +1,9 @@
--- The group of an opcode: what a table of 256 groups says, by two tests that are computed over all opcodes.
+-- The group of an opcode: what the tests of `group_of` say of it, computed over all opcodes.
 use mathlib.Core.Path.{_≡_, refl, sym, ap, _∙_}
 use mathlib.Core.Bool.{Bool, true, false, cond, _&&_, _||_}
-use mathlib.Core.List.{List}
-use Prim.Native.Nat.{ℕ, _≤_, _<_}
+use Prim.Native.Nat.{ℕ, _/_, _≤_, _<_}
 use native.Mathlib.Omega.{arith}
-use lib.Dec.{leb, eqb}
-use lib.ListN.{getD}
+use lib.Dec.{leb, ltb, eqb}
 use borrow.Author.Tests.{leb-true, leb-false, lt-leb, eqb-true, eqb-false, eq-eqb}
 use Rattle.model.specs.Opcodes.{Arm, branch, jump, getAddress, go, pushJump, pushGo, pop, put, get, save, unsave, sync, swym, trip, trap, none, armOf, conditionOf}
 use Rattle.model.proofs.Bools.{and-left, and-right, each, at-each}
@@ -13,7 +11,7 @@ use Rattle.instruction.specs.Arms.{Controls, Grouped}
 use Rattle.instruction.specs.Groups.{isControl, isSystem}
 
 -- the group by the two definitions
-unfoldable pub groupOf : ℕ → ℕ
+unfoldable groupOf : ℕ → ℕ
 groupOf op = cond (isControl op) 1 (cond (isSystem op) 2 0)
 
 unfoldable isNone : Arm → Bool
@@ -92,10 +90,17 @@ by-group op l = go (isControl op) (isSystem op) refl refl
     go false true c q = record { controls = λ h. absurd (omega arith); systems = λ h. q; neither = λ f g. absurd (g refl) }
     go false false c q = record { controls = λ h. absurd (omega arith); systems = λ h. absurd (omega arith); neither = λ f g. no-arm op l c q }
 
--- a table that agrees with it at each opcode
-unfoldable pub agrees : List ℕ → Bool
-agrees t = each 256 (λ n. eqb (getD t n 0) (groupOf n))
+-- the tests of `group_of`, which agree with it at each opcode
+unfoldable pub tested : ℕ → ℕ
+tested op =
+    cond (ltb op 0x40) (cond (eqb op 0x00) 2 0)
+    (cond (leb op 0x5F) 1
+    (cond (ltb op 0xF0) (cond (eqb (op / 2) 0x4F) 1 (cond (eqb (op / 2) 0x5F) 1 0))
+    (cond (leb op 0xF5) 1 (cond (leb op 0xF7) 2 (cond (eqb op 0xF8) 1 (cond (eqb op 0xF9) 0 2))))))
 
-pub table-grouped : (t : List ℕ) → agrees t ≡ true → (op : ℕ) → op < 256 → Grouped op (getD t op 0)
-unfolding agrees
-table-grouped t e op l = rw (eqb-true (getD t op 0) (groupOf op) (at-each 256 (λ n. eqb (getD t n 0) (groupOf n)) e op l)) (by-group op l)
+agree : each 256 (λ n. eqb (tested n) (groupOf n)) ≡ true
+unfolding each tested groupOf isControl isSystem
+agree = refl
+
+pub grouped : (op r : ℕ) → op < 256 → r ≡ tested op → Grouped op r
+grouped op r l e = rw (e, eqb-true (tested op) (groupOf op) (at-each 256 (λ n. eqb (tested n) (groupOf n)) agree op l)) (by-group op l)

@@ -1,4 +1,4 @@
--- Which opcodes are arms of control.rs and which of system.rs; a table has the group of each.
+-- Which opcodes are arms of control.rs and which of system.rs.
 use Prim.Native.Nat.{ℕ, _≤_}
 use mathlib.Core.Path.{_≡_}
 use mathlib.Core.Bool.{Bool, _&&_, _||_}

@@ -5,6 +5,7 @@
 pub mod calls;
 pub mod contexts;
 pub mod exceptions;
+mod group;
 pub mod registers;
 pub mod step;
 mod system;

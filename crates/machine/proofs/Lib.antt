@@ -1,6 +1,5 @@
 -- The laws of this crate's definitions, for its proofs and for those of the crates above it.
 pub mod Ranges
-pub mod Bytes
 pub mod Spans
 pub mod Octas
 pub mod Puts

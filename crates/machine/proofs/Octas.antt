@@ -116,6 +116,9 @@ module _ (w : Window) (a b : ℕ) (e : a % 2 ^ 64 ≡ b % 2 ^ 64) where
   unfolding writtenOcta
   written-mod v = rw (has-octa (shapeOf w) a b (octa-mod a b e), write-mod v)
 
+pub read-wraps : (w : Window) (a : ℕ) → readOcta w (a % 2 ^ 64) ≡ readOcta w a
+read-wraps w a = let e : a % 2 ^ 64 % 2 ^ 64 ≡ a % 2 ^ 64 = omega arith in read-mod w (a % 2 ^ 64) a e
+
 -- octabyte i of a run that passes, under any address that names it
 module _ (w : Window) (a n : ℕ) (pass : worst (refusing (shapeOf w)) a n ≡ 0) (i at : ℕ) (l : i < n) (e : at % 2 ^ 64 ≡ (a + 8 * i) % 2 ^ 64) where
   pub run-read : readOcta w at ≡ look one w (a + 8 * i)

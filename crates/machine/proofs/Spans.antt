@@ -13,9 +13,10 @@ use Rattle.model.specs.Memory.{Shape, offset, has}
 use Rattle.model.specs.Plan.{worst}
 use Rattle.model.specs.Step.{refusing}
 use Rattle.model.proofs.Fill.{flag, lt-or-le}
-use Rattle.model.proofs.Memory.{has-octa}
-use Rattle.model.proofs.Runs.{octa-mod, worst-of, of-worst}
+use Rattle.model.proofs.Runs.{of-worst}
 use Rattle.model.proofs.Meets.{worst-six}
+use Rattle.model.proofs.Unpark.{refusing-mod}
+use Rattle.model.proofs.Reader.{offset-next}
 
 -- ---- distances
 
@@ -30,10 +31,6 @@ offset-of base a r h l e =
     let low : a - a % 8 ≡ octa a = low-bits a l in
     let whole : base % 2 ^ 64 ≡ base = mod-eq-of-lt h in
     e ∙ rw (low, whole)
-
-offset-next : (base a : ℕ) → offset base a + 8 < 2 ^ 64 → offset base (a + 8) ≡ offset base a + 8
-unfolding offset octa
-offset-next base a h = omega arith
 
 offset-run : (n base a : ℕ) → offset base a + 8 * n < 2 ^ 64 → offset base (a + 8 * n) ≡ offset base a + 8 * n
 offset-run zero base a h = let z : a + 8 * 0 ≡ a = omega arith in rw z (omega arith)
@@ -90,21 +87,9 @@ run-one w a = omega arith
 
 -- ---- addresses modulo 2^64
 
-further : (a b i k : ℕ) → b % 2 ^ 64 ≡ (a + 8 * i) % 2 ^ 64 → (b + 8 * k) % 2 ^ 64 ≡ (a + 8 * (i + k)) % 2 ^ 64
-further a b i k e = omega arith
-
-pub refusing-mod : (w : Shape) (a b : ℕ) → a % 2 ^ 64 ≡ b % 2 ^ 64 → refusing w a ≡ refusing w b
-unfolding refusing
-refusing-mod w a b e = rw (has-octa w a b (octa-mod a b e))
-
 pub worst-mod : (w : Shape) (n a b : ℕ) → a % 2 ^ 64 ≡ b % 2 ^ 64 → worst (refusing w) a n ≡ worst (refusing w) b n
 unfolding worst
 worst-mod w zero a b e = refl
 worst-mod w (suc n) a b e =
     let next : (a + 8) % 2 ^ 64 ≡ (b + 8) % 2 ^ 64 = omega arith in
     rw (refusing-mod w a b e, worst-mod w n (a + 8) (b + 8) next)
-
--- a part of a run that passes, under any address that names it; shared with model: Unpark has it, and `refusing-mod`, for itself
-pub run-part : (w : Shape) (a n b m i : ℕ) → worst (refusing w) a n ≡ 0 → b % 2 ^ 64 ≡ (a + 8 * i) % 2 ^ 64 → i + m ≤ n → worst (refusing w) b m ≡ 0
-run-part w a n b m i h e l =
-    of-worst (refusing w) m b (λ k q. refusing-mod w (b + 8 * k) (a + 8 * (i + k)) (further a b i k e) ∙ worst-of (refusing w) n a (i + k) h (omega arith))

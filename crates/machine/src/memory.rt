@@ -1,7 +1,8 @@
 // The octabytes of a lent window (memory.rs). Distances from the base wrap at 2^64, so a window may cross the end of memory.
 ghost use mathlib.Core.Path.{_≡_};
-ghost use Prim.Native.Nat.{ℕ, _+_, _≤_, _<_};
+ghost use Prim.Native.Nat.{ℕ, _+_, _-_, _*_, _≤_, _<_};
 ghost use lib.ListN.{length, getD};
+ghost use Rattle.model.specs.Fill.{over};
 ghost use Rattle.model.specs.Octa.{part, written, valueOf, bytesOf};
 ghost use Rattle.model.specs.Memory.{shapeOf, ruled, offset};
 ghost use Rattle.model.specs.Plan.{worst};
@@ -57,16 +58,26 @@ fn wide(b: u8) -> u64
     b as u64
 }
 
-// The eight bytes from `at` up as a number.
+// The four bytes from `at` up as a number.
+fn load_tetra(window: &[u8], at: usize) -> u64
+    requires { ⌜ at + 4 ≤ length (now window) ⌝ }
+    ensures { λ r. ⌜ (r ≡ valueOf 0 (part (now (window .entry)) at 4)) × (r < 4294967296) ⌝ }
+{
+    let mut v: u64 = 0;
+    for k in 0..4usize {
+        v = v * 256 + wide(window[at + k]);
+    }
+    v
+}
+
+// The eight bytes from `at` up as a number; in halves, since of one loop over eight the compiler makes no single load.
 fn load(window: &[u8], at: usize) -> u64
     requires { ⌜ at + 8 ≤ length (now window) ⌝ }
     ensures { λ r. ⌜ r ≡ valueOf 0 (part (now (window .entry)) at 8) ⌝ }
 {
-    let mut v: u64 = 0;
-    for k in 0..8usize {
-        v = v * 256 + wide(window[at + k]);
-    }
-    v
+    let high = load_tetra(window, at);
+    let low = load_tetra(window, at + 4);
+    high * 4294967296 + low
 }
 
 // Byte j of v, the high one first.
@@ -106,5 +117,20 @@ pub fn write_octa(window: &mut [u8], base: u64, addr: u64, v: u64)
     if run_refusal(window, base, addr, 1) == 0 {
         let at = distance(base, addr) as usize;
         store(window, at, v);
+    }
+}
+
+/// The general registers from `from` up to, not including, `to` become the octabytes from `addr` up; there are 256, whatever `to` says.
+pub fn load_range(general: &mut [u64; 256], window: &[u8], base: u64, addr: u64, from: u64, to: u64)
+    ensures { λ _. ⌜ now (general .exit) ≡ over (λ (k : ℕ). readOcta (lent base (now (window .entry))) (addr + 8 * (k - from))) from to (now (general .entry)) ⌝ }
+{
+    super::registers::of_256(*general);
+    let end = super::number::least(to, 256);
+    let mut i = from;
+    while i < end {
+        let place = super::number::wrapping_add(addr, 8 * (i - from));
+        let v = read_octa(window, base, place);
+        general[i as usize] = v;
+        i += 1;
     }
 }

@@ -140,7 +140,7 @@ pub fn put_special(general: &mut [u64; 256], special: &mut [u64; 32], x: u8, val
     }
 }
 
-fn of_256(general: [u64; 256])
+pub(crate) fn of_256(general: [u64; 256])
     ensures { λ _. ⌜ length general ≡ 256 ⌝ }
 {}
 

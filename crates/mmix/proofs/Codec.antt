@@ -10,7 +10,8 @@ use Rattle.model.specs.Octa.{part, written, valueOf}
 use Rattle.model.specs.Registers.{fresh, Sized}
 use Rattle.model.specs.declared.State.{State}
 use Rattle.mmix.specs.Image.{imageLength, flat, octas, imageOf, stateOf, decoded, encoded}
-use Rattle.mmix.proofs.Octabytes.{length-flat, flat-append, written-append, written-all}
+use Rattle.model.proofs.Bytes.{written-append}
+use Rattle.mmix.proofs.Octabytes.{length-flat, flat-append, written-all}
 
 -- ---- decoded
 

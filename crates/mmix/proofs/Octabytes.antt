@@ -8,7 +8,8 @@ use lib.ListN.{length, getD, take, set, length-append}
 use lib.Seq.{take-suc, take-suc-set, take-all, length-take-le}
 use Rattle.model.specs.Octa.{part, written, valueOf, bytesOf}
 use Rattle.mmix.specs.Image.{flat, octas}
-use Rattle.mmix.proofs.Bytes.{eight}
+use Rattle.model.proofs.Octa.{written-nil}
+use Rattle.model.proofs.Bytes.{eight, written-append}
 
 -- ---- read
 
@@ -60,23 +61,6 @@ flat-one : (v : ℕ) → flat (v ∷ []) ≡ bytesOf v
 unfolding flat
 flat-one v = append-nil (bytesOf v)
 
--- as in model: `written-nil`
-pub written-none : (l : List ℕ) (o : ℕ) → written l o [] ≡ l
-unfolding written
-written-none [] o = refl
-written-none (x ∷ xs) zero = refl
-written-none (x ∷ xs) (suc o) = ap (λ (r : List ℕ). x ∷ r) (written-none xs o)
-
--- written in two parts
-pub written-append : (l : List ℕ) (o : ℕ) (us vs : List ℕ) (m : ℕ) → m ≡ o + length us → written (written l o us) m vs ≡ written l o (us ++ vs)
-unfolding written
-written-append [] o us vs m e = refl
-written-append (x ∷ xs) (suc o) us vs zero e = absurd (omega arith)
-written-append (x ∷ xs) (suc o) us vs (suc m) e = ap (λ (r : List ℕ). x ∷ r) (written-append xs o us vs m (omega arith))
-written-append (x ∷ xs) zero [] vs m e = ap (λ (k : ℕ). written (x ∷ xs) k vs) e
-written-append (x ∷ xs) zero (u ∷ us) vs zero e = absurd (omega arith)
-written-append (x ∷ xs) zero (u ∷ us) vs (suc m) e = ap (λ (r : List ℕ). u ∷ r) (written-append xs zero us vs m (omega arith))
-
 pub written-all : (l vs : List ℕ) → length vs ≡ length l → written l 0 vs ≡ vs
 unfolding written
 written-all [] [] e = refl
@@ -86,7 +70,7 @@ written-all (x ∷ xs) (v ∷ vs) e = ap (λ (r : List ℕ). v ∷ r) (written-a
 
 pub flat-none : (l : List ℕ) (o : ℕ) → l ≡ written l o (flat [])
 unfolding flat
-flat-none l o = sym (written-none l o)
+flat-none l o = sym (written-nil l o)
 
 -- one octabyte more
 pub flat-turn : (l k vs : List ℕ) (o i : ℕ) → i < length vs → l ≡ written k o (flat (take i vs))

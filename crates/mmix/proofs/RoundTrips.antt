@@ -11,7 +11,7 @@ use Rattle.model.specs.Registers.{Sized, Words}
 use Rattle.model.specs.declared.State.{State}
 use Rattle.model.proofs.Octa.{value-bytes}
 use Rattle.mmix.specs.Image.{imageLength, flat, octas, imageOf, stateOf, RoundTrips}
-use Rattle.mmix.proofs.Bytes.{value-below}
+use Rattle.model.proofs.Bytes.{value-below}
 use Rattle.mmix.proofs.Octabytes.{length-octas, octas-append}
 use Rattle.mmix.proofs.Codec.{numbers, length-numbers, length-image}
 

@@ -1,6 +1,7 @@
 pub mod Bools
 pub mod Fill
 pub mod Octa
+pub mod Bytes
 pub mod Memory
 pub mod Plan
 pub mod Runs

@@ -26,7 +26,7 @@ sets-above [] l i j h = refl
 sets-above (a ∷ vs) l i j h = sets-above vs (set l i a) (suc i) j (omega arith) ∙ getD-set-other l i j a 0 (omega arith)
 
 -- the stores of `written`, one after another
-written-nil : (l : List ℕ) (o : ℕ) → written l o [] ≡ l
+pub written-nil : (l : List ℕ) (o : ℕ) → written l o [] ≡ l
 unfolding written
 written-nil [] o = refl
 written-nil (x ∷ xs) zero = refl

@@ -55,7 +55,7 @@ module _ {S T : Type 0} (w : Window) (s bad : S) (found : ℕ → ℕ → ℕ �
       read-alike p 1 (λ v. contextCount bad found p (getD v 0 0 / 2 ^ 56) (getD v 0 0 % 2 ^ 56)) (λ v. contextCount worse held p (getD v 0 0 / 2 ^ 56) (getD v 0 0 % 2 ^ 56))
       (count-alike p _ _)
 
-reader-open : (w : Window) (p : ℕ) → ruled (shapeOf w) ≡ true → readContext w p ≡ performOn w emptyPart (contextAt emptyPart (partAt w) p)
+pub reader-open : (w : Window) (p : ℕ) → ruled (shapeOf w) ≡ true → readContext w p ≡ performOn w emptyPart (contextAt emptyPart (partAt w) p)
 unfolding readContext
 reader-open w p r = rw r
 
@@ -123,7 +123,7 @@ module _ {S : Type 0} (w : Window) (s bad : S) (found : ℕ → ℕ → ℕ → 
       count-done p (thresholdAt w p) (look one w p % 2 ^ 56) (r .0) refl refl (rw (looked w p) at (r .1))
 
 -- the next octabyte is eight bytes on, unless that wraps; and so for a run of them
-offset-next : (base a : ℕ) → offset base a + 8 ≤ 65536 → offset base (a + 8) ≡ offset base a + 8
+pub offset-next : (base a : ℕ) → offset base a + 8 < 2 ^ 64 → offset base (a + 8) ≡ offset base a + 8
 unfolding offset octa
 offset-next base a h = omega arith
 
@@ -132,7 +132,7 @@ offset-run base a zero h = let z : a + 8 * 0 ≡ a = omega arith in rw z (omega 
 offset-run base a (suc n) h =
     let z : a + 8 * suc n ≡ a + 8 * n + 8 = omega arith in
     let r : offset base (a + 8 * n) ≡ offset base a + 8 * n = offset-run base a n (λ i l. h i (omega arith)) in
-    rw z (offset-next base (a + 8 * n) (h n (omega arith)) ∙ omega arith)
+    rw z (offset-next base (a + 8 * n) (omega (arith, h n (omega arith))) ∙ omega arith)
 
 offset-mod : (base a b : ℕ) → a % 2 ^ 64 ≡ b % 2 ^ 64 → offset base a ≡ offset base b
 unfolding offset

@@ -184,15 +184,15 @@ module _ (s : State) (b : Adm s) where
 below-is : (o m k i : ℕ) → m ≡ k + i → k ≤ 999 → below ((o + 8 * m) % 2 ^ 64) k % 2 ^ 64 ≡ (o + 8 * i) % 2 ^ 64
 below-is o m k i e h = omega arith
 
-further : (a b i k : ℕ) → b % 2 ^ 64 ≡ (a + 8 * i) % 2 ^ 64 → (b + 8 * k) % 2 ^ 64 ≡ (a + 8 * (i + k)) % 2 ^ 64
+pub further : (a b i k : ℕ) → b % 2 ^ 64 ≡ (a + 8 * i) % 2 ^ 64 → (b + 8 * k) % 2 ^ 64 ≡ (a + 8 * (i + k)) % 2 ^ 64
 further a b i k e = omega arith
 
-refusing-mod : (w : Shape) (a b : ℕ) → a % 2 ^ 64 ≡ b % 2 ^ 64 → refusing w a ≡ refusing w b
+pub refusing-mod : (w : Shape) (a b : ℕ) → a % 2 ^ 64 ≡ b % 2 ^ 64 → refusing w a ≡ refusing w b
 unfolding refusing
 refusing-mod w a b e = rw (has-octa w a b (octa-mod a b e))
 
 -- a part of a run that passes, under any addresses that name it
-part-passes : (w : Shape) (a n b m i : ℕ) → worst (refusing w) a n ≡ 0 → b % 2 ^ 64 ≡ (a + 8 * i) % 2 ^ 64 → i + m ≤ n → worst (refusing w) b m ≡ 0
+pub part-passes : (w : Shape) (a n b m i : ℕ) → worst (refusing w) a n ≡ 0 → b % 2 ^ 64 ≡ (a + 8 * i) % 2 ^ 64 → i + m ≤ n → worst (refusing w) b m ≡ 0
 part-passes w a n b m i h e l =
     of-worst (refusing w) m b (λ k q. refusing-mod w (b + 8 * k) (a + 8 * (i + k)) (further a b i k e) ∙ worst-of (refusing w) n a (i + k) h (omega arith))
 

@@ -11,32 +11,18 @@ use lib.Seq.{drop-cons, drop-drop, getD-drop, set-out}
 use borrow.Author.Tests.{lt-ltb, le-ltb, eq-eqb, ne-eqb}
 use Rattle.model.specs.Octa.{written}
 use Rattle.model.proofs.Bools.{on}
+use Rattle.model.proofs.Octa.{written-nil}
+use Rattle.model.proofs.Bytes.{written-append}
 use Rattle.script.specs.Text.{glyph, numeral, hexMark, decimalMark, filled}
 use Rattle.script.specs.Writing.{Wrote, piece, marksOf}
 
 -- ---- a list written into
 
-pub written-none : (l : List ℕ) (o : ℕ) → written l o [] ≡ l
-unfolding written
-written-none [] o = refl
-written-none (x ∷ xs) zero = refl
-written-none (x ∷ xs) (suc o) = ap (λ (r : List ℕ). x ∷ r) (written-none xs o)
-
 written-one : (l : List ℕ) (o v : ℕ) → written l o (v ∷ []) ≡ set l o v
 unfolding written
 written-one [] o v = refl
-written-one (x ∷ xs) zero v = ap (λ (r : List ℕ). v ∷ r) (written-none xs 0)
+written-one (x ∷ xs) zero v = ap (λ (r : List ℕ). v ∷ r) (written-nil xs 0)
 written-one (x ∷ xs) (suc o) v = ap (λ (r : List ℕ). x ∷ r) (written-one xs o v)
-
--- written in two parts (as in mmix, which this crate does not use)
-written-append : (l : List ℕ) (o : ℕ) (us vs : List ℕ) (m : ℕ) → m ≡ o + length us → written (written l o us) m vs ≡ written l o (us ++ vs)
-unfolding written
-written-append [] o us vs m e = refl
-written-append (x ∷ xs) (suc o) us vs zero e = absurd (omega arith)
-written-append (x ∷ xs) (suc o) us vs (suc m) e = ap (λ (r : List ℕ). x ∷ r) (written-append xs o us vs m (omega arith))
-written-append (x ∷ xs) zero [] vs m e = ap (λ (k : ℕ). written (x ∷ xs) k vs) e
-written-append (x ∷ xs) zero (u ∷ us) vs zero e = absurd (omega arith)
-written-append (x ∷ xs) zero (u ∷ us) vs (suc m) e = ap (λ (r : List ℕ). u ∷ r) (written-append xs zero us vs m (omega arith))
 
 -- ---- one text after another
 
@@ -48,7 +34,7 @@ pub wrote-past : (b : List ℕ) (at v : ℕ) → length b ≤ at → Wrote b at 
 wrote-past b at v h = record { bytes-are = sym (written-one b at v ∙ set-out b at v h); end-is = refl }
 
 pub wrote-nothing : (b : List ℕ) (at : ℕ) → Wrote b at [] b at
-wrote-nothing b at = record { bytes-are = sym (written-none b at); end-is = omega arith }
+wrote-nothing b at = record { bytes-are = sym (written-nil b at); end-is = omega arith }
 
 wrote-both : (b : List ℕ) (at : ℕ) (t c : List ℕ) (m : ℕ) (u d : List ℕ) (n : ℕ) → Wrote b at t c m → Wrote c m u d n → Wrote b at (t ++ u) d n
 wrote-both b at t c m u d n p q = record {

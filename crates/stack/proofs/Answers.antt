@@ -24,7 +24,7 @@ use Rattle.model.proofs.Entry.{performOn, Inside, said}
 use Rattle.stack.specs.Gives.{guarded, guardedOn, Gives}
 use Rattle.stack.specs.Context.{saveOf, unsaveOf, LocatedIs}
 use Rattle.stack.specs.Work.{Ranged, StoresContext, octasFrom}
-use Rattle.stack.specs.declared.context.Located.{Located}
+use Rattle.stack.specs.declared.layout.Located.{Located}
 use Rattle.stack.proofs.Turns.{comes}
 
 -- the bounds of an admissible state

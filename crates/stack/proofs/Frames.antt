@@ -4,10 +4,11 @@ use mathlib.Core.Logic.{⊎-elim}
 use mathlib.Core.Bool.{Bool, true, false, not}
 use mathlib.Core.List.{List}
 use Prim.Native.Nat.{ℕ, _+_, _-_, _*_, _%_, _^_, _≤_, _<_, min}
+use native.Mathlib.Nat.{eq-or-lt-of-le}
 use native.Mathlib.Omega.{arith}
 use lib.Dec.{leb, eqb}
 use lib.ListN.{length, getD, set, length-set, List·getD-eq-default}
-use lib.Seq.{ext-getD, getD-set-same}
+use lib.Seq.{ext-getD, getD-set-same, getD-set-other}
 use borrow.Author.Tests.{lt-ltb, le-ltb, lt-leb, le-leb, eq-eqb, ne-eqb, ltb-true}
 use Rattle.model.specs.Fill.{over, tab}
 use Rattle.model.specs.Registers.{rJ, rO, rS, rG, rL, stackStart, sp, reg, admissible, withSpecial, spilled}
@@ -23,9 +24,9 @@ use Rattle.model.proofs.Memory.{one-lawful}
 use Rattle.model.proofs.Runs.{getD-looks}
 use Rattle.model.proofs.Good.{adm, spec-other}
 use Rattle.machine.specs.Octas.{readOcta, writtenOcta}
-use Rattle.machine.proofs.Octas.{puts-shape, puts-tab, read-mod, run-read}
+use Rattle.machine.proofs.Octas.{puts-shape, puts-tab, run-read}
 use Rattle.stack.specs.Frame.{Held, Placed, bottomOf, restoredBy}
-use Rattle.stack.proofs.Spans.{over-before, over-alike, over-down}
+use Rattle.stack.proofs.Spans.{over-before, over-alike}
 
 -- ---- what judging gives
 
@@ -109,9 +110,6 @@ entered g g₁ g₂ l pc h n ro rj d b held en eo ej e₁ ed e₂ eb halt marks 
 
 -- ---- POP
 
-pub read-wraps : (w : Window) (a : ℕ) → readOcta w (a % 2 ^ 64) ≡ readOcta w a
-read-wraps w a = let e : a % 2 ^ 64 % 2 ^ 64 ≡ a % 2 ^ 64 = omega arith in read-mod w (a % 2 ^ 64) a e
-
 -- rO as code judges it
 pub misplaced-negative : (s : State) (ro : ℕ) → sp s rO ≡ ro → ro % 8 ≡ 0 → leb (2 ^ 63) ro ≡ misplaced s
 unfolding misplaced
@@ -122,16 +120,96 @@ pub misplaced-odd : (s : State) (ro : ℕ) → sp s rO ≡ ro → (ro % 8 ≡ 0 
 unfolding misplaced
 misplaced-odd s ro e a = rw (e, ne-eqb _ _ a)
 
--- a turn from the highest register down: the register below the range is read from those that are as they were
+-- the caller's registers, part by part: those above the outputs cleared, the outputs moved above the hole, the last one in it, the locals
 module _ (w : Window) (bottom last h count rg : ℕ) (g : List ℕ) where
-  abbrev f : ℕ → ℕ
-  f = restoredBy w bottom last h count g
+  abbrev by-rule : ℕ → ℕ
+  by-rule = restoredBy w bottom last h count g
 
-  pub restore-turn : (q : List ℕ) (k v : ℕ) → q ≡ over f k rg g → 0 < k → k ≤ rg → v ≡ restoredBy w bottom last h count q (k - 1) → set q (k - 1) v ≡ over f (k - 1) rg g
-  restore-turn q k v eq pos low e =
-      let next : k - 1 + 1 ≡ k = omega arith in
-      let same : v ≡ f (k - 1) = e ∙ rw (eq, over-before f k rg g (k - 1 - h - 1) (omega arith)) in
-      rw eq (ap (λ (j : ℕ). set (over f j rg g) (k - 1) v) (sym next) ∙ over-down f (k - 1) rg g v (omega arith) same)
+  abbrev low : ℕ
+  low = min (h + count) rg
+
+  abbrev reads : ℕ → ℕ
+  reads k = readOcta w (bottom + 8 * (k - 0))
+
+  abbrev cleared : List ℕ
+  cleared = over (λ (k : ℕ). 0) low rg g
+
+  abbrev moves : ℕ → ℕ
+  moves k = getD cleared (k - (h + 1)) 0
+
+  abbrev moved : List ℕ
+  moved = over moves (h + 1) low cleared
+
+  length-cleared : length cleared ≡ length g
+  length-cleared = length-over (λ (k : ℕ). 0) low rg g
+
+  length-moved : length moved ≡ length g
+  length-moved = length-over moves (h + 1) low cleared ∙ length-cleared
+
+  reads-local : (k : ℕ) → k < h → reads k ≡ by-rule k
+  reads-local k l = let e : k - 0 ≡ k = omega arith in rw (e, lt-ltb k h l)
+
+  moved-in : (k : ℕ) → k < length g → h < k → k < rg → getD moved k 0 ≡ by-rule k
+  moved-in k n a b =
+      let m : k < length cleared = omega (arith, length-cleared) in
+      let e : k - (h + 1) ≡ k - h - 1 = omega arith in
+      ⊎-elim
+      (λ out. over-in moves (h + 1) low cleared k (omega arith) (omega arith) m ∙ over-before (λ (k : ℕ). 0) low rg g (k - (h + 1)) (omega arith)
+      ∙ rw (e, le-ltb k h (omega arith), ne-eqb k h (omega arith), lt-ltb k (h + count) out))
+      (λ past. over-above moves (h + 1) low cleared k (omega arith) m ∙ over-in (λ (k : ℕ). 0) low rg g k (omega arith) b n
+      ∙ rw (le-ltb k h (omega arith), ne-eqb k h (omega arith), le-ltb k (h + count) past))
+      (lt-or-le k (h + count))
+
+  moved-out : (k : ℕ) → k < length g → rg ≤ k → getD moved k 0 ≡ getD g k 0
+  moved-out k n b =
+      over-above moves (h + 1) low cleared k (omega arith) (omega (arith, length-cleared)) ∙ over-above (λ (k : ℕ). 0) low rg g k b n
+
+  -- a local hole
+  hole-below : h < rg → over reads 0 h (set moved h last) ≡ over by-rule 0 rg g
+  hole-below b =
+      ext-getD 0 (over reads 0 h (set moved h last)) (over by-rule 0 rg g) (lengths ∙ sym (length-over by-rule 0 rg g))
+      (λ k m. let n : k < length g = omega (arith, lengths) in
+      let q : k < length (set moved h last) = omega (arith, length-set moved h last, length-moved) in
+      ⊎-elim
+      (λ lo. over-in reads 0 h (set moved h last) k (omega arith) lo q ∙ reads-local k lo ∙ sym (over-in by-rule 0 rg g k (omega arith) (omega arith) n))
+      (λ ge. over-above reads 0 h (set moved h last) k ge q
+      ∙ ⊎-elim
+      (λ here. ap (λ (j : ℕ). getD (set moved h last) j 0) (sym here) ∙ getD-set-same moved h last 0 (omega (arith, length-moved))
+      ∙ sym (over-in by-rule 0 rg g k (omega arith) (omega arith) n ∙ rw (le-ltb k h ge, eq-eqb k h (sym here))))
+      (λ gt. getD-set-other moved h k last 0 (λ z. let e : k ≡ h = z in omega arith)
+      ∙ ⊎-elim (λ in-b. moved-in k n gt in-b ∙ sym (over-in by-rule 0 rg g k (omega arith) in-b n))
+      (λ out. moved-out k n out ∙ sym (over-above by-rule 0 rg g k out n))
+      (lt-or-le k rg))
+      (eq-or-lt-of-le ge))
+      (lt-or-le k h))
+    where
+      lengths : length (over reads 0 h (set moved h last)) ≡ length g
+      lengths = length-over reads 0 h (set moved h last) ∙ length-set moved h last ∙ length-moved
+
+  -- a hole at or above rG: the locals are all that is below
+  hole-above : rg ≤ h → over reads 0 rg moved ≡ over by-rule 0 rg g
+  hole-above b =
+      ext-getD 0 (over reads 0 rg moved) (over by-rule 0 rg g) (lengths ∙ sym (length-over by-rule 0 rg g))
+      (λ k m. let n : k < length g = omega (arith, lengths) in
+      let q : k < length moved = omega (arith, length-moved) in
+      ⊎-elim
+      (λ lo. over-in reads 0 rg moved k (omega arith) lo q ∙ reads-local k (omega arith) ∙ sym (over-in by-rule 0 rg g k (omega arith) lo n))
+      (λ out. over-above reads 0 rg moved k out q ∙ moved-out k n out ∙ sym (over-above by-rule 0 rg g k out n))
+      (lt-or-le k rg))
+    where
+      lengths : length (over reads 0 rg moved) ≡ length g
+      lengths = length-over reads 0 rg moved ∙ length-moved
+
+  module _ (g₁ g₂ g₃ : List ℕ) (b d : ℕ) (eb : b ≡ low) (ed : d ≡ h + 1) (e₁ : g₁ ≡ over (λ (k : ℕ). 0) b rg g)
+      (e₂ : g₂ ≡ over (λ (k : ℕ). getD g₁ (k - d) 0) d b g₁) where
+    moved-is : g₂ ≡ moved
+    moved-is = e₂ ∙ rw (e₁, eb, ed)
+
+    pub restored-hole : h < rg → g₃ ≡ over reads 0 h (set g₂ h last) → g₃ ≡ over by-rule 0 rg g
+    restored-hole l e = e ∙ rw moved-is (hole-below l)
+
+    pub restored-all : rg ≤ h → g₃ ≡ over reads 0 rg g₂ → g₃ ≡ over by-rule 0 rg g
+    restored-all l e = e ∙ rw moved-is (hole-above l)
 
 -- a frame's place below rO, as code has it
 pub below : (ro d : ℕ) → stackStart < ro → ro < 0x8000000000000000 → d ≤ 2048 → (ro + (2 ^ 64 - d)) % 2 ^ 64 ≡ ro - d

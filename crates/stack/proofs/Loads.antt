@@ -1,4 +1,4 @@
--- Laws of UNSAVE: octabytes as code reads them, the twelve special registers loaded one after another, and the registers after it.
+-- Laws of UNSAVE: octabytes as code reads them, the general registers loaded part by part, the twelve special registers loaded one after another, and the registers after it.
 use mathlib.Core.Path.{_≡_, refl, sym, ap, _∙_}
 use mathlib.Core.Logic.{⊎-elim, _⊎_, inl, inr}
 use mathlib.Core.Bool.{true, false, cond, _&&_}
@@ -19,14 +19,13 @@ use Rattle.model.specs.Step.{refusing}
 use Rattle.model.specs.Parts.{made}
 use Rattle.model.specs.declared.State.{State}
 use Rattle.model.proofs.Bools.{on, and-left, and-right}
-use Rattle.model.proofs.Fill.{lt-or-le, length-over, over-in}
+use Rattle.model.proofs.Fill.{lt-or-le, length-over, over-in, over-below, over-above}
 use Rattle.model.proofs.Memory.{one-lawful}
 use Rattle.model.proofs.Runs.{getD-tab, length-tab, getD-looks}
-use Rattle.model.proofs.Unpark.{savedSpecial-low, savedSpecial-high}
+use Rattle.model.proofs.Unpark.{further, savedSpecial-low, savedSpecial-high}
 use Rattle.machine.specs.Octas.{readOcta}
 use Rattle.machine.proofs.Octas.{run-read, read-mod}
 use Rattle.stack.specs.Work.{octasFrom, loaded}
-use Rattle.stack.proofs.Stores.{further}
 
 -- ---- octabytes as code reads them
 
@@ -51,28 +50,73 @@ octas-are w a b n p e =
     let m : (b + 8 * i) % 2 ^ 64 % 2 ^ 64 ≡ (a + 8 * i) % 2 ^ 64 = omega arith in
     octa-at w b n i l ∙ read-mod w ((b + 8 * i) % 2 ^ 64) (a + 8 * i) m ∙ run-read w a n p i (a + 8 * i) l refl ∙ sym (getD-looks one one-lawful n w a i l))
 
--- ---- one general register
+-- ---- the general registers, part by part: the locals, those between cleared, the globals
 
-module _ (w : Window) (first g l i at r : ℕ) (gh : g ≤ 255) (lg : l ≤ g) where
-  abbrev octas : List ℕ
-  octas = octasFrom w first (l + 270 - g)
+module _ (w : Window) (first g l globals : ℕ) (r r₁ r₂ r₃ : List ℕ) (gh : g ≤ 255) (lg : l ≤ g) (e : globals ≡ (first + 8 * (l + 1)) % 2 ^ 64)
+    (e₁ : r₁ ≡ over (λ (k : ℕ). readOcta w (first + 8 * (k - 0))) 0 l r) (e₂ : r₂ ≡ over (λ (k : ℕ). 0) l g r₁)
+    (e₃ : r₃ ≡ over (λ (k : ℕ). readOcta w (globals + 8 * (k - g))) g 256 r₂) where
+  abbrev by-context : ℕ → ℕ
+  by-context = unsavedGeneral g l (octasFrom w first (l + 270 - g))
 
-  pub from-local : i < l → at ≡ (first + 8 * i) % 2 ^ 64 → r ≡ readOcta w at → r ≡ unsavedGeneral g l octas i
+  abbrev locals : ℕ → ℕ
+  locals k = readOcta w (first + 8 * (k - 0))
+
+  abbrev above : ℕ → ℕ
+  above k = readOcta w (globals + 8 * (k - g))
+
+  from-local : (k : ℕ) → k < l → locals k ≡ by-context k
   unfolding unsavedGeneral
-  from-local h e f = f ∙ ap (readOcta w) e ∙ sym (octa-at w first (l + 270 - g) i (omega arith)) ∙ rw (lt-ltb i l h)
+  from-local k h =
+      let z : (first + 8 * (k - 0)) % 2 ^ 64 ≡ (first + 8 * k) % 2 ^ 64 % 2 ^ 64 = omega arith in
+      read-mod w (first + 8 * (k - 0)) ((first + 8 * k) % 2 ^ 64) z ∙ sym (octa-at w first (l + 270 - g) k (omega arith)) ∙ rw (lt-ltb k l h)
 
-  pub from-none : l ≤ i → i < g → 0 ≡ unsavedGeneral g l octas i
+  from-none : (k : ℕ) → l ≤ k → k < g → 0 ≡ by-context k
   unfolding unsavedGeneral
-  from-none h k = rw (le-ltb i l h, lt-ltb i g k)
+  from-none k h m = rw (le-ltb k l h, lt-ltb k g m)
 
-  pub from-global : l ≤ i → g ≤ i → i < 256 → at ≡ (first + 8 * (l + 1 + (i - g))) % 2 ^ 64 → r ≡ readOcta w at → r ≡ unsavedGeneral g l octas i
+  from-global : (k : ℕ) → g ≤ k → k < 256 → above k ≡ by-context k
   unfolding unsavedGeneral
-  from-global h k n e f =
-      f ∙ ap (readOcta w) e ∙ sym (octa-at w first (l + 270 - g) (l + 1 + (i - g)) (omega arith)) ∙ rw (le-ltb i l h, le-ltb i g k)
+  from-global k h m =
+      let z : (globals + 8 * (k - g)) % 2 ^ 64 ≡ (first + 8 * (l + 1 + (k - g))) % 2 ^ 64 % 2 ^ 64 = omega arith in
+      read-mod w (globals + 8 * (k - g)) ((first + 8 * (l + 1 + (k - g))) % 2 ^ 64) z
+      ∙ sym (octa-at w first (l + 270 - g) (l + 1 + (k - g)) (omega arith)) ∙ rw (le-ltb k l (omega arith), le-ltb k g h)
+
+  abbrev parts : List ℕ
+  parts = over above g 256 (over (λ (k : ℕ). 0) l g (over locals 0 l r))
+
+  parts-are : parts ≡ over by-context 0 256 r
+  parts-are =
+      ext-getD 0 parts (over by-context 0 256 r) (n₃ ∙ sym (length-over by-context 0 256 r))
+      (λ k m. let n : k < length r = omega (arith, n₃) in
+      ⊎-elim
+      (λ in-b. ⊎-elim
+      (λ lo. over-below above g 256 _ k lo (omega (arith, n₂))
+      ∙ ⊎-elim
+      (λ loc. over-below (λ (k : ℕ). 0) l g _ k loc (omega (arith, n₁)) ∙ over-in locals 0 l r k (omega arith) loc n ∙ from-local k loc)
+      (λ mid. over-in (λ (k : ℕ). 0) l g _ k mid lo (omega (arith, n₁)) ∙ from-none k mid lo)
+      (lt-or-le k l))
+      (λ hi. over-in above g 256 _ k hi in-b (omega (arith, n₂)) ∙ from-global k hi in-b)
+      (lt-or-le k g)
+      ∙ sym (over-in by-context 0 256 r k (omega arith) in-b n))
+      (λ out. over-above above g 256 _ k out (omega (arith, n₂)) ∙ over-above (λ (k : ℕ). 0) l g _ k (omega arith) (omega (arith, n₁))
+      ∙ over-above locals 0 l r k (omega arith) n ∙ sym (over-above by-context 0 256 r k out n))
+      (lt-or-le k 256))
+    where
+      n₁ : length (over locals 0 l r) ≡ length r
+      n₁ = length-over locals 0 l r
+
+      n₂ : length (over (λ (k : ℕ). 0) l g (over locals 0 l r)) ≡ length r
+      n₂ = length-over (λ (k : ℕ). 0) l g (over locals 0 l r) ∙ n₁
+
+      n₃ : length parts ≡ length r
+      n₃ = length-over above g 256 (over (λ (k : ℕ). 0) l g (over locals 0 l r)) ∙ n₂
+
+  pub loaded-general : r₃ ≡ over by-context 0 256 r
+  loaded-general = e₃ ∙ rw (e₂, e₁) parts-are
 
 -- ---- the twelve
 
-savedSpecial-up : (k : ℕ) → rR < k → savedSpecial k ≡ k + 16
+pub savedSpecial-up : (k : ℕ) → rR < k → savedSpecial k ≡ k + 16
 unfolding savedSpecial
 savedSpecial-up k h = rw (lt-leb k rR h)
 

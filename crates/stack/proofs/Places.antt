@@ -16,16 +16,16 @@ use Rattle.model.proofs.Bools.{on}
 use Rattle.model.proofs.Memory.{one-lawful}
 use Rattle.model.proofs.Meets.{worst-six}
 use Rattle.model.proofs.Runs.{perform-read, worst-of, of-worst}
-use Rattle.model.proofs.Unpark.{looked, Context, context-found}
+use Rattle.model.proofs.Unpark.{refusing-mod, looked, Context, context-found}
 use Rattle.model.proofs.Entry.{performOn, Inside, said, inside-judged}
 use Rattle.machine.specs.Octas.{readOcta}
 use Rattle.machine.proofs.Octas.{passed-has, missed-has, read-in, read-mod}
-use Rattle.machine.proofs.Spans.{run-one, refusing-mod}
+use Rattle.machine.proofs.Spans.{run-one}
 use Rattle.stack.specs.Context.{layoutAt, layoutOf, spot, locatedOf, LocatedIs}
-use Rattle.stack.specs.declared.context.Located.{Located}
-use Rattle.stack.specs.declared.context.Layout.{Layout}
-use Rattle.stack.specs.declared.context.Layout.the-variants.{Found, Excess, Outside}
-use Rattle.stack.specs.declared.context.SaveContextLayout.{SaveContextLayout}
+use Rattle.stack.specs.declared.layout.Located.{Located}
+use Rattle.stack.specs.declared.layout.Layout.{Layout}
+use Rattle.stack.specs.declared.layout.Layout.the-variants.{Found, Excess, Outside}
+use Rattle.stack.specs.declared.layout.SaveContextLayout.{SaveContextLayout}
 
 -- ---- the octabyte at an address that is taken modulo 2^64
 

@@ -12,10 +12,11 @@ use Rattle.model.specs.Contexts.{contextAt}
 use Rattle.model.specs.Reader.{Part, emptyPart, partAt, readContext}
 use Rattle.model.specs.Parts.{lent}
 use Rattle.model.proofs.Entry.{performOn}
+use Rattle.model.proofs.Reader.{reader-open}
 use Rattle.machine.proofs.Spans.{run-end}
 use Rattle.stack.specs.Context.{LocatedIs, PlaceIs}
 use Rattle.stack.specs.Work.{octasFrom}
-use Rattle.stack.specs.declared.context.Located.{Located}
+use Rattle.stack.specs.declared.layout.Located.{Located}
 use Rattle.stack.specs.declared.reader.Place.{Place}
 use Rattle.stack.proofs.Turns.{Standing, stands-at, Comes, comes, refused-by}
 
@@ -47,11 +48,6 @@ module _ (base : ℕ) (bytes : List ℕ) (p : ℕ) (r : ruled (shapeOf (lent bas
   abbrev w : Window
   w = lent base bytes
 
-  -- as in model: (Reader)
-  reader-open : readContext w p ≡ performOn w emptyPart (contextAt emptyPart (partAt w) p)
-  unfolding readContext
-  reader-open = rw r
-
   comes-of : Comes w emptyPart emptyPart (partAt w) at (performOn w emptyPart (contextAt emptyPart (partAt w) p))
   comes-of = comes w p emptyPart emptyPart (partAt w) at h
 
@@ -60,11 +56,11 @@ module _ (base : ℕ) (bytes : List ℕ) (p : ℕ) (r : ruled (shapeOf (lent bas
   unfolding partAt
   place-part short start z e =
       rw e (by-outcome w p 0 (partAt w (at .first) (at .rg) (at .ra) (at .count) (octasFrom w (at .first) (at .count + 270 - at .rg)))
-      (omega arith) (part-ends base bytes at short (stands-at w p at h z)) (reader-open ∙ comes-of .done z))
+      (omega arith) (part-ends base bytes at short (stands-at w p at h z)) (reader-open w p r ∙ comes-of .done z))
 
   pub place-none : (at .reply ≡ 0 → ⊥) → PlaceIs w p (place (at .reply) emptyPart)
   place-none f = go (ℕ-discrete (at .reply) 6)
     where
       go : Dec (at .reply ≡ 6) → PlaceIs w p (place (at .reply) emptyPart)
-      go (yes e) = rw e (by-outcome w p 6 emptyPart (omega arith) (omega arith) (reader-open ∙ comes-of .six e))
-      go (no n) = by-outcome w p (at .reply) emptyPart (refused-by w p at h f n .1) (omega arith) (reader-open ∙ comes-of .other f n)
+      go (yes e) = rw e (by-outcome w p 6 emptyPart (omega arith) (omega arith) (reader-open w p r ∙ comes-of .six e))
+      go (no n) = by-outcome w p (at .reply) emptyPart (refused-by w p at h f n .1) (omega arith) (reader-open w p r ∙ comes-of .other f n)

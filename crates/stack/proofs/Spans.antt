@@ -2,13 +2,13 @@
 use mathlib.Core.Path.{_≡_, sym, ap, _∙_}
 use mathlib.Core.Logic.{⊎-elim}
 use mathlib.Core.List.{List}
-use Prim.Native.Nat.{ℕ, _+_, _≤_, _<_}
+use Prim.Native.Nat.{ℕ, _+_, _≤_, _<_, min}
 use native.Mathlib.Nat.{eq-or-lt-of-le}
 use native.Mathlib.Omega.{arith}
 use lib.ListN.{length, getD, set, length-set, List·getD-eq-default}
 use lib.Seq.{ext-getD, getD-set-same, getD-set-other}
 use Rattle.model.specs.Fill.{over}
-use Rattle.model.proofs.Fill.{lt-or-le, length-over, over-in, over-below, over-above}
+use Rattle.model.proofs.Fill.{lt-or-le, length-over, over-in, over-below, over-above, over-none}
 
 -- what lies out of a range, at any index
 module _ (f : ℕ → ℕ) (a b : ℕ) (l : List ℕ) (k : ℕ) where
@@ -48,3 +48,11 @@ over-down f i b l v h e =
     (lt-or-le k b))
     (eq-or-lt-of-le ge))
     (lt-or-le k i))
+
+-- where a loop that goes down to a ends
+pub over-start : (f : ℕ → ℕ) (a b i : ℕ) (l : List ℕ) → i ≤ a → min a b ≤ i → over f i b l ≡ over f a b l
+over-start f a b i l h m =
+    ⊎-elim
+    (λ lt. ap (λ (k : ℕ). over f k b l) (omega arith))
+    (λ ge. over-none f i b l (omega arith) ∙ sym (over-none f a b l ge))
+    (lt-or-le a b)

@@ -14,14 +14,10 @@ use Rattle.model.specs.Step.{refusing}
 use Rattle.model.specs.Parts.{made, lent}
 use Rattle.model.specs.declared.State.{State}
 use Rattle.model.proofs.Good.{Adm}
-use Rattle.model.proofs.Unpark.{saved-local, saved-count, saved-global, saved-twelve, saved-packed}
+use Rattle.model.proofs.Unpark.{further, saved-local, saved-count, saved-global, saved-twelve, saved-packed}
 use Rattle.machine.specs.Octas.{writtenOcta}
 use Rattle.machine.proofs.Octas.{puts-tab, written-shape}
 use Rattle.stack.specs.Work.{Ranged, Continues, StoresContext, leftGeneral, leftSpecial}
-
--- as in model: (Unpark) an address further up, modulo 2^64
-pub further : (a b i k : ℕ) → b % 2 ^ 64 ≡ (a + 8 * i) % 2 ^ 64 → (b + 8 * k) % 2 ^ 64 ≡ (a + 8 * (i + k)) % 2 ^ 64
-further a b i k e = omega arith
 
 -- ---- a run that goes on
 

@@ -17,7 +17,7 @@ use Rattle.model.proofs.Unpark.{octasOf}
 use Rattle.model.proofs.Entry.{performOn, Inside}
 use Rattle.stack.specs.Context.{spot, locatedOf, LocatedIs}
 use Rattle.stack.specs.Work.{octasFrom}
-use Rattle.stack.specs.declared.context.Located.{Located}
+use Rattle.stack.specs.declared.layout.Located.{Located}
 use Rattle.stack.proofs.Loads.{octas-are}
 use Rattle.stack.proofs.Places.{run-back}
 

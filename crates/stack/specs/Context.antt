@@ -12,10 +12,10 @@ use Rattle.model.specs.Step.{refusing}
 use Rattle.model.specs.Reader.{Part, readContext}
 use Rattle.stack.specs.Gives.{guardedOn}
 use Rattle.model.specs.declared.State.{State}
-use Rattle.stack.specs.declared.context.Located.{Located}
-use Rattle.stack.specs.declared.context.Layout.{Layout}
-use Rattle.stack.specs.declared.context.Layout.the-variants.{Found, Excess, Outside}
-use Rattle.stack.specs.declared.context.SaveContextLayout.{SaveContextLayout}
+use Rattle.stack.specs.declared.layout.Located.{Located}
+use Rattle.stack.specs.declared.layout.Layout.{Layout}
+use Rattle.stack.specs.declared.layout.Layout.the-variants.{Found, Excess, Outside}
+use Rattle.stack.specs.declared.layout.SaveContextLayout.{SaveContextLayout}
 use Rattle.stack.specs.declared.reader.Place.{Place}
 
 unfoldable pub saveOf : Window → State → ℕ → Outcome State Window

@@ -1,4 +1,4 @@
-// Contexts in place: SAVE and UNSAVE, and where a context lies.
+// Contexts in place: SAVE and UNSAVE.
 ghost use mathlib.Core.Path.{_≡_};
 ghost use Prim.Native.Nat.{ℕ, _+_, _-_, _*_, _%_, _^_, _≤_, _<_};
 ghost use lib.ListN.{getD};
@@ -8,48 +8,21 @@ ghost use Rattle.model.specs.Numbers.{replyOf};
 ghost use Rattle.model.specs.Parts.{made, lent};
 ghost use Rattle.machine.specs.Octas.{readOcta};
 ghost use Rattle.stack.specs.Gives.{Gives};
-ghost use Rattle.stack.specs.Context.{saveOf, unsaveOf, layoutOf, spot, LocatedIs};
+ghost use Rattle.stack.specs.Context.{saveOf, unsaveOf};
 ghost use Rattle.stack.specs.Work.{Ranged, Continues, StoresContext, leftGeneral, leftSpecial, octasFrom, loaded};
+use super::layout::Located;
 use model::Reply;
 use model::State;
 
-/// The special registers that a context has, in order.
-const SAVE_SPECIALS: [usize; 12] = [0, 1, 2, 3, 4, 5, 6, 23, 24, 25, 26, 27];
-
-/// Addresses below a saved context's packed octabyte.
-pub struct SaveContextLayout {
-    pub specials_base: u64,
-    pub globals_base: u64,
-    pub global_count: u64,
-    pub local_count: u64,
-    pub locals_base: u64,
-}
-
-/// The layout, or why there is none.
-pub enum Layout {
-    /// The context's parts.
-    Found(SaveContextLayout),
-    /// The local count is above the saved rG (16).
-    Excess(u64),
-    /// The local count lies outside the window (6).
-    Outside,
-}
-
-/// Where a context is: its reply, the address of its first local, its rG, rA and local count.
-pub struct Located {
-    pub reply: u64,
-    pub first: u64,
-    pub rg: u64,
-    pub ra: u64,
-    pub count: u64,
-}
-
-/// The special register that is number i of the twelve.
+/// The special register that is number i of the twelve (`SAVE_SPECIALS`): rB to rR, which are 0 to 6, then rP to rZ, 23 to 27.
 fn save_special(i: usize) -> usize
     requires { ⌜ i < 12 ⌝ }
     ensures { λ r. ⌜ (r ≡ savedSpecial i) × (r < 32) ⌝ }
 {
-    SAVE_SPECIALS[i]
+    if i <= State::RR {
+        return i;
+    }
+    i + 16
 }
 
 /// The n registers from $from up, stored from address addr up.
@@ -164,111 +137,16 @@ pub fn save_context(
     Reply::NotAdmissible
 }
 
-/// The parts of the context whose packed octabyte is at `packed_addr`, for its rG; the count is compared at full width.
-pub fn save_context_layout(window: &[u8], base: u64, packed_addr: u64, rg_saved: u8) -> Layout
-    ensures { λ r. ⌜ r ≡ layoutOf (lent base (now (window .entry))) «packed_addr» «rg_saved» ⌝ }
-{
-    let rg = rg_saved as u64;
-    let marker = machine::number::wrapping_sub(packed_addr, 8 * (269 - rg));
-    if machine::memory::run_refusal(window, base, marker, 1) == 0 {
-        let count = machine::memory::read_octa(window, base, marker);
-        if count <= rg {
-            let specials_base = machine::number::wrapping_sub(packed_addr, 96);
-            let globals_base = machine::number::wrapping_sub(packed_addr, 8 * (268 - rg));
-            let locals_base = machine::number::wrapping_sub(packed_addr, 8 * (count + 269 - rg));
-            return Layout::Found(SaveContextLayout {
-                specials_base: specials_base,
-                globals_base: globals_base,
-                global_count: 256 - rg,
-                local_count: count,
-                locals_base: locals_base,
-            });
-        }
-        return Layout::Excess(count);
-    }
-    Layout::Outside
-}
-
-fn refused(reply: u64) -> Located
-    ensures { λ r. ⌜ r ≡ spot reply 0 0 0 0 ⌝ }
-{
-    Located {
-        reply: reply,
-        first: 0,
-        rg: 0,
-        ra: 0,
-        count: 0,
-    }
-}
-
-/// The context whose packed octabyte is at `address`, after UNSAVE's own checks.
-pub fn locate(window: &[u8], base: u64, address: u64) -> Located
-    ensures { λ r. ⌜ LocatedIs (lent base (now (window .entry))) address r ⌝ }
-{
-    if machine::memory::run_refusal(window, base, address, 1) == 0 {
-        let packed = machine::memory::read_octa(window, base, address);
-        let rg = packed / 0x100000000000000;
-        let ra = packed % 0x100000000000000;
-        if rg < 32 {
-            return refused(14);
-        }
-        if 0x3FFFF < ra {
-            return refused(15);
-        }
-        let layout = save_context_layout(window, base, address, rg as u8);
-        match layout {
-            Layout::Found(l) => {
-                let count = l.local_count;
-                let first = l.locals_base;
-                if machine::memory::run_refusal(window, base, first, count + 270 - rg) == 0 {
-                    return Located {
-                        reply: 0,
-                        first: first,
-                        rg: rg,
-                        ra: ra,
-                        count: count,
-                    };
-                }
-                return refused(6);
-            }
-            Layout::Excess(_) => {
-                return refused(16);
-            }
-            Layout::Outside => {
-                return refused(6);
-            }
-        }
-    }
-    refused(6)
-}
-
-/// $i from a context of `count` locals and threshold rg whose first local is at `first`.
-fn unsaved(window: &[u8], base: u64, first: u64, rg: u64, count: u64, i: u64) -> u64
-    requires { ⌜ (i < 256) × (rg ≤ 255) × (count ≤ rg) ⌝ }
-    ensures { λ r. ⌜ r ≡ unsavedGeneral rg count (octasFrom (lent base (now (window .entry))) first (count + 270 - rg)) i ⌝ }
-{
-    if i < count {
-        let addr = machine::number::wrapping_add(first, 8 * i);
-        return machine::memory::read_octa(window, base, addr);
-    }
-    if i < rg {
-        return 0;
-    }
-    let addr = machine::number::wrapping_add(first, 8 * (count + 1 + (i - rg)));
-    machine::memory::read_octa(window, base, addr)
-}
-
-/// All general registers from a context.
+/// All general registers from a context of `count` locals and threshold rg whose first local is at `first`: the locals, 0 above them,
+/// the globals.
 fn load_general(general: &mut [u64; 256], window: &[u8], base: u64, first: u64, rg: u64, count: u64)
     requires { ⌜ (rg ≤ 255) × (count ≤ rg) ⌝ }
     ensures { λ _. ⌜ now (general .exit) ≡ over (unsavedGeneral rg count (octasFrom (lent base (now (window .entry))) first (count + 270 - rg))) 0 256 (now (general .entry)) ⌝ }
 {
-    let mut i: u64 = 0;
-    while i < 256 {
-        let v = unsaved(window, base, first, rg, count, i);
-        general[i as usize] = v;
-        i += 1;
-    }
+    let globals = machine::number::wrapping_add(first, 8 * (count + 1));
+    machine::memory::load_range(general, window, base, first, 0, count);
+    machine::registers::clear_range(general, count, rg);
+    machine::memory::load_range(general, window, base, globals, rg, 256);
 }
 
 /// The twelve special registers from a context, from address addr up.
@@ -332,7 +210,7 @@ pub fn unsave_context(
 {
     if machine::registers::admissible(special, marks) {
         if machine::memory::is_ruled(window, base) {
-            let at = locate(window, base, address);
+            let at = super::layout::locate(window, base, address);
             let number = at.reply;
             if number == 0 {
                 arrive(general, special, window, base, at);

@@ -2,7 +2,7 @@
 ghost use mathlib.Core.Path.{_≡_};
 ghost use mathlib.Core.Bool.{true, false};
 ghost use mathlib.Core.List.{List};
-ghost use Prim.Native.Nat.{ℕ, _+_, _≤_, _<_, min};
+ghost use Prim.Native.Nat.{ℕ, _+_, _-_, _≤_, _<_, min};
 ghost use lib.ListN.{getD};
 ghost use Rattle.model.specs.Fill.{over, tab};
 ghost use Rattle.model.specs.Memory.{shapeOf, ruled, one};
@@ -158,35 +158,23 @@ fn last_output(general: &[u64; 256], rl: u64, x: u8) -> u64
     general[i]
 }
 
-/// $k of the caller, where the hole is h.
-fn restored(
-    general: &[u64; 256],
-    window: &[u8],
-    base: u64,
-    bottom: u64,
-    last: u64,
-    h: u64,
-    count: u64,
-    k: u64,
-) -> u64
-    requires { ⌜ (h ≤ 255) × (count ≤ 256) × (k ≤ 255) ⌝ }
-    ensures { λ r. ⌜ r ≡ restoredBy (lent base (now (window .entry))) bottom last h count (now (general .entry)) k ⌝ }
+/// $k becomes $(k − by) for each k from `by` up to, not including, `to`; from the highest down, so that each is read before it is
+/// written.
+fn slide_up(general: &mut [u64; 256], by: u64, to: u64)
+    requires { ⌜ to ≤ 256 ⌝ }
+    ensures { λ _. ⌜ now (general .exit) ≡ over (λ (k : ℕ). getD (now (general .entry)) (k - by) 0) by to (now (general .entry)) ⌝ }
 {
-    if k < h {
-        let addr = machine::number::wrapping_add(bottom, 8 * k);
-        return machine::memory::read_octa(window, base, addr);
+    let mut k = to;
+    while by < k {
+        let at = k - 1;
+        let src = at - by;
+        let v = general[src as usize];
+        general[at as usize] = v;
+        k = at;
     }
-    if k == h {
-        return last;
-    }
-    if k < h + count {
-        let i = (k - h - 1) as usize;
-        return general[i];
-    }
-    0
 }
 
-/// The registers below rG become the caller's, from the highest down, so that each is read before it is written.
+/// The registers below rG become the caller's: 0 above the outputs, the outputs above the hole, the last one in it, the locals below.
 fn restore(
     general: &mut [u64; 256],
     window: &[u8],
@@ -200,13 +188,15 @@ fn restore(
     requires { ⌜ (h ≤ 255) × (count ≤ 256) × (rg ≤ 255) ⌝ }
     ensures { λ _. ⌜ now (general .exit) ≡ over (restoredBy (lent base (now (window .entry))) bottom last h count (now (general .entry))) 0 rg (now (general .entry)) ⌝ }
 {
-    let mut k = rg;
-    while 0 < k {
-        let at = k - 1;
-        let v = restored(general, window, base, bottom, last, h, count, at);
-        general[at as usize] = v;
-        k = at;
+    let low = machine::number::least(h + count, rg);
+    machine::registers::clear_range(general, low, rg);
+    slide_up(general, h + 1, low);
+    if h < rg {
+        general[h as usize] = last;
+        machine::memory::load_range(general, window, base, bottom, 0, h);
+        return;
     }
+    machine::memory::load_range(general, window, base, bottom, 0, rg);
 }
 
 /// Whether rO, above the stack's start, cannot hold a frame.

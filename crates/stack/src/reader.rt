@@ -18,7 +18,7 @@ pub fn place_context(window: &[u8], base: u64, address: u64) -> Place
     ensures { λ r. ⌜ PlaceIs (lent base (now (window .entry))) address r ⌝ }
 {
     if machine::memory::is_ruled(window, base) {
-        let at = super::context::locate(window, base, address);
+        let at = super::layout::locate(window, base, address);
         let number = at.reply;
         if number == 0 {
             let start = machine::memory::distance(base, at.first) as usize;

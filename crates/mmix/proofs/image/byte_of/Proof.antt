@@ -1,6 +1,6 @@
 -- `byte_of` meets its contract: byte j is what a shift by 56 − 8j leaves.
 use borrow.Author.Needs.{needs}
-use Rattle.mmix.proofs.Bytes.{byte-at}
+use Rattle.model.proofs.Bytes.{byte-at}
 use Rattle.mmix.proofs.image.byte_of.Statement.{statement}
 use Rattle.mmix.proofs.image.byte_of.Tie as tie
 

@@ -1,7 +1,7 @@
 -- `load` meets its contract: eight bytes are two halves of four.
 use native.Mathlib.Omega.{arith}
 use borrow.Author.Needs.{needs}
-use Rattle.mmix.proofs.Bytes.{value-halves}
+use Rattle.model.proofs.Bytes.{value-halves}
 use Rattle.mmix.proofs.image.load.Statement.{statement}
 use Rattle.mmix.proofs.image.load.Tie as tie
 

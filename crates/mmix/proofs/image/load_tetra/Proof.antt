@@ -4,7 +4,7 @@ use Prim.Native.Nat.{ℕ, _+_, _-_, _*_, _^_, _<_, _≤_}
 use native.Mathlib.Omega.{arith}
 use borrow.Author.Needs.{needs}
 use Rattle.model.specs.Octa.{part, valueOf}
-use Rattle.mmix.proofs.Bytes.{value-none, value-more, grow, small}
+use Rattle.model.proofs.Bytes.{value-none, value-more, grow, small}
 use Rattle.mmix.proofs.image.load_tetra.Statement.{statement}
 use Rattle.mmix.proofs.image.load_tetra.Tie as tie
 

@@ -7,7 +7,7 @@ use lib.ListN.{length, getD, set, length-set}
 use Rattle.model.specs.Fill.{over}
 use Rattle.model.specs.Octa.{bytesOf}
 use Rattle.model.proofs.Fill.{over-none, over-more}
-use Rattle.mmix.proofs.Bytes.{over-written, eight}
+use Rattle.model.proofs.Bytes.{over-written, eight}
 use Rattle.mmix.proofs.image.store.Statement.{statement}
 use Rattle.mmix.proofs.image.store.Tie as tie
 

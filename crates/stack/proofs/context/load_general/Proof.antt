@@ -1,60 +1,42 @@
--- `load_general` meets its contract. The loop's invariant: the registers below i are those of the context.
-use mathlib.Core.Path.{_≡_, sym}
-use native.Mathlib.Omega.{arith}
+-- `load_general` meets its contract: the three parts are the context's registers.
+use Rattle.stack.proofs.Loads.{loaded-general}
 use borrow.Author.Needs.{needs}
-use Prim.Native.Nat.{_+_, _-_, _≤_}
-use Rattle.model.specs.Fill.{over}
-use Rattle.model.specs.Contexts.{unsavedGeneral}
-use Rattle.model.specs.Parts.{lent}
-use Rattle.model.proofs.Fill.{over-none}
-use Rattle.machine.proofs.Ranges.{over-next}
-use Rattle.stack.specs.Work.{octasFrom}
 use Rattle.stack.proofs.context.load_general.Statement.{statement}
 use Rattle.stack.proofs.context.load_general.Tie as tie
 
-abbrev Inv-loop : tie.InvT-loop
-Inv-loop general₀ window base first rg count i₀ general i = (i ≤ 256) × (general ≡ over (unsavedGeneral rg count (octasFrom (lent base window) first (count + 270 - rg))) 0 i general₀)
+add-wrapping-add : tie.Need-add-wrapping-add
+add-wrapping-add c = search needs
 
-abbrev μ-loop : tie.MeasureT-loop
-μ-loop general₀ window base first rg count i₀ general i = 256 - i
+mul-wrapping-add : tie.Need-mul-wrapping-add
+mul-wrapping-add c = search needs
 
-loop-holds : tie.Need-loop-holds Inv-loop μ-loop
-loop-holds c = (omega arith, sym (over-none _ _ _ _ (omega arith)))
+wrapping-add-requires : tie.Need-wrapping-add-requires
+wrapping-add-requires c κs = search needs
 
-unsaved-requires : tie.Need-unsaved-requires Inv-loop μ-loop
-unsaved-requires c κs = search needs
+load-range-requires : tie.Need-load-range-requires
+load-range-requires c κs = search needs
 
-mul-general : tie.Need-mul-general Inv-loop μ-loop
-mul-general c = omega arith
+clear-range-requires : tie.Need-clear-range-requires
+clear-range-requires c κs = search needs
 
-element-write-general : tie.Need-element-write-general Inv-loop μ-loop
-element-write-general c = omega arith
+load-range-requires-2 : tie.Need-load-range-requires-2
+load-range-requires-2 c κs = search needs
 
-add-i : tie.Need-add-i Inv-loop μ-loop
-add-i c = omega arith
-
-loop-less : tie.Need-loop-less Inv-loop μ-loop
-loop-less c = omega arith
-
-loop-again : tie.Need-loop-again Inv-loop μ-loop
-loop-again c = (omega arith, rw (c .before .before .loop .inv .1) (over-next _ 0 _ _ _ (omega arith) (c .unsaved .ensures)))
-
-returns : tie.Need-returns Inv-loop μ-loop
+returns : tie.Need-returns
 returns c =
-    let e : c .before .loop .i ≡ 256 = omega arith in
-    rw e at (c .before .loop .inv .1)
+    let clears = c .before .before in
+    let loads = clears .before .before in
+    let start = loads .before .before .before .before in
+    loaded-general _ _ _ _ _ _ _ _ _ (start .pre .0) (start .pre .1) (loads .before .before .wrapping-add .ensures) (loads .load-range .ensures) (clears .clear-range .ensures) (c .load-range2 .ensures)
 
 pub load-general-spec : {M : Type 1} → statement M
 load-general-spec =
     tie.close
     (tie.spec
-    Inv-loop
-    μ-loop
-    loop-holds
-    unsaved-requires
-    mul-general
-    element-write-general
-    add-i
-    loop-less
-    loop-again
+    add-wrapping-add
+    mul-wrapping-add
+    wrapping-add-requires
+    load-range-requires
+    clear-range-requires
+    load-range-requires-2
     returns)

@@ -2,8 +2,8 @@
 use mathlib.Core.Path.{sym, _∙_}
 use Rattle.stack.proofs.Places.{layout-outside, layout-excess, layout-found}
 use borrow.Author.Needs.{needs}
-use Rattle.stack.proofs.context.save_context_layout.Statement.{statement}
-use Rattle.stack.proofs.context.save_context_layout.Tie as tie
+use Rattle.stack.proofs.layout.save_context_layout.Statement.{statement}
+use Rattle.stack.proofs.layout.save_context_layout.Tie as tie
 
 sub-wrapping-sub : tie.Need-sub-wrapping-sub
 sub-wrapping-sub c = search needs

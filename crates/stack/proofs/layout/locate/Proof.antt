@@ -7,8 +7,8 @@ use Rattle.model.specs.Plan.{worst}
 use Rattle.model.specs.Step.{refusing}
 use Rattle.model.specs.Parts.{lent}
 use Rattle.stack.proofs.Places.{told-count, way-lost, way-threshold, way-status, way-outside, way-excess, way-short, way-found}
-use Rattle.stack.proofs.context.locate.Statement.{statement}
-use Rattle.stack.proofs.context.locate.Tie as tie
+use Rattle.stack.proofs.layout.locate.Statement.{statement}
+use Rattle.stack.proofs.layout.locate.Tie as tie
 
 -- the packed octabyte lies inside
 inside : (c : tie.Then1) → worst (refusing (shapeOf (lent (c .before .before .before .args .base) (c .before .before .before .args .window .now)))) (c .before .before .before .args .address) 1 ≡ 0

@@ -1,7 +1,7 @@
 -- Laws of the bytes of an octabyte, one at a time: as a loop reads them and as a loop writes them.
 use mathlib.Core.Path.{_≡_, refl, sym, ap, _∙_}
 use mathlib.Core.Logic.{⊎-elim}
-use mathlib.Core.List.{List}
+use mathlib.Core.List.{List, [], _∷_, _++_}
 use Prim.Native.Nat.{ℕ, zero, suc, _+_, _-_, _*_, _/_, _%_, _^_, _≤_, _<_}
 use native.Mathlib.Nat.{div-one}
 use native.Mathlib.Numerals.{add-one}
@@ -34,12 +34,26 @@ grow v b k h l =
     let e : 2 ^ (8 * (k + 1)) ≡ 2 ^ (8 * k) * 256 = ap (λ (n : ℕ). 2 ^ n) (omega arith) ∙ pow-add 2 (8 * k) 8 in
     omega arith
 
--- seven bytes leave room for one more
-pub small : (v k : ℕ) → v < 2 ^ (8 * k) → k < 8 → v < 2 ^ 56
+-- three bytes leave room for one more
+pub small : (v k : ℕ) → v < 2 ^ (8 * k) → k < 4 → v < 2 ^ 24
 small v k h l =
-    let e : 8 * k ≤ 56 = omega arith in
-    let m : 2 ^ (8 * k) ≤ 2 ^ 56 = pow-mono {j = 56} e in
+    let e : 8 * k ≤ 24 = omega arith in
+    let m : 2 ^ (8 * k) ≤ 2 ^ 24 = pow-mono {j = 24} e in
     omega arith
+
+-- two halves
+pub value-halves : (l : List ℕ) (o : ℕ) → valueOf 0 (part l o 4) * 4294967296 + valueOf 0 (part l (o + 4) 4) ≡ valueOf 0 (part l o 8)
+unfolding valueOf part
+value-halves l o =
+    let e : o + 4 ≡ suc (suc (suc (suc o))) = omega arith in
+    rw e (omega arith)
+
+-- n bytes are below 256^n
+pub value-below : (l : List ℕ) (o n : ℕ) → ((i : ℕ) → getD l i 0 < 256) → valueOf 0 (part l o n) < 2 ^ (8 * n)
+value-below l o zero b = omega (arith, value-none l o)
+value-below l o (suc n) b =
+    let e : suc n ≡ n + 1 = omega arith in
+    rw (e, value-more l o n) (grow (valueOf 0 (part l o n)) (getD l (o + n) 0) n (value-below l o n b) (b (o + n)))
 
 -- ---- written
 
@@ -86,3 +100,13 @@ over-written l o vs n e h =
 pub eight : (v : ℕ) → length (bytesOf v) ≡ 8
 unfolding bytesOf
 eight v = refl
+
+-- written in two parts
+pub written-append : (l : List ℕ) (o : ℕ) (us vs : List ℕ) (m : ℕ) → m ≡ o + length us → written (written l o us) m vs ≡ written l o (us ++ vs)
+unfolding written
+written-append [] o us vs m e = refl
+written-append (x ∷ xs) (suc o) us vs zero e = absurd (omega arith)
+written-append (x ∷ xs) (suc o) us vs (suc m) e = ap (λ (r : List ℕ). x ∷ r) (written-append xs o us vs m (omega arith))
+written-append (x ∷ xs) zero [] vs m e = ap (λ (k : ℕ). written (x ∷ xs) k vs) e
+written-append (x ∷ xs) zero (u ∷ us) vs zero e = absurd (omega arith)
+written-append (x ∷ xs) zero (u ∷ us) vs (suc m) e = ap (λ (r : List ℕ). u ∷ r) (written-append xs zero us vs m (omega arith))
