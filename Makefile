@@ -14,10 +14,11 @@ export MMIX_LIB_DIR := $(abspath $(LIB_DIR))
 RATTLE = crates.txt $(shell find crates -name '*.rt' -o -name '*.antt')
 HOST_FLAGS = -O2 -std=c99 -Wall -Wextra -Werror
 
-.PHONY: help test prove lib install host host-test oracle oracle-test differential guards mutants speed replay-list clean need-rt need-gcc
+.PHONY: help test prove bench scripts-test lib install host host-test oracle oracle-test differential guards mutants speed replay-list clean need-rt need-gcc
 
 help:
-	@echo 'make test                    the gate: the library, the host, the comparison with the Rust, then all proofs and must-fail edits'
+	@echo 'make bench SCRIPT=path       the bench program on a script (examples/scripts/first.script)'
+	@echo 'make test                    the gate: all proofs and must-fail edits, the host, the scripts, the comparison with the Rust'
 	@echo 'make lib                     build/libmmix.a and build/mmix.h, proved'
 	@echo 'make host                    build and run examples/relay_host.c'
 	@echo 'make install PREFIX=dir      libmmix.a, mmix.h and mmix.pc under dir (/usr/local)'
@@ -35,12 +36,31 @@ need-rt:
 need-gcc:
 	@command -v gcc >/dev/null 2>&1 || { echo 'gcc is not on the PATH: install the package gcc' >&2; exit 1; }
 
-test: need-rt host-test oracle-test differential
+# The proofs and the edits from nothing, then all that runs on what was built. The last line of `rt ci` is kept for the end: it is
+# printed there only where the rest has passed too.
+test: need-rt need-gcc
 	@docs/check_traceability
-	@rt ci
+	@mkdir -p build; set -o pipefail; rt ci 2>&1 | tee build/ci.log | sed '$$d' || { tail -n 1 build/ci.log; exit 1; }
+	@$(MAKE) --no-print-directory host-test scripts-test oracle-test differential
+	@tail -n 1 build/ci.log
 
 prove: need-rt
 	@rt check
+
+# ---- the bench program
+
+build/bench: $(RATTLE)
+	@mkdir -p build
+	@set -o pipefail; rt check bench 2>&1 | tee build/bench.log | grep --line-buffered '^rt:' || { cat build/bench.log; exit 1; }
+	@cp target/bin/bench $@
+
+bench: need-rt build/bench
+	@build/bench < '$(SCRIPT)'
+
+# Each script prints what stands beside it.
+scripts-test: need-rt build/bench
+	@for s in examples/scripts/*.script; do build/bench < $$s | diff $${s%.script}.out - || { echo "$$s: prints something else"; exit 1; }; done
+	@echo "$$(ls examples/scripts/*.script | wc -l) scripts: each prints what it should"
 
 # ---- the C library and a host
 

@@ -28,6 +28,16 @@ pub struct Point {
     pub work: Work,
 }
 
+impl Point {
+    /// How many instructions a row has the sum of.
+    pub fn instructions(&self) -> usize {
+        match &self.work {
+            Work::Steps(code) => code.len(),
+            Work::Exceptions(_) => 1,
+        }
+    }
+}
+
 fn start(rg: u64, rl: u64) -> State {
     let mut state = State::zero();
     state.special[RG] = rg;

@@ -52,16 +52,17 @@ fn at_least(bound: f64, what: &'static str, ratio: f64) -> Target {
     Target { what, ratio, bound, at_most: false }
 }
 
-/// What each kind of point is held to.
-fn targets(kind: Kind, row: &Row, copy: f64) -> Vec<Target> {
-    match kind {
+/// What each kind of point is held to; a copy of the image is set against one instruction.
+fn targets(point: &Point, row: &Row, copy: f64) -> Vec<Target> {
+    let copies = copy * point.instructions() as f64;
+    match point.kind {
         Kind::Simple => vec![
             at_most(2.0, "parts / arm", row.parts / row.arm),
             at_least(10.0, "fetched / parts", row.fetched / row.parts),
-            at_most(5.0, "lent / memcpy", row.lent / copy),
-            at_most(14.0, "image / memcpy", row.image / copy),
+            at_most(5.0, "lent / memcpy", row.lent / copies),
+            at_most(14.0, "image / memcpy", row.image / copies),
         ],
-        Kind::Exception => vec![at_most(14.0, "image / memcpy", row.image / copy)],
+        Kind::Exception => vec![at_most(14.0, "image / memcpy", row.image / copies)],
         Kind::Memory { times } => vec![at_least(times as f64, "arm / parts", row.arm / row.parts)],
     }
 }
@@ -74,7 +75,7 @@ pub fn print(points: &[Point], rows: &[Row], copy: f64) {
     }
     println!();
     for (row, point) in rows.iter().zip(points) {
-        for target in targets(point.kind, row, copy) {
+        for target in targets(point, row, copy) {
             let Target { what, ratio, bound, at_most } = target;
             let (sense, verdict) = (if at_most { "at most" } else { "at least" }, target.met());
             let verdict = if verdict { "met" } else { "NOT MET" };
