@@ -26,6 +26,7 @@ help:
 	@echo 'make differential CASES=n    run n cases on the Rust and beside it; SEED=s for others'
 	@echo 'make guards                  the same with every buffer between guards, and under valgrind'
 	@echo 'make mutants                 put single faults into a copy of the Rust: each must be found'
+	@echo 'make replay-list             write the list of answers that crates/replay replays anew, by running the Rust'
 	@echo 'make speed                   time the library and the Rust side by side'
 	@echo 'make clean                   remove all that was built'
 
@@ -120,6 +121,10 @@ guards: oracle
 	@if ! command -v valgrind >/dev/null 2>&1; then echo 'no run under valgrind: it is not on the PATH'; [ "$${CI:-}" != true ]; \
 	elif [ -x $(ORACLE)/differential ]; then \
 	  valgrind --error-exitcode=1 $(ORACLE)/differential --cases 20000 --seed $(SEED) --threads 1 --guards heap; fi
+
+# The list that crates/replay replays: 3,000 answers of the Rust.
+replay-list: oracle
+	@if [ -x $(ORACLE)/replay_list ]; then $(ORACLE)/replay_list crates/replay/data/answers; fi
 
 mutants: oracle
 	@if [ -x $(ORACLE)/mutants ]; then $(ORACLE)/mutants; fi
