@@ -41,7 +41,7 @@ need-gcc:
 # printed there only where the rest has passed too.
 test: need-rt need-gcc
 	@docs/check_traceability
-	@mkdir -p build; set -o pipefail; rt ci 2>&1 | tee build/ci.log | sed '$$d' || { tail -n 1 build/ci.log; exit 1; }
+	@mkdir -p build; set -o pipefail; rt ci 2>&1 | tee build/ci.log | sed -u '$$d' || { tail -n 1 build/ci.log; exit 1; }
 	@$(MAKE) --no-print-directory host-test scripts-test oracle-test differential
 	@tail -n 1 build/ci.log
 
