@@ -99,8 +99,8 @@ install: lib
 
 # The harness needs cargo and the Rust that is ported; without them it says so, and fails only where CI is true. With
 # libmmix.a at hand (make lib) it compares the library, else only its own model.
-HARNESS = @if ! command -v cargo >/dev/null 2>&1; then echo 'no comparison with the Rust: cargo is not on the PATH'; \
-	elif ! [ -f '$(MMIX_RUST_SRC)/src/mmix.rs' ]; then echo 'no comparison with the Rust: MMIX_RUST_SRC names no folder with src/mmix.rs'; \
+HARNESS = @if ! command -v cargo >/dev/null 2>&1; then echo 'no comparison with the Rust: cargo is not on the PATH; install the package cargo'; \
+	elif ! [ -f '$(MMIX_RUST_SRC)/src/mmix.rs' ]; then echo 'no comparison with the Rust: set MMIX_RUST_SRC to a checkout of checksmix fd6a7bd314, the folder that has src/mmix.rs'; \
 	else features=; if [ -f '$(MMIX_LIB_DIR)/libmmix.a' ]; then features='--features library,speed/library'; fi; \
 	  cargo $(1) --quiet --release --offline $$features --manifest-path oracle/Cargo.toml; exit $$?; fi; \
 	[ "$${CI:-}" != true ]
@@ -118,7 +118,7 @@ differential: oracle
 # No byte outside the buffers is touched: pages that can't be, then valgrind.
 guards: oracle
 	@if [ -x $(ORACLE)/differential ]; then $(ORACLE)/differential --cases $(CASES) --seed $(SEED) --guards pages; fi
-	@if ! command -v valgrind >/dev/null 2>&1; then echo 'no run under valgrind: it is not on the PATH'; [ "$${CI:-}" != true ]; \
+	@if ! command -v valgrind >/dev/null 2>&1; then echo 'no run under valgrind: it is not on the PATH; install the package valgrind'; [ "$${CI:-}" != true ]; \
 	elif [ -x $(ORACLE)/differential ]; then \
 	  valgrind --error-exitcode=1 $(ORACLE)/differential --cases 20000 --seed $(SEED) --threads 1 --guards heap; fi
 

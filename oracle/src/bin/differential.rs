@@ -28,6 +28,8 @@ use oracle::tally::Tally;
 /// The least number of cases with which the sweeps are run, and with which the counts are judged.
 const SWEPT_FROM: u64 = 100_000;
 const COUNTED_FROM: u64 = 200_000;
+/// Every so many cases the run says how far it is.
+const TOLD_EVERY: u64 = 100_000;
 
 struct Options {
     cases: u64,
@@ -102,6 +104,10 @@ impl Runner<'_> {
     fn work(&mut self, options: &Options, part: u64) -> Option<()> {
         for number in (part..options.cases.div_ceil(ROUND)).step_by(options.threads as usize) {
             round(options.seed, number, &mut |case| self.run(case))?;
+            let done = number * ROUND;
+            if part == 0 && done >= TOLD_EVERY && done % TOLD_EVERY < options.threads * ROUND {
+                eprintln!("{done} cases so far");
+            }
             if number % 64 == 0 && !self.reference.memory_is_followed() {
                 self.found.lock().unwrap().push("the harness lost track of the Rust's memory".to_string());
                 return None;
