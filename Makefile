@@ -105,6 +105,9 @@ HARNESS = @if ! command -v cargo >/dev/null 2>&1; then echo 'no comparison with 
 	  cargo $(1) --quiet --release --offline $$features --manifest-path oracle/Cargo.toml; exit $$?; fi; \
 	[ "$${CI:-}" != true ]
 
+# What the harness built is run only where it could be built now.
+RUN = @if command -v cargo >/dev/null 2>&1 && [ -f '$(MMIX_RUST_SRC)/src/mmix.rs' ]; then $(1); fi
+
 oracle: need-rt lib
 	$(call HARNESS,build)
 
@@ -113,24 +116,24 @@ oracle-test: oracle
 	$(call HARNESS,test)
 
 differential: oracle
-	@if [ -x $(ORACLE)/differential ]; then $(ORACLE)/differential --cases $(CASES) --seed $(SEED); fi
+	$(call RUN,$(ORACLE)/differential --cases $(CASES) --seed $(SEED))
 
 # No byte outside the buffers is touched: pages that can't be, then valgrind.
 guards: oracle
-	@if [ -x $(ORACLE)/differential ]; then $(ORACLE)/differential --cases $(CASES) --seed $(SEED) --guards pages; fi
-	@if ! command -v valgrind >/dev/null 2>&1; then echo 'no run under valgrind: it is not on the PATH; install the package valgrind'; [ "$${CI:-}" != true ]; \
-	elif [ -x $(ORACLE)/differential ]; then \
-	  valgrind --error-exitcode=1 $(ORACLE)/differential --cases 20000 --seed $(SEED) --threads 1 --guards heap; fi
+	$(call RUN,$(ORACLE)/differential --cases $(CASES) --seed $(SEED) --guards pages)
+	@if ! command -v valgrind >/dev/null 2>&1; then echo 'no run under valgrind: it is not on the PATH; install the package valgrind'; [ "$${CI:-}" != true ]; fi
+	$(call RUN,if command -v valgrind >/dev/null 2>&1; then \
+	  valgrind --error-exitcode=1 $(ORACLE)/differential --cases 20000 --seed $(SEED) --threads 1 --guards heap; fi)
 
 # The list that crates/replay replays: 3,000 answers of the Rust.
 replay-list: oracle
-	@if [ -x $(ORACLE)/replay_list ]; then $(ORACLE)/replay_list crates/replay/data/answers; fi
+	$(call RUN,$(ORACLE)/replay_list crates/replay/data/answers)
 
 mutants: oracle
-	@if [ -x $(ORACLE)/mutants ]; then $(ORACLE)/mutants; fi
+	$(call RUN,$(ORACLE)/mutants)
 
 speed: oracle
-	@if [ -x $(ORACLE)/speed ]; then $(ORACLE)/speed && $(ORACLE)/stack_use; fi
+	$(call RUN,$(ORACLE)/speed && $(ORACLE)/stack_use)
 
 clean:
 	@rm -rf build target
