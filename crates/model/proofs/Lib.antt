@@ -1,3 +1,4 @@
+-- The laws of the definitions and the proofs of the theorems, for this crate and for those above it.
 pub mod Bools
 pub mod Fill
 pub mod Octa

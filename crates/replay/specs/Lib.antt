@@ -1,1 +1,2 @@
+-- What the contracts of this program cite.
 pub mod Format

@@ -1,3 +1,4 @@
+-- `digit_at` meets its contract: the digit at an index, and none past the end of the line.
 use mathlib.Core.Path.{sym}
 use borrow.Author.Needs.{needs}
 use Rattle.script.proofs.Digits.{digit-past}
