@@ -42,7 +42,7 @@ module _ (l : List ℕ) (h : length l ≡ imageLength → ⊥) where
 -- ---- on an image
 
 module _ (l : List ℕ) (n : length l ≡ imageLength) where
-  image : {A : Type 0} (a b : A) → a ≡ cond (isImage l) a b
+  pub image : {A : Type 0} (a b : A) → a ≡ cond (isImage l) a b
   image a b = ap (λ (t : Bool). cond t a b) (sym (eq-eqb (length l) imageLength n))
 
   decoded-is : decoded l ≡ stateOf l

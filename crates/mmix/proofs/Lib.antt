@@ -3,3 +3,4 @@ pub mod Octabytes
 pub mod Codec
 pub mod RoundTrips
 pub mod Entries
+pub mod Calls
