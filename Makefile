@@ -12,6 +12,8 @@ export MMIX_RUST_SRC := $(abspath $(RUST_SRC))
 export MMIX_LIB_DIR := $(abspath $(LIB_DIR))
 
 RATTLE = crates.txt $(shell find crates -name '*.rt' -o -name '*.antt')
+# All that `rt ci` goes by: files, folders (so that one taken away counts), the toolchain.
+CHECKED = crates.txt $(shell find crates) $(shell command -v rt)
 HOST_FLAGS = -O2 -std=c99 -Wall -Wextra -Werror
 
 .PHONY: help test prove bench scripts-test lib install host host-test oracle oracle-test differential guards mutants speed replay-list clean need-rt need-gcc
@@ -41,9 +43,16 @@ need-gcc:
 # printed there only where the rest has passed too.
 test: need-rt need-gcc
 	@docs/check_traceability
-	@mkdir -p build; set -o pipefail; rt ci 2>&1 | tee build/ci.log | sed -u '$$d' || { tail -n 1 build/ci.log; exit 1; }
+	@if $(MAKE) -q build/ci.log; then echo 'proofs and edits: as they passed, nothing has changed since; make clean to repeat them'; fi
+	@$(MAKE) --no-print-directory build/ci.log
 	@$(MAKE) --no-print-directory host-test scripts-test oracle-test differential
 	@tail -n 1 build/ci.log
+
+# It is there only where `rt ci` has passed.
+build/ci.log: $(CHECKED)
+	@mkdir -p build; rm -f $@
+	@set -o pipefail; rt ci 2>&1 | tee build/ci.part | sed -u '$$d' || { tail -n 1 build/ci.part; exit 1; }
+	@mv build/ci.part $@
 
 prove: need-rt
 	@rt check

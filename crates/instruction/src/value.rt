@@ -43,6 +43,7 @@ pub fn number_of(reply: Reply) -> u64
     }
 }
 
+/// One exception on a state by value.
 pub fn raise_exceptions(
     state: State,
     flags: u8,
@@ -87,6 +88,7 @@ pub fn raise_exceptions(
     }
 }
 
+/// One step on a state by value and a window.
 pub fn step(state: State, window: &mut [u8], base: u64, op: u8, x: u8, y: u8, z: u8) -> Outcome
     ensures { λ r. ⌜ Whole (stepOf (lent base (now (window .entry))) state op x y z) (r .reply) (r .state) (lent base (now (window .exit))) ⌝ }
 {

@@ -3,7 +3,7 @@ ghost use mathlib.Core.Path.{_≡_};
 ghost use Prim.Native.Nat.{ℕ, _+_, _≤_, _<_, _^_};
 ghost use lib.ListN.{length, drop};
 ghost use Rattle.model.specs.Octa.{written};
-ghost use Rattle.model.specs.Registers.{setRegister, withSpecial, stackStart};
+ghost use Rattle.model.specs.Registers.{withSpecial, stackStart};
 ghost use Rattle.model.specs.Parts.{lent};
 ghost use Rattle.script.specs.Script.{stepText, badText, turnOf, pieces, carried, scriptMost, printed};
 ghost use Rattle.script.specs.Writing.{Wrote, Leaves, lineLength};
@@ -28,21 +28,6 @@ struct After {
     going: bool,
     next: usize,
     state: State,
-}
-
-fn set_register(state: State, setting: Setting) -> State
-    ensures { λ r. ⌜ r ≡ setRegister state (setting .index) (setting .value) ⌝ }
-{
-    let mut general = state.general;
-    let mut special = state.special;
-    stack::pass::set_register(&mut general, &mut special, setting.index, setting.value);
-    State {
-        general: general,
-        special: special,
-        pc: state.pc,
-        halt: state.halt,
-        marks: state.marks,
-    }
 }
 
 fn set_special(state: State, setting: Setting) -> State
@@ -121,7 +106,7 @@ fn turn(out: &mut [u8], window: &mut [u8], at: usize, n: u64, state: State, form
 {
     match form {
         Form::Register(setting) => {
-            let left = set_register(state, setting);
+            let left = machine::value::set_register(state, setting.index, setting.value);
             After {
                 going: true,
                 next: at,
