@@ -14,12 +14,12 @@ use Rattle.model.specs.Octa.{octa, part, written, valueOf, bytesOf}
 use Rattle.model.specs.Memory.{Window, shapeOf, offset, has, writeOcta, one}
 use Rattle.model.specs.Plan.{look}
 use Rattle.model.specs.Parts.{lent}
-use Rattle.model.proofs.Octa.{part-cong, part-written, written-below, written-above, value-bytes}
+use Rattle.model.proofs.Octa.{length-written, part-cong, part-written, written-below, written-above, value-bytes}
 use Rattle.machine.specs.Octas.{readOcta, writtenOcta}
 use Rattle.machine.proofs.Octas.{look-is}
 use Rattle.model.proofs.Bytes.{eight}
 use Rattle.mmix.specs.Entries.{Stepped, Raised}
-use Rattle.replay.specs.Format.{octabyteOf, byteOf, Called, onLine, Lined, plainSum, runningSum}
+use Rattle.replay.specs.Format.{octabyteOf, byteOf, Called, onLine, Filled, Lined, plainSum, runningSum}
 
 -- ---- at base 0
 
@@ -85,29 +85,30 @@ line-small : (from by k : ℕ) → onLine from by k < 2 ^ 64
 unfolding onLine
 line-small from by k = omega arith
 
-pub lined-start : (first from by : ℕ) (l : List ℕ) → Lined first first from by l l
-lined-start first from by l = record { below = λ i h. refl; within = λ i p q. absurd (omega arith); above = λ i h. refl }
+pub filled-start : (first : ℕ) (f : ℕ → ℕ) (l : List ℕ) → Filled first first f l l
+filled-start first f l = record { same-length = refl; below = λ i h. refl; within = λ i p q. absurd (omega arith); above = λ i h. refl }
 
--- the line, one octabyte longer
-pub lined-next : (first i from by v : ℕ) (before l m : List ℕ) → Lined first i from by before l → first ≤ i → 8 * i + 8 ≤ length l → v ≡ onLine from by (i - first) → m ≡ written l (8 * i) (bytesOf v) → Lined first (i + 1) from by before m
-lined-next first i from by v before l m line start fits at e = record {
-  below = λ j h. at-octabyte j ∙ write-below l i v j (omega arith) ∙ line .below j h;
+-- one octabyte more
+pub filled-next : (first i : ℕ) (f : ℕ → ℕ) (v : ℕ) (before l m : List ℕ) → Filled first i f before l → first ≤ i → 8 * i + 8 ≤ length l → v < 2 ^ 64 → v ≡ f i → m ≡ written l (8 * i) (bytesOf v) → Filled first (i + 1) f before m
+filled-next first i f v before l m filled start fits small at e = record {
+  same-length = ap length e ∙ length-written l (8 * i) (bytesOf v) ∙ filled .same-length;
+  below = λ j h. at-octabyte j ∙ write-below l i v j (omega arith) ∙ filled .below j h;
   within = λ j p q. go j p q (decLt j i);
-  above = λ j h. at-octabyte j ∙ write-above l i v j (omega arith) ∙ line .above j (omega arith);
+  above = λ j h. at-octabyte j ∙ write-above l i v j (omega arith) ∙ filled .above j (omega arith);
 }
   where
     at-octabyte : (j : ℕ) → octabyteOf m j ≡ octabyteOf (written l (8 * i) (bytesOf v)) j
     at-octabyte j = ap (λ (k : List ℕ). octabyteOf k j) e
 
-    go : (j : ℕ) → first ≤ j → j < i + 1 → Dec (j < i) → octabyteOf m j ≡ onLine from by (j - first)
-    go j p q (yes h) = at-octabyte j ∙ write-below l i v j h ∙ line .within j p h
+    go : (j : ℕ) → first ≤ j → j < i + 1 → Dec (j < i) → octabyteOf m j ≡ f j
+    go j p q (yes h) = at-octabyte j ∙ write-below l i v j h ∙ filled .within j p h
     go j p q (no h) =
         let same : i ≡ j = omega arith in
-        at-octabyte j
-        ∙ ap (octabyteOf (written l (8 * i) (bytesOf v))) (sym same)
-        ∙ write-same l i v fits (omega (arith, line-small from by (i - first)))
-        ∙ at
-        ∙ ap (λ (k : ℕ). onLine from by (k - first)) same
+        at-octabyte j ∙ ap (octabyteOf (written l (8 * i) (bytesOf v))) (sym same) ∙ write-same l i v fits small ∙ at ∙ ap f same
+
+pub lined-next : (first i from by v : ℕ) (before l m : List ℕ) → Lined first i from by before l → first ≤ i → 8 * i + 8 ≤ length l → v ≡ onLine from by (i - first) → m ≡ written l (8 * i) (bytesOf v) → Lined first (i + 1) from by before m
+lined-next first i from by v before l m line start fits at e =
+    filled-next first i _ v before l m line start fits (omega (arith, line-small from by (i - first))) at e
 
 pub plain-next : (l : List ℕ) (n : ℕ) → (plainSum l n + octabyteOf l n) % 2 ^ 64 ≡ plainSum l (n + 1)
 unfolding plainSum

@@ -1,10 +1,14 @@
--- The list's own terms: octabytes by their number, lines of numbers, sums, the call, and what it is to be as told. What is given and
--- what is told of a record is at the head of oracle/src/bin/replay_list.rs.
+-- The list's own terms: octabytes by their number, lines of numbers, the start of a case, sums, the call, and what it is to be as told. What
+-- is given and what is told of a record is at the head of oracle/src/bin/replay_list.rs.
 use Prim.Native.Nat.{ℕ, zero, suc, _+_, _-_, _*_, _/_, _%_, _^_, _≤_, _<_}
 use mathlib.Core.Path.{_≡_}
+use mathlib.Core.Bool.{cond}
 use mathlib.Core.List.{List}
-use lib.ListN.{length, getD}
-use Rattle.model.specs.Octa.{part, valueOf}
+use lib.Dec.{ltb, eqb}
+use lib.ListN.{length, getD, take, drop}
+use Rattle.model.specs.Fill.{within}
+use Rattle.model.specs.Octa.{part, written, valueOf, bytesOf}
+use Rattle.model.specs.Registers.{rO, rS, rG, rL, rA}
 use Rattle.model.specs.Parts.{lent}
 use Rattle.mmix.specs.Image.{imageLength}
 use Rattle.mmix.specs.Entries.{Stepped, Raised}
@@ -27,15 +31,86 @@ HasTold l = 80 ≤ length l
 abbrev pub IsImage : List ℕ → Type 0
 IsImage l = length l ≡ imageLength
 
+-- rL and rG of what is given, in range
+pub record HasThresholds (g : List ℕ) (rl rg : ℕ) : Type 0 where
+  pub rl-is : rl ≡ octabyteOf g 15
+  pub rg-is : rg ≡ octabyteOf g 14
+  pub in-order : rl ≤ rg
+  pub in-range : rg ≤ 256
+
+-- octabyte j becomes v
+pub record OctabyteSet (j v : ℕ) (before after : List ℕ) : Type 0 where
+  pub bytes-are : after ≡ written before (8 * j) (bytesOf v)
+  pub fits : v < 2 ^ 64
+
+-- ---- lines of numbers
+
 -- number k of a line: from + k × by
 unfoldable pub onLine : ℕ → ℕ → ℕ → ℕ
 onLine from by k = (from + k * by) % 2 ^ 64
 
--- octabytes first to end - 1 become a line, and the others stay
-pub record Lined (first end from by : ℕ) (before after : List ℕ) : Type 0 where
+-- octabytes first to end - 1 become what f says, and the others stay
+pub record Filled (first end : ℕ) (f : ℕ → ℕ) (before after : List ℕ) : Type 0 where
+  pub same-length : length after ≡ length before
   pub below : (i : ℕ) → i < first → octabyteOf after i ≡ octabyteOf before i
-  pub within : (i : ℕ) → first ≤ i → i < end → octabyteOf after i ≡ onLine from by (i - first)
+  pub within : (i : ℕ) → first ≤ i → i < end → octabyteOf after i ≡ f i
   pub above : (i : ℕ) → end ≤ i → octabyteOf after i ≡ octabyteOf before i
+
+-- they become a line
+abbrev pub Lined : ℕ → ℕ → ℕ → ℕ → List ℕ → List ℕ → Type 0
+Lined first end from by before after = Filled first end (λ i. onLine from by (i - first)) before after
+
+-- ---- the start of a case, of what is given
+
+-- $k: on a line below rL and from rG up, 0 between
+unfoldable pub generalAt : List ℕ → ℕ → ℕ
+generalAt g k = cond (within (octabyteOf g 15) (octabyteOf g 14) k) 0 (onLine (octabyteOf g 5) (octabyteOf g 6) k)
+
+-- special register k: on a line, with five set apart
+unfoldable pub specialAt : List ℕ → ℕ → ℕ
+specialAt g k =
+    cond (eqb k rS) (octabyteOf g 18) (cond (eqb k rO) (octabyteOf g 17) (cond (eqb k rA) (octabyteOf g 16)
+    (cond (eqb k rL) (octabyteOf g 15) (cond (eqb k rG) (octabyteOf g 14) (onLine (octabyteOf g 7) (octabyteOf g 8) k)))))
+
+-- PC, halt code and marks, octabytes 288 to 290 of the image
+abbrev pub restAt : List ℕ → ℕ → ℕ
+restAt g i = octabyteOf g (i - 277)
+
+-- octabyte j of the window
+abbrev pub windowAt : List ℕ → ℕ → ℕ
+windowAt g j = onLine (octabyteOf g 9) (octabyteOf g 10) j
+
+-- what stands at place p once k pairs are set, v before them: the last pair that names p counts
+unfoldable pub settled : List ℕ → ℕ → ℕ → ℕ → ℕ
+settled g zero p v = v
+settled g (suc k) p v = cond (eqb (octabyteOf g (20 + 2 * k)) p) (octabyteOf g (21 + 2 * k)) (settled g k p v)
+
+-- image and window once k pairs are set: a place below 256 is a general register, 4096 + j is octabyte j of the window
+pub record Placed (g : List ℕ) (k : ℕ) (image window : List ℕ) : Type 0 where
+  pub image-long : IsImage image
+  pub window-long : length window ≡ 8 * octabyteOf g 4
+  pub general : (i : ℕ) → i < 256 → octabyteOf image i ≡ settled g k i (generalAt g i)
+  pub special : (i : ℕ) → 256 ≤ i → i < 288 → octabyteOf image i ≡ specialAt g (i - 256)
+  pub rest : (i : ℕ) → 288 ≤ i → i < 291 → octabyteOf image i ≡ restAt g i
+  pub memory : (j : ℕ) → j < octabyteOf g 4 → octabyteOf window j ≡ settled g k (4096 + j) (windowAt g j)
+
+-- one pair set
+pub record PlaceSet (p v : ℕ) (image window image' window' : List ℕ) : Type 0 where
+  pub image-length : length image' ≡ length image
+  pub window-length : length window' ≡ length window
+  pub general : (i : ℕ) → i < 256 → octabyteOf image' i ≡ cond (eqb p i) v (octabyteOf image i)
+  pub others : (i : ℕ) → 256 ≤ i → octabyteOf image' i ≡ octabyteOf image i
+  pub memory : (j : ℕ) → j < length window / 8 → octabyteOf window' j ≡ cond (eqb p (4096 + j)) v (octabyteOf window j)
+
+-- how many pairs there are
+abbrev pub pairsOf : List ℕ → ℕ
+pairsOf g = (length g / 8 - 20) / 2
+
+-- the start: image and window, each octabyte of them
+abbrev pub Started : List ℕ → List ℕ → List ℕ → Type 0
+Started g image window = Placed g (pairsOf g) image window
+
+-- ---- sums
 
 -- the first n octabytes added up
 unfoldable pub plainSum : List ℕ → ℕ → ℕ
@@ -51,6 +126,8 @@ runningSum l (suc n) = (runningSum l n + plainSum l (suc n)) % 2 ^ 64
 pub record Summed (l : List ℕ) (plain running : ℕ) : Type 0 where
   pub plain-is : plain ≡ plainSum l (length l / 8)
   pub running-is : running ≡ runningSum l (length l / 8)
+
+-- ---- the call, and what is told of it
 
 -- the call that is given: a step where its first byte is 0, else an exception, as the library's contracts have them
 pub record Called (given image window : List ℕ) (reply : ℕ) (image' window' : List ℕ) : Type 0 where
@@ -70,7 +147,48 @@ pub record AsTold (told : List ℕ) (reply : ℕ) (image window : List ℕ) : Ty
   pub window-plain : octabyteOf told 8 ≡ plainSum window (length window / 8)
   pub window-running : octabyteOf told 9 ≡ runningSum window (length window / 8)
 
--- of so many records so many agree, and so many before the first that does not
-pub record Counted (records agree first : ℕ) : Type 0 where
+-- from the start that is given, the library leaves what is told
+pub record Agrees (given told : List ℕ) : Type 0 where
+  pub image : List ℕ
+  pub window : List ℕ
+  pub reply : ℕ
+  pub image' : List ℕ
+  pub window' : List ℕ
+  pub started : Started given image window
+  pub called : Called given image window reply image' window'
+  pub as-told : AsTold told reply image' window'
+
+-- ---- the list
+
+-- how many records it says that it has
+unfoldable pub recordsOf : List ℕ → ℕ
+recordsOf l = cond (ltb (length l) 8) 0 (octabyteOf l 0)
+
+-- bytes of the record at byte `at`: thirty octabytes and its pairs
+unfoldable pub recordBytes : List ℕ → ℕ → ℕ
+recordBytes l at = 8 * (30 + 2 * octabyteOf (drop at l) 19)
+
+-- where record k starts
+unfoldable pub recordAt : List ℕ → ℕ → ℕ
+recordAt l zero = 8
+recordAt l (suc k) = recordAt l k + recordBytes l (recordAt l k)
+
+-- what is given of the record at byte `at`, and what is told: its last ten octabytes
+abbrev pub givenAt : List ℕ → ℕ → List ℕ
+givenAt l at = take (recordBytes l at - 80) (drop at l)
+
+abbrev pub toldAt : List ℕ → ℕ → List ℕ
+toldAt l at = take 80 (drop (at + recordBytes l at - 80) l)
+
+-- record k is whole and agrees
+pub record RecordAgrees (l : List ℕ) (k : ℕ) : Type 0 where
+  pub is-whole : recordAt l (suc k) ≤ length l
+  pub agrees : Agrees (givenAt l (recordAt l k)) (toldAt l (recordAt l k))
+
+-- of so many records so many agree, the first ones before `first` do, and where all agree `first` is their number
+pub record Counted (l : List ℕ) (records agree first : ℕ) : Type 0 where
+  pub records-are : records ≡ recordsOf l
   pub agree-most : agree ≤ records
   pub first-most : first ≤ agree
+  pub before-first : (k : ℕ) → k < first → RecordAgrees l k
+  pub all-agree : agree ≡ records → first ≡ records

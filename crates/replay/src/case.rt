@@ -2,9 +2,9 @@
 // held to what is told.
 ghost use mathlib.Core.Path.{_≡_};
 ghost use mathlib.Core.Bool.{true};
-ghost use Prim.Native.Nat.{ℕ, _+_, _*_, _≤_, _<_};
+ghost use Prim.Native.Nat.{ℕ, _+_, _-_, _*_, _/_, _≤_, _<_};
 ghost use lib.ListN.{length, getD};
-ghost use Rattle.replay.specs.Format.{HasGiven, HasTold, IsImage, octabyteOf, Called, AsTold};
+ghost use Rattle.replay.specs.Format.{HasGiven, HasTold, HasThresholds, IsImage, octabyteOf, OctabyteSet, Filled, generalAt, specialAt, restAt, windowAt, Placed, PlaceSet, Started, Called, AsTold, Agrees};
 use crate::octabytes::octabyte;
 use crate::octabytes::set_octabyte;
 use crate::octabytes::sums_of;
@@ -70,13 +70,15 @@ const WINDOW_MOST: u64 = 512;
 // Octabyte j of the image becomes octabyte i of what is given.
 fn copy(given: &[u8], i: usize, image: &mut [u8], j: usize)
     requires { ⌜ (8 * i + 8 ≤ length (now given)) × (8 * j + 8 ≤ length (now image)) ⌝ }
+    ensures { λ _. ⌜ OctabyteSet j (octabyteOf (now (given .entry)) i) (now (image .entry)) (now (image .exit)) ⌝ }
 {
     set_octabyte(&mut *image, j, octabyte(given, i));
 }
 
 // The general registers: a line of numbers below rL and from rG up, and 0 between.
 fn write_general(given: &[u8], image: &mut [u8], rl: usize, rg: usize)
-    requires { ⌜ HasGiven (now given) × IsImage (now image) × (rl ≤ rg) × (rg ≤ 256) ⌝ }
+    requires { ⌜ HasGiven (now given) × IsImage (now image) × HasThresholds (now given) rl rg ⌝ }
+    ensures { λ _. ⌜ Filled 0 256 (generalAt (now (given .entry))) (now (image .entry)) (now (image .exit)) ⌝ }
 {
     write_line(
         &mut *image,
@@ -91,6 +93,7 @@ fn write_general(given: &[u8], image: &mut [u8], rl: usize, rg: usize)
 // The special registers: a line of numbers, with five set apart.
 fn write_special(given: &[u8], image: &mut [u8])
     requires { ⌜ HasGiven (now given) × IsImage (now image) ⌝ }
+    ensures { λ _. ⌜ Filled 256 288 (λ (i : ℕ). specialAt (now (given .entry)) (i - 256)) (now (image .entry)) (now (image .exit)) ⌝ }
 {
     write_line(
         &mut *image,
@@ -109,6 +112,7 @@ fn write_special(given: &[u8], image: &mut [u8])
 // PC, halt code and marks.
 fn write_rest(given: &[u8], image: &mut [u8])
     requires { ⌜ HasGiven (now given) × IsImage (now image) ⌝ }
+    ensures { λ _. ⌜ Filled 288 291 (restAt (now (given .entry))) (now (image .entry)) (now (image .exit)) ⌝ }
 {
     copy(given, PC, &mut *image, IMAGE_PC);
     copy(given, HALT, &mut *image, IMAGE_HALT);
@@ -118,6 +122,7 @@ fn write_rest(given: &[u8], image: &mut [u8])
 // The window: a line of numbers.
 fn write_window(given: &[u8], window: &mut [u8])
     requires { ⌜ HasGiven (now given) ⌝ }
+    ensures { λ _. ⌜ Filled 0 (length (now (window .entry)) / 8) (windowAt (now (given .entry))) (now (window .entry)) (now (window .exit)) ⌝ }
 {
     let n = window.len() / 8;
     write_line(
@@ -132,6 +137,7 @@ fn write_window(given: &[u8], window: &mut [u8])
 // What stands at a place becomes v: below 256 a general register, at 4096 + j octabyte j of the window, else nothing.
 fn set_place(image: &mut [u8], window: &mut [u8], place: u64, v: u64)
     requires { ⌜ IsImage (now image) ⌝ }
+    ensures { λ _. ⌜ PlaceSet place v (now (image .entry)) (now (window .entry)) (now (image .exit)) (now (window .exit)) ⌝ }
 {
     if place < 256 {
         set_octabyte(&mut *image, place as usize, v);
@@ -148,7 +154,8 @@ fn set_place(image: &mut [u8], window: &mut [u8], place: u64, v: u64)
 
 // The pairs that follow, one after the other.
 fn set_places(given: &[u8], image: &mut [u8], window: &mut [u8])
-    requires { ⌜ IsImage (now image) ⌝ }
+    requires { ⌜ HasGiven (now given) × Placed (now given) 0 (now image) (now window) ⌝ }
+    ensures { λ _. ⌜ Started (now (given .entry)) (now (image .exit)) (now (window .exit)) ⌝ }
 {
     let n = given.len() / 8;
     let mut i = GIVEN;
@@ -165,7 +172,8 @@ fn set_places(given: &[u8], image: &mut [u8], window: &mut [u8])
 
 // The start of the case: first the lines, then what is set apart.
 fn build(given: &[u8], image: &mut [u8], window: &mut [u8], rl: usize, rg: usize)
-    requires { ⌜ HasGiven (now given) × IsImage (now image) × (rl ≤ rg) × (rg ≤ 256) ⌝ }
+    requires { ⌜ HasGiven (now given) × IsImage (now image) × HasThresholds (now given) rl rg × (length (now window) ≡ 8 * octabyteOf (now given) 4) ⌝ }
+    ensures { λ _. ⌜ Started (now (given .entry)) (now (image .exit)) (now (window .exit)) ⌝ }
 {
     write_general(given, &mut *image, rl, rg);
     write_special(given, &mut *image);
@@ -232,6 +240,7 @@ fn is_as_told(told: &[u8], reply: u64, image: &[u8], window: &[u8]) -> bool
 /// Whether the machine leaves what is told of the case that is given. Never so of a case that breaks the list's rules.
 pub(crate) fn agrees(given: &[u8], told: &[u8]) -> bool
     requires { ⌜ HasGiven (now given) × HasTold (now told) ⌝ }
+    ensures { λ r. ⌜ (r ≡ true → Agrees (now (given .entry)) (now (told .entry))) ⌝ }
 {
     let n = octabyte(given, WINDOW_LEN);
     let rl = octabyte(given, RL);

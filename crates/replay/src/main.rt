@@ -6,9 +6,9 @@
 //! and the sums of the whole state and of the whole window are compared. A list that is damaged or cut short ends in a
 //! lower count.
 ghost use mathlib.Core.Path.{_≡_};
-ghost use Prim.Native.Nat.{_+_, _≤_};
+ghost use Prim.Native.Nat.{_+_, _≤_, _<_};
 ghost use lib.ListN.{length};
-ghost use Rattle.replay.specs.Format.{Counted};
+ghost use Rattle.replay.specs.Format.{recordBytes, Counted};
 use case::GIVEN;
 use case::PAIRS;
 use case::TOLD;
@@ -29,7 +29,7 @@ struct Tally {
 // Bytes of the record that starts at byte `at`, or 0 where the list is cut short.
 fn record_len(list: &[u8], at: usize) -> usize
     requires { ⌜ at ≤ length (now list) ⌝ }
-    ensures { λ r. ⌜ at + r ≤ length (now (list .entry)) ⌝ }
+    ensures { λ r. ⌜ (at + r ≤ length (now (list .entry))) × (0 < r → r ≡ recordBytes (now (list .entry)) at) ⌝ }
 {
     let rest = &list[at..];
     let room = rest.len() / 8;
@@ -46,7 +46,7 @@ fn record_len(list: &[u8], at: usize) -> usize
 
 // Replays the records of the list, one after the other, as far as it goes.
 fn replay(list: &[u8]) -> Tally
-    ensures { λ r. ⌜ Counted (r .records) (r .agree) (r .first) ⌝ }
+    ensures { λ r. ⌜ Counted (now (list .entry)) (r .records) (r .agree) (r .first) ⌝ }
 {
     if list.len() < 8 {
         return Tally {

@@ -5,7 +5,7 @@ use native.Mathlib.Omega.{arith}
 use borrow.Author.Needs.{needs}
 use lib.ListN.{length}
 use Rattle.replay.specs.Format.{Lined, onLine}
-use Rattle.replay.proofs.Laws.{line-start, line-next, lined-start, lined-next}
+use Rattle.replay.proofs.Laws.{line-start, line-next, filled-start, lined-next}
 use Rattle.replay.proofs.octabytes.write_line.Statement.{statement}
 use Rattle.replay.proofs.octabytes.write_line.Tie as tie
 
@@ -17,7 +17,7 @@ abbrev μ-loop : tie.MeasureT-loop
 μ-loop bytes₀ first end from by v₀ i₀ bytes v i = end - i
 
 loop-holds : tie.Need-loop-holds Inv-loop μ-loop
-loop-holds c = (omega arith, omega arith, refl, line-start _ _ _ (omega arith), lined-start _ _ _ _)
+loop-holds c = (omega arith, omega arith, refl, line-start _ _ _ (omega arith), filled-start _ _ _)
 
 set-octabyte-requires : tie.Need-set-octabyte-requires Inv-loop μ-loop
 set-octabyte-requires c κs = omega arith
