@@ -43,7 +43,7 @@ need-gcc:
 # printed there only where the rest has passed too.
 test: need-rt need-gcc
 	@docs/check_traceability
-	@if $(MAKE) -q build/ci.log; then echo 'proofs and edits: as they passed, nothing has changed since; make clean to repeat them'; fi
+	@if $(MAKE) --no-print-directory -q build/ci.log; then echo 'proofs and edits: as they passed, nothing has changed since; make clean to repeat them'; fi
 	@$(MAKE) --no-print-directory build/ci.log
 	@$(MAKE) --no-print-directory host-test scripts-test oracle-test differential
 	@tail -n 1 build/ci.log
