@@ -139,7 +139,7 @@ missing-outside w (suc n) a e = go (ℕ-discrete (refusing w a) 0) (λ f. missin
     outside n false h = refl
 
     go : Dec (refusing w a ≡ 0) → (eqb (worst (refusing w) (a + 8) n) 0 ≡ false → allInside w (missing (refusing w) (a + 8) n) ≡ false)
-        → allInside w (cond (eqb (refusing w a) 0) (missing (refusing w) (a + 8) n) (a ∷ missing (refusing w) (a + 8) n)) ≡ false
+        → allInside w (cond (eqb (refusing w a) 0) [] (a ∷ []) ++ missing (refusing w) (a + 8) n) ≡ false
     go (yes q) r = rw (eq-eqb _ _ q) (r (ne-eqb _ _ (λ z. eqb-false (max (refusing w a) (worst (refusing w) (a + 8) n)) 0 e (let y : worst (refusing w) (a + 8) n ≡ 0 = z in omega arith))))
     go (no q) r = rw (ne-eqb _ _ q, outside q (has w a) refl)
 

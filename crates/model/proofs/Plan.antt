@@ -59,7 +59,7 @@ passed-off P a n k xs false h l = tt
 missing-off : (P : ℕ → Type 0) (j : ℕ → ℕ) (n a : ℕ) → All P (ups a n) → All P (missing j a n)
 unfolding missing All ups
 missing-off P j zero a h = tt
-missing-off P j (suc n) a h = on (All P) (eqb (j a) 0) (λ e. missing-off P j n (a + 8) (h .1)) (λ e. (h .0, missing-off P j n (a + 8) (h .1)))
+missing-off P j (suc n) a h = on (λ (xs : List ℕ). All P (xs ++ missing j (a + 8) n)) (eqb (j a) 0) (λ e. missing-off P j n (a + 8) (h .1)) (λ e. (h .0, missing-off P j n (a + 8) (h .1)))
 
 pub worst-head : (j : ℕ → ℕ) (a n : ℕ) → worst j a (suc n) ≡ 0 → j a ≡ 0
 unfolding worst

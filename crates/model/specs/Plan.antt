@@ -37,7 +37,7 @@ clear j a n = eqb (worst j a n) 0
 -- the addresses of a run that are refused
 unfoldable pub missing : (ℕ → ℕ) → ℕ → ℕ → List ℕ
 missing j a zero = []
-missing j a (suc n) = cond (eqb (j a) 0) (missing j (a + 8) n) (a ∷ missing j (a + 8) n)
+missing j a (suc n) = cond (eqb (j a) 0) [] (a ∷ []) ++ missing j (a + 8) n
 
 -- 6 under the number that this read gives it
 unfoldable pub named : ℕ → ℕ → ℕ
