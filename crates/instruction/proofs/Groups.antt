@@ -1,10 +1,10 @@
 -- The group of an opcode: what the tests of `group_of` say of it, computed over all opcodes.
-use mathlib.Core.Path.{_≡_, refl, sym, ap, _∙_}
+use mathlib.Core.Path.{_≡_, refl, sym, ap}
 use mathlib.Core.Bool.{Bool, true, false, cond, _&&_, _||_}
-use Prim.Native.Nat.{ℕ, _/_, _≤_, _<_}
+use Prim.Native.Nat.{ℕ, _/_, _<_}
 use native.Mathlib.Omega.{arith}
 use lib.Dec.{leb, ltb, eqb}
-use borrow.Author.Tests.{leb-true, leb-false, lt-leb, eqb-true, eqb-false, eq-eqb}
+use borrow.Author.Tests.{leb-true, lt-leb, eqb-true}
 use Rattle.model.specs.Opcodes.{Arm, branch, jump, getAddress, go, pushJump, pushGo, pop, put, get, save, unsave, sync, swym, trip, trap, none, armOf, conditionOf}
 use Rattle.model.proofs.Bools.{and-left, and-right, each, at-each}
 use Rattle.instruction.specs.Arms.{Controls, Grouped}

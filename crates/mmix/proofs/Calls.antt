@@ -1,9 +1,8 @@
 -- A list of calls on an image is a list of steps on its state, so demand 3 holds of the two functions.
 use mathlib.Core.Path.{_≡_, refl, sym, ap, subst, _∙_}
 use mathlib.Core.Logic.{_⊎_, inl, inr}
-use mathlib.Core.Bool.{Bool, cond}
 use mathlib.Core.List.{List, [], _∷_}
-use Prim.Native.Nat.{ℕ, _+_, _≤_, _<_}
+use Prim.Native.Nat.{ℕ, _+_, _≤_}
 use native.Mathlib.Omega.{arith}
 use lib.ListN.{length}
 use Rattle.model.specs.Memory.{Window, one}
@@ -12,8 +11,7 @@ use Rattle.model.specs.Lists.{Ran, stepOn, runs, runNeeds}
 use Rattle.model.specs.Registers.{rO, sp, reg, Sized, Words}
 use Rattle.model.specs.Said.{tell}
 use Rattle.model.specs.Frames.{hole}
-use Rattle.model.specs.Step.{Item, step, exception, stepOf, exceptionOf, itemPlan, mmix}
-use Rattle.model.specs.Numbers.{numberOf, replyOf}
+use Rattle.model.specs.Step.{Item, step, exception, stepOf, itemPlan, mmix}
 use Rattle.model.specs.Keeps.{InstructionFits, Fits, Bytes}
 use Rattle.model.specs.Demand.{Within, opcodeOf, SameOutside, AtPop, GivesBack, Private, after, popAfter}
 use Rattle.model.specs.declared.State.{State}
@@ -22,8 +20,7 @@ use Rattle.model.proofs.Leaves.{replies-leave}
 use Rattle.model.proofs.Kept.{items-keep}
 use Rattle.model.proofs.Demand.{demand3}
 use Rattle.mmix.specs.Image.{imageLength, imageOf, stateOf}
-use Rattle.mmix.specs.Entries.{Stepped, Raised}
-use Rattle.mmix.specs.Calls.{IsImage, Made, Meets, Chain, items, replies, lastImage, lastWindow, AllFit, Carried, ListsOfCalls, Returns, PrivateCalls, Demand3Calls}
+use Rattle.mmix.specs.Calls.{ImageBytes, Made, Meets, Chain, items, replies, lastImage, lastWindow, AllFit, Carried, ListsOfCalls, Returns, Demand3Calls}
 use Rattle.mmix.proofs.RoundTrips.{round-trips}
 use Rattle.mmix.proofs.Entries.{image}
 
@@ -57,46 +54,46 @@ call-left l w (exception f op x y z a b) r m v n g = record {
 -- ---- a list of calls
 
 -- the image is that of its state
-record Whole (l : List ℕ) : Type 0 where
+record Intact (l : List ℕ) : Type 0 where
   long : length l ≡ imageLength
   back : l ≡ imageOf (stateOf l)
   words : Words (stateOf l)
 
-whole : (l : List ℕ) → IsImage l → Whole l
-whole l h = record { long = h .long; back = sym (round-trips .image-state l (h .long) (h .byte)); words = round-trips .state-words l (h .byte) }
+intact-image : (l : List ℕ) → ImageBytes l → Intact l
+intact-image l h = record { long = h .long; back = sym (round-trips .image-state l (h .long) (h .byte)); words = round-trips .state-words l (h .byte) }
 
-whole-of : (m : List ℕ) (s : State) → m ≡ imageOf s → Sized s → Words s → Whole m
-whole-of m s e z w =
+intact-of : (m : List ℕ) (s : State) → m ≡ imageOf s → Sized s → Words s → Intact m
+intact-of m s e z w =
     let t : s ≡ stateOf m = sym (ap stateOf e ∙ round-trips .state-image s z w) in
     record { long = ap length e ∙ round-trips .image-length s z; back = e ∙ ap imageOf t; words = subst Words t w }
 
--- image and window after a call are whole again
+-- image and window after a call are intact again
 record After (l : List ℕ) (w : Window) (i : Item) (m : List ℕ) (v : Window) : Type 0 where
   state-is : stateOf m ≡ stepOn one mmix (stateOf l) w i .state
-  whole-is : Whole m
+  intact : Intact m
   bytes-are : Bytes v
 
-after-call : (l : List ℕ) (w : Window) (i : Item) (r : ℕ) (m : List ℕ) (v : Window) → Whole l → Bytes w → Fits i → Left l w i r m v → After l w i m v
+after-call : (l : List ℕ) (w : Window) (i : Item) (r : ℕ) (m : List ℕ) (v : Window) → Intact l → Bytes w → Fits i → Left l w i r m v → After l w i m v
 after-call l w i r m v h b f g =
     let z : Sized (stepOn one mmix (stateOf l) w i .state) = items-keep .sized w (stateOf l) i (round-trips .state-sized l) in
     let k : Words (stepOn one mmix (stateOf l) w i .state) = items-keep .words w (stateOf l) i f b (h .words) in
     record {
       state-is = ap stateOf (g .image-is) ∙ round-trips .state-image _ z k;
-      whole-is = whole-of m _ (g .image-is) z k;
+      intact = intact-of m _ (g .image-is) z k;
       bytes-are = subst Bytes (sym (g .window-is)) (items-keep .bytes w (stateOf l) i b);
     }
 
 -- the state that a list starts from, and what it ends in
 record Ended (l : List ℕ) (w : Window) (cs : List Made) (s : State) (v : Window) (is : List Item) : Type 0 where
   carried : Carried l w cs (runs one mmix s v is)
-  whole-is : Whole (lastImage l cs)
+  intact : Intact (lastImage l cs)
   bytes-are : Bytes (lastWindow w cs)
 
-chain-ended : (l : List ℕ) (w : Window) (cs : List Made) → Whole l → Bytes w → AllFit (items cs) → Chain l w cs → Ended l w cs (stateOf l) w (items cs)
+chain-ended : (l : List ℕ) (w : Window) (cs : List Made) → Intact l → Bytes w → AllFit (items cs) → Chain l w cs → Ended l w cs (stateOf l) w (items cs)
 unfolding Chain AllFit items replies lastImage lastWindow runs
 chain-ended l w [] h b f g = record {
   carried = record { replies-are = refl; image-is = h .back; state-is = refl; window-is = refl };
-  whole-is = h;
+  intact = h;
   bytes-are = b;
 }
 chain-ended l w (c ∷ cs) h b f g =
@@ -106,7 +103,7 @@ chain-ended l w (c ∷ cs) h b f g =
     let e : Ended (c .image) (c .window) cs (o .state) (o .memory) (items cs)
     = subst (λ (s : State). Ended (c .image) (c .window) cs s (o .memory) (items cs)) (n .state-is)
     (subst (λ (v : Window). Ended (c .image) (c .window) cs (stateOf (c .image)) v (items cs)) (k .window-is)
-    (chain-ended (c .image) (c .window) cs (n .whole-is) (n .bytes-are) (f .1) (g .1))) in
+    (chain-ended (c .image) (c .window) cs (n .intact) (n .bytes-are) (f .1) (g .1))) in
     record {
       carried = record {
         replies-are = ap (λ (r : ℕ). r ∷ replies cs) (k .reply-is) ∙ ap (λ (rs : List ℕ). o .reply ∷ rs) (e .carried .replies-are);
@@ -114,17 +111,17 @@ chain-ended l w (c ∷ cs) h b f g =
         state-is = e .carried .state-is;
         window-is = e .carried .window-is;
       };
-      whole-is = e .whole-is;
+      intact = e .intact;
       bytes-are = e .bytes-are;
     }
 
 pub lists-of-calls : ListsOfCalls
-lists-of-calls l w cs h b f g = chain-ended l w cs (whole l h) b f g .carried
+lists-of-calls l w cs h b f g = chain-ended l w cs (intact-image l h) b f g .carried
 
 -- ---- demand 3
 
 -- a POP on an image and a window that are those of r
-returns : (h : ℕ) (l m : List ℕ) (v : Window) (r : Ran State Window) → Whole m → Bytes v → stateOf m ≡ r .state → v ≡ r .memory
+returns : (h : ℕ) (l m : List ℕ) (v : Window) (r : Ran State Window) → Intact m → Bytes v → stateOf m ≡ r .state → v ≡ r .memory
     → ((x y z : ℕ) → GivesBack h (stateOf l) (popAfter r x y z)) → Returns h l m v
 unfolding Meets Fits stepOn mmix itemPlan one stepOf
 returns h l m v r k b es ev back x y z q n u f g =
@@ -143,16 +140,16 @@ record Begun (l : List ℕ) (w : Window) (op x y z : ℕ) (a : Made) (cs : List 
   window-is : a .window ≡ stepOf w (stateOf l) op x y z .memory
   ended : Ended (a .image) (a .window) cs (stepOf w (stateOf l) op x y z .state) (stepOf w (stateOf l) op x y z .memory) is
 
-begun : (l : List ℕ) (w : Window) (op x y z : ℕ) (a : Made) (cs : List Made) (is : List Item) → IsImage l → Bytes w → InstructionFits op x y z
+begun : (l : List ℕ) (w : Window) (op x y z : ℕ) (a : Made) (cs : List Made) (is : List Item) → ImageBytes l → Bytes w → InstructionFits op x y z
     → AllFit is → items cs ≡ is → a .item ≡ step op x y z → Chain l w (a ∷ cs) → Begun l w op x y z a cs is
 unfolding Chain Fits stepOn mmix itemPlan one stepOf
 begun l w op x y z a cs is h b f fs es ei g =
     let k : Left l w (step op x y z) (a .reply) (a .image) (a .window)
     = call-left l w (step op x y z) (a .reply) (a .image) (a .window) (h .long) (subst (λ (i : Item). Meets l w i (a .reply) (a .image) (a .window)) ei (g .0)) in
-    let n : After l w (step op x y z) (a .image) (a .window) = after-call l w (step op x y z) (a .reply) (a .image) (a .window) (whole l h) b f k in
+    let n : After l w (step op x y z) (a .image) (a .window) = after-call l w (step op x y z) (a .reply) (a .image) (a .window) (intact-image l h) b f k in
     let e : Ended (a .image) (a .window) cs (stateOf (a .image)) (a .window) is
     = subst (λ (js : List Item). Ended (a .image) (a .window) cs (stateOf (a .image)) (a .window) js) es
-    (chain-ended (a .image) (a .window) cs (n .whole-is) (n .bytes-are) (subst AllFit (sym es) fs) (g .1)) in
+    (chain-ended (a .image) (a .window) cs (n .intact) (n .bytes-are) (subst AllFit (sym es) fs) (g .1)) in
     record {
       reply-is = k .reply-is;
       state-is = n .state-is;
@@ -186,6 +183,6 @@ demand3-calls w l k c x y z a b cs ds hl hk hw f fs alike ea eb es ga gb done pc
       image-same = ca .image-is ∙ ap imageOf (d .state-same) ∙ sym (cb .image-is);
       window-same = subst (λ (v : Window). SameOutside (Within (sp (stateOf l) rO) (hole (stateOf l) x)) v (lastWindow (b .window) ds)) (sym (ca .window-is))
           (subst (λ (v : Window). SameOutside (Within (sp (stateOf l) rO) (hole (stateOf l) x)) (after o (items cs) .memory) v) (sym (cb .window-is)) (d .window-same));
-      first-back = λ t. returns (hole (stateOf l) x) l _ _ (after o (items cs)) (p .ended .whole-is) (p .ended .bytes-are) (ca .state-is) (ca .window-is) (d .first-back (at-pop t));
-      second-back = λ t. returns (hole (stateOf l) x) k _ _ (after u (items cs)) (q .ended .whole-is) (q .ended .bytes-are) (cb .state-is) (cb .window-is) (d .second-back (at-pop t));
+      first-back = λ t. returns (hole (stateOf l) x) l _ _ (after o (items cs)) (p .ended .intact) (p .ended .bytes-are) (ca .state-is) (ca .window-is) (d .first-back (at-pop t));
+      second-back = λ t. returns (hole (stateOf l) x) k _ _ (after u (items cs)) (q .ended .intact) (q .ended .bytes-are) (cb .state-is) (cb .window-is) (d .second-back (at-pop t));
     }

@@ -17,7 +17,7 @@ use Rattle.mmix.specs.Image.{imageLength, imageOf, stateOf}
 use Rattle.mmix.specs.Entries.{Stepped, Raised}
 
 -- 2,328 bytes
-pub record IsImage (l : List ℕ) : Type 0 where
+pub record ImageBytes (l : List ℕ) : Type 0 where
   pub long : length l ≡ imageLength
   pub byte : (i : ℕ) → getD l i 0 < 256
 
@@ -67,7 +67,7 @@ pub record Carried (l : List ℕ) (w : Window) (cs : List Made) (r : Ran State W
   pub window-is : lastWindow w cs ≡ r .memory
 
 abbrev pub ListsOfCalls : Type 0
-ListsOfCalls = (l : List ℕ) (w : Window) (cs : List Made) → IsImage l → Bytes w → AllFit (items cs) → Chain l w cs
+ListsOfCalls = (l : List ℕ) (w : Window) (cs : List Made) → ImageBytes l → Bytes w → AllFit (items cs) → Chain l w cs
     → Carried l w cs (runs one mmix (stateOf l) w (items cs))
 
 -- POP as the next call on image m and window v: it is done, and $0 to $(h − 1) are those of the image l
@@ -87,7 +87,7 @@ pub record PrivateCalls (h : ℕ) (l k : List ℕ) (a b : Made) (cs ds : List Ma
 -- THEOREM: demand 3 of the two functions
 abbrev pub Demand3Calls : Type 0
 Demand3Calls = (w : Window) (l k : List ℕ) (c : Call) (x y z : ℕ) (a b : Made) (cs ds : List Made)
-    → IsImage l → IsImage k → Bytes w → InstructionFits (opcodeOf c) x y z → AllFit (items cs)
+    → ImageBytes l → ImageBytes k → Bytes w → InstructionFits (opcodeOf c) x y z → AllFit (items cs)
     → Alike (hole (stateOf l) x) (stateOf l) (stateOf k)
     → a .item ≡ step (opcodeOf c) x y z → b .item ≡ step (opcodeOf c) x y z → items ds ≡ items cs
     → Chain l w (a ∷ cs) → Chain k w (b ∷ ds)

@@ -8,10 +8,8 @@ use lib.Dec.{eqb}
 use lib.ListN.{length}
 use Rattle.model.specs.Registers.{fresh}
 use Rattle.model.specs.Memory.{Window}
-use Rattle.model.specs.Plan.{Outcome}
-use Rattle.model.specs.Said.{Said}
 use Rattle.model.specs.Step.{stepOf, exceptionOf}
-use Rattle.model.specs.Reader.{Part, readContext}
+use Rattle.model.specs.Reader.{readContext}
 use Rattle.model.specs.Numbers.{numberOf, replyOf}
 use Rattle.model.specs.declared.State.{State}
 use Rattle.mmix.specs.Image.{imageLength, imageOf, stateOf}

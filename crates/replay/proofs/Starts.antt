@@ -12,27 +12,20 @@ use Rattle.model.specs.Fill.{within}
 use Rattle.model.specs.Octa.{written, bytesOf}
 use Rattle.model.proofs.Octa.{length-written}
 use Rattle.model.proofs.Fill.{within-yes, within-below, within-above}
-use Rattle.replay.specs.Format.{octabyteOf, OctabyteSet, onLine, Filled, Lined, generalAt, specialAt, restAt, windowAt, settled, Placed, PlaceSet, pairsOf}
+use Rattle.replay.specs.Format.{octabyteOf, IsImage, OctabyteSet, onLine, Filled, Lined, generalAt, specialAt, restAt, windowAt, settled, Placed, PlaceSet, pairsOf}
 use Rattle.replay.proofs.Laws.{write-same, write-below, write-above, filled-start, filled-next}
-
-apart : (p i : ℕ) → (p ≡ i → ⊥) → (i < p → ⊥) → p < i
-apart p i h q = go (decLt p i)
-  where
-    go : Dec (p < i) → p < i
-    go (yes r) = r
-    go (no r) = absurd (h (omega arith))
 
 -- ---- one octabyte
 
 module _ (l : List ℕ) (p v : ℕ) where
-  pub write-other : (i : ℕ) → (p ≡ i → ⊥) → octabyteOf (written l (8 * p) (bytesOf v)) i ≡ octabyteOf l i
+  write-other : (i : ℕ) → (p ≡ i → ⊥) → octabyteOf (written l (8 * p) (bytesOf v)) i ≡ octabyteOf l i
   write-other i h = go (decLt i p)
     where
       go : Dec (i < p) → octabyteOf (written l (8 * p) (bytesOf v)) i ≡ octabyteOf l i
       go (yes q) = write-below l p v i q
-      go (no q) = write-above l p v i (apart p i h q)
+      go (no q) = write-above l p v i (omega arith)
 
-  pub write-cond : 8 * p + 8 ≤ length l → v < 2 ^ 64 → (i : ℕ) → octabyteOf (written l (8 * p) (bytesOf v)) i ≡ cond (eqb p i) v (octabyteOf l i)
+  write-cond : 8 * p + 8 ≤ length l → v < 2 ^ 64 → (i : ℕ) → octabyteOf (written l (8 * p) (bytesOf v)) i ≡ cond (eqb p i) v (octabyteOf l i)
   write-cond fits small i = go (ℕ-discrete p i)
     where
       go : Dec (p ≡ i) → octabyteOf (written l (8 * p) (bytesOf v)) i ≡ cond (eqb p i) v (octabyteOf l i)
@@ -41,6 +34,14 @@ module _ (l : List ℕ) (p v : ℕ) where
           ∙ ap (λ (t : Bool). cond t v (octabyteOf l i)) (sym (eq-eqb p i e))
       go (no h) = write-other i h ∙ ap (λ (t : Bool). cond t v (octabyteOf l i)) (sym (ne-eqb p i h))
 
+-- two tests of the same
+same-test : (a b c d : ℕ) → (a ≡ b → c ≡ d) → (c ≡ d → a ≡ b) → eqb a b ≡ eqb c d
+same-test a b c d to from = go (ℕ-discrete a b)
+  where
+    go : Dec (a ≡ b) → eqb a b ≡ eqb c d
+    go (yes e) = eq-eqb a b e ∙ sym (eq-eqb c d (to e))
+    go (no h) = ne-eqb a b h ∙ sym (ne-eqb c d (λ e. h (from e)))
+
 -- a test that fails
 unset : (p i v u : ℕ) → (p ≡ i → ⊥) → u ≡ cond (eqb p i) v u
 unset p i v u h = ap (λ (t : Bool). cond t v u) (sym (ne-eqb p i h))
@@ -48,12 +49,12 @@ unset p i v u h = ap (λ (t : Bool). cond t v u) (sym (ne-eqb p i h))
 -- ---- ranges
 
 -- the same by another rule
-pub filled-same : (first end : ℕ) (f h : ℕ → ℕ) (before after : List ℕ) → Filled first end f before after → ((i : ℕ) → first ≤ i → i < end → f i ≡ h i)
+filled-same : (first end : ℕ) (f h : ℕ → ℕ) (before after : List ℕ) → Filled first end f before after → ((i : ℕ) → first ≤ i → i < end → f i ≡ h i)
     → Filled first end h before after
 filled-same first end f h before after x e = record { same-length = x .same-length; below = x .below; within = λ i p q. x .within i p q ∙ e i p q; above = x .above }
 
 -- one octabyte of the range set anew
-pub filled-set : (first end : ℕ) (f : ℕ → ℕ) (j v : ℕ) (before l m : List ℕ) → Filled first end f before l → first ≤ j → j < end → 8 * j + 8 ≤ length l → OctabyteSet j v l m
+filled-set : (first end : ℕ) (f : ℕ → ℕ) (j v : ℕ) (before l m : List ℕ) → Filled first end f before l → first ≤ j → j < end → 8 * j + 8 ≤ length l → OctabyteSet j v l m
     → Filled first end (λ i. cond (eqb j i) v (f i)) before m
 filled-set first end f j v before l m x p q fits e = record {
   same-length = ap length (e .bytes-are) ∙ length-written l (8 * j) (bytesOf v) ∙ x .same-length;
@@ -97,13 +98,9 @@ module _ (g l m n : List ℕ) (rl rg : ℕ) (el : rl ≡ octabyteOf g 15) (eg : 
 
 -- a test of an octabyte's number is one of the register's
 shifted : (j k i : ℕ) → j ≡ 256 + k → 256 ≤ i → eqb j i ≡ eqb (i - 256) k
-shifted j k i e h = go (ℕ-discrete j i)
-  where
-    go : Dec (j ≡ i) → eqb j i ≡ eqb (i - 256) k
-    go (yes p) = eq-eqb j i p ∙ sym (eq-eqb (i - 256) k (omega arith))
-    go (no p) = ne-eqb j i p ∙ sym (ne-eqb (i - 256) k (λ q. p (omega arith)))
+shifted j k i e h = same-test j i (i - 256) k (λ p. omega arith) (λ q. omega arith)
 
-pub special-filled : (g l m₀ m₁ m₂ m₃ m₄ m₅ : List ℕ) → length l ≡ 2328 → Lined 256 288 (octabyteOf g 7) (octabyteOf g 8) l m₀
+pub special-filled : (g l m₀ m₁ m₂ m₃ m₄ m₅ : List ℕ) → IsImage l → Lined 256 288 (octabyteOf g 7) (octabyteOf g 8) l m₀
     → OctabyteSet 275 (octabyteOf g 14) m₀ m₁ → OctabyteSet 276 (octabyteOf g 15) m₁ m₂ → OctabyteSet 277 (octabyteOf g 16) m₂ m₃
     → OctabyteSet 266 (octabyteOf g 17) m₃ m₄ → OctabyteSet 267 (octabyteOf g 18) m₄ m₅
     → Filled 256 288 (λ (i : ℕ). specialAt g (i - 256)) l m₅
@@ -119,7 +116,7 @@ special-filled g l m₀ m₁ m₂ m₃ m₄ m₅ n line e₁ e₂ e₃ e₄ e₅
 
 -- ---- PC, halt code, marks
 
-pub rest-filled : (g m₀ m₁ m₂ m₃ : List ℕ) → length m₀ ≡ 2328
+pub rest-filled : (g m₀ m₁ m₂ m₃ : List ℕ) → IsImage m₀
     → OctabyteSet 288 (octabyteOf g 11) m₀ m₁ → OctabyteSet 289 (octabyteOf g 12) m₁ m₂ → OctabyteSet 290 (octabyteOf g 13) m₂ m₃ → Filled 288 291 (restAt g) m₀ m₃
 rest-filled g m₀ m₁ m₂ m₃ n e₁ e₂ e₃ =
     let x₁ = filled-next 288 288 (restAt g) (octabyteOf g 11) m₀ m₀ m₁ (filled-start 288 (restAt g) m₀) (omega arith) (omega arith) (e₁ .fits) refl (e₁ .bytes-are) in
@@ -162,18 +159,11 @@ module _ (p v : ℕ) (image window : List ℕ) where
     window-length = ap length w ∙ length-written window (8 * j) (bytesOf v);
     general = λ i k. unset p i v (octabyteOf image i) (λ q. omega arith);
     others = λ i k. refl;
-    memory = λ i k. ap (λ (l : List ℕ). octabyteOf l i) w ∙ write-cond window j v fits small i ∙ ap (λ (t : Bool). cond t v (octabyteOf window i)) (same i);
+    memory = λ i k. ap (λ (l : List ℕ). octabyteOf l i) w ∙ write-cond window j v fits small i ∙ ap (λ (t : Bool). cond t v (octabyteOf window i)) (same-test j i p (4096 + i) (λ q. omega arith) (λ q. omega arith));
   }
-    where
-      same : (i : ℕ) → eqb j i ≡ eqb p (4096 + i)
-      same i = go (ℕ-discrete j i)
-        where
-          go : Dec (j ≡ i) → eqb j i ≡ eqb p (4096 + i)
-          go (yes q) = eq-eqb j i q ∙ sym (eq-eqb p (4096 + i) (omega arith))
-          go (no q) = ne-eqb j i q ∙ sym (ne-eqb p (4096 + i) (λ r. q (omega arith)))
 
 -- all in place before the pairs
-pub placed-start : (g l m₁ m₂ m₃ w w₁ : List ℕ) → length l ≡ 2328 → length w ≡ 8 * octabyteOf g 4 → Filled 0 256 (generalAt g) l m₁
+pub placed-start : (g l m₁ m₂ m₃ w w₁ : List ℕ) → IsImage l → length w ≡ 8 * octabyteOf g 4 → Filled 0 256 (generalAt g) l m₁
     → Filled 256 288 (λ (i : ℕ). specialAt g (i - 256)) m₁ m₂ → Filled 288 291 (restAt g) m₂ m₃ → Filled 0 (length w / 8) (windowAt g) w w₁ → Placed g 0 m₃ w₁
 unfolding settled
 placed-start g l m₁ m₂ m₃ w w₁ n k x y z u = record {
@@ -185,7 +175,7 @@ placed-start g l m₁ m₂ m₃ w w₁ n k x y z u = record {
   memory = λ j h. u .within j (omega arith) (omega arith);
 }
 
-pub placed-next : (g : List ℕ) (k p v : ℕ) (image window image' window' : List ℕ) → p ≡ octabyteOf g (20 + 2 * k) → v ≡ octabyteOf g (21 + 2 * k)
+placed-next : (g : List ℕ) (k p v : ℕ) (image window image' window' : List ℕ) → p ≡ octabyteOf g (20 + 2 * k) → v ≡ octabyteOf g (21 + 2 * k)
     → Placed g k image window → PlaceSet p v image window image' window' → Placed g (suc k) image' window'
 unfolding settled
 placed-next g k p v image window image' window' ep ev x y = record {

@@ -1,6 +1,6 @@
 -- What a script prints. 01: "a refused step prints its line and ends; a bad line [..] prints `(bad N)`, N its line from 1, and ends.
 -- A longer script prints only `(bad 0)`."
-use Prim.Native.Nat.{ℕ, zero, suc, _+_, _*_, _≤_}
+use Prim.Native.Nat.{ℕ, suc, _+_, _*_, _≤_}
 use mathlib.Core.Path.{_≡_}
 use mathlib.Core.Bool.{Bool, true, false, cond}
 use mathlib.Core.List.{List, [], _∷_, _++_}

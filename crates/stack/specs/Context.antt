@@ -1,15 +1,14 @@
 -- What save_context, unsave_context, locate and read_context answer and leave.
-use Prim.Native.Nat.{ℕ, _+_, _-_, _*_, _%_, _^_, _≤_}
+use Prim.Native.Nat.{ℕ, _+_, _-_, _%_, _^_, _≤_}
 use mathlib.Core.Path.{_≡_}
 use mathlib.Core.Bool.{cond}
-use mathlib.Core.List.{List}
-use lib.Dec.{leb, eqb}
+use lib.Dec.{leb}
 use lib.ListN.{length}
 use Rattle.model.specs.Memory.{Window, shapeOf, has, one}
 use Rattle.model.specs.Plan.{Outcome, perform, look}
 use Rattle.model.specs.Contexts.{below, saveContext, contextAt, unsaveContext}
 use Rattle.model.specs.Step.{refusing}
-use Rattle.model.specs.Reader.{Part, readContext}
+use Rattle.model.specs.Reader.{readContext}
 use Rattle.stack.specs.Gives.{guardedOn}
 use Rattle.model.specs.declared.State.{State}
 use Rattle.stack.specs.declared.layout.Located.{Located}

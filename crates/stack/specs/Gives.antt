@@ -1,5 +1,4 @@
 -- How an answer, a state and a window given back stand to an outcome of the model.
-use Prim.Native.Nat.{ℕ}
 use mathlib.Core.Path.{_≡_}
 use mathlib.Core.Bool.{cond}
 use Rattle.model.specs.Memory.{Window, Shape, shapeOf, ruled, one}

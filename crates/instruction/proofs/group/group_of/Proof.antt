@@ -1,6 +1,5 @@
 -- `group_of` meets its contract: each answer is its tests'.
 use native.Mathlib.Omega.{arith}
-use borrow.Author.Needs.{needs}
 use borrow.Author.Tests.{lt-ltb, le-ltb, le-leb, lt-leb, eq-eqb, ne-eqb}
 use Rattle.instruction.proofs.Groups.{tested, grouped}
 use Rattle.instruction.proofs.group.group_of.Statement.{statement}

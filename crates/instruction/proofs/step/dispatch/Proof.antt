@@ -5,11 +5,6 @@ use Rattle.instruction.proofs.Judges.{no-arm-step}
 use borrow.Author.Needs.{needs}
 use Rattle.instruction.proofs.step.dispatch.Statement.{statement}
 use Rattle.instruction.proofs.step.dispatch.Tie as tie
-use Rattle.instruction.proofs.step.dispatch.Reads as reads
-use Rattle.instruction.proofs.step.dispatch.Lts as lts
-use Rattle.instruction.proofs.step.control.Reads as control-reads
-use Rattle.instruction.proofs.group.group_of.Reads as group-of-reads
-use Rattle.instruction.proofs.system.system.Reads as system-reads
 
 group-of-requires : tie.Need-group-of-requires
 group-of-requires c κs = search needs

@@ -5,11 +5,6 @@ use Rattle.instruction.proofs.Judges.{unruled-step, inadmissible-step}
 use borrow.Author.Needs.{needs}
 use Rattle.instruction.proofs.step.step.Statement.{statement}
 use Rattle.instruction.proofs.step.step.Tie as tie
-use Rattle.instruction.proofs.step.step.Reads as reads
-use Rattle.instruction.proofs.step.step.Lts as lts
-use Rattle.instruction.proofs.step.dispatch.Reads as dispatch-reads
-use Rattle.stack.proofs.pass.admissible.Reads as admissible-reads
-use Rattle.stack.proofs.pass.is_ruled.Reads as is-ruled-reads
 
 admissible-requires : tie.Need-admissible-requires
 admissible-requires c κs = search needs

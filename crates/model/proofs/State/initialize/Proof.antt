@@ -3,8 +3,6 @@ use borrow.Author.Needs.{needs}
 use Rattle.model.specs.Registers.{fresh}
 use Rattle.model.proofs.State.initialize.Statement.{statement}
 use Rattle.model.proofs.State.initialize.Tie as tie
-use Rattle.model.proofs.State.initialize.Reads as reads
-use Rattle.model.proofs.State.initialize.Lts as lts
 
 array-write-special : tie.Need-array-write-special
 array-write-special c = search needs

@@ -1,5 +1,4 @@
 -- `write_window` meets its contract: the line is what is given.
-use mathlib.Core.Path.{_≡_}
 use Rattle.replay.proofs.Starts.{window-filled}
 use borrow.Author.Needs.{needs}
 use Rattle.replay.proofs.case.write_window.Statement.{statement}
