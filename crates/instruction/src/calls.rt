@@ -1,6 +1,5 @@
 // Arms that work on the register stack's frames (control.rs: PUSHJ, PUSHGO, POP), in place: the stack moves registers and octabytes,
 // and PC is sent on where that is done. Each judges 1 and 2, as the stack does.
-ghost use mathlib.Core.Path.{_≡_};
 ghost use Prim.Native.Nat.{ℕ, _+_, _*_, _%_, _^_};
 ghost use Rattle.model.specs.Registers.{rJ, sp};
 ghost use Rattle.model.specs.Control.{yzOf};

@@ -1,7 +1,5 @@
 // Arms that work on saved contexts (system.rs: SAVE, UNSAVE), in place: the stack moves registers and octabytes, and PC goes on to
 // @ + 4 where that is done. Each judges 1 and 2, as the stack does.
-ghost use mathlib.Core.Path.{_≡_};
-ghost use Prim.Native.Nat.{ℕ};
 ghost use Rattle.model.specs.Contexts.{saveContext, unsaveContext};
 ghost use Rattle.model.specs.Parts.{made, lent};
 ghost use Rattle.stack.specs.Gives.{guardedOn};

@@ -10,7 +10,6 @@ ghost use Rattle.model.specs.System.{putSpecial, syncOf};
 ghost use Rattle.model.specs.Parts.{made};
 ghost use Rattle.instruction.specs.Told.{getOf, Told};
 use model::Reply;
-use model::State;
 
 /// GETA and GETAB.
 pub fn get_address(

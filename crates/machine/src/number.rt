@@ -1,6 +1,6 @@
 // Numbers of 64 bits: sums and differences that wrap, and the few operations that Rust has as methods.
 ghost use mathlib.Core.Path.{_≡_};
-ghost use Prim.Native.Nat.{ℕ, _+_, _-_, _%_, _^_, min, max};
+ghost use Prim.Native.Nat.{_+_, _-_, _%_, _^_, min, max};
 ghost use Rattle.model.specs.Control.{isNegative};
 
 /// a + b modulo 2^64.

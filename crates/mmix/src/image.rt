@@ -1,6 +1,6 @@
 // The state image: 291 octabytes, high byte first.
 ghost use mathlib.Core.Path.{_≡_};
-ghost use Prim.Native.Nat.{ℕ, _+_, _*_, _≤_, _<_};
+ghost use Prim.Native.Nat.{_+_, _*_, _≤_, _<_};
 ghost use lib.ListN.{length, getD};
 ghost use Rattle.model.specs.Octa.{part, written, valueOf, bytesOf};
 ghost use Rattle.model.specs.Parts.{made};

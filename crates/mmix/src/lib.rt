@@ -1,7 +1,5 @@
 //! The C library: what a relay host calls, on numbers and byte slices. 0 is done; 1 to 20 are the refusals.
 
-ghost use mathlib.Core.Path.{_≡_};
-ghost use Prim.Native.Nat.{ℕ};
 ghost use Rattle.model.specs.Parts.{made, lent};
 ghost use Rattle.mmix.specs.Entries.{Initialized, Stepped, SteppedState, Raised, ContextAt};
 use image::IMAGE_LEN;

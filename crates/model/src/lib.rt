@@ -1,7 +1,7 @@
 //! What MMIX is: the state of the machine and the reply of a step. specs/ defines the rest.
 
 ghost use mathlib.Core.Path.{_≡_};
-ghost use Rattle.model.specs.Registers.{fresh, stackStart};
+ghost use Rattle.model.specs.Registers.{fresh};
 
 /// 256 general registers, 32 special ones, PC, halt code (the Rust's `exit_code`) and vector marks:
 /// bit k of the marks says that all four bytes at 16 × k were loaded.

@@ -1,6 +1,6 @@
 // The context reader: a saved context as a part of the caller's window.
 ghost use mathlib.Core.Path.{_≡_};
-ghost use Prim.Native.Nat.{ℕ, _+_, _≤_};
+ghost use Prim.Native.Nat.{_+_};
 ghost use Rattle.model.specs.Reader.{readContext, bytesIn};
 ghost use Rattle.model.specs.Parts.{lent};
 ghost use Rattle.stack.specs.Context.{PlaceIs};
