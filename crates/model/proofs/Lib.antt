@@ -21,6 +21,7 @@ pub mod Leaves
 pub mod StepNeeds
 pub mod Locality
 pub mod Bench
+pub mod Rules
 pub mod Departures
 pub mod Sent
 pub mod Unpark

@@ -16,6 +16,8 @@ pub mod Step
 pub mod Reader
 pub mod Numbers
 pub mod Parts
+-- Knuth's rules where the steps depart from them
+pub mod Rules
 -- theorems: statements; proofs/ has the proofs
 pub mod Leaves
 pub mod Keeps
