@@ -1,4 +1,4 @@
--- The departures one by one, and the theorem: step and rule are equal outside the condition that each departure names. The whole step is in Rules.
+-- The departures one by one, and the theorem: step and rule are equal outside the condition that each departure names. The whole step is in RuleStep.
 use mathlib.Core.Path.{_≡_, refl, sym, ap, _∙_}
 use mathlib.Core.Logic.{_≢_}
 use mathlib.Core.Bool.{Bool, true, false, cond}
@@ -19,7 +19,8 @@ use Rattle.model.specs.Rules.{withAddedRule, raisedRule, exceptionRule, 
 use Rattle.model.specs.Departures.{ReadsAlike, OutsideException, Departures}
 use Rattle.model.specs.declared.State.{State}
 use Rattle.model.proofs.Bools.{on-both}
-use Rattle.model.proofs.Rules.{read-zero, frame-reads, frame-same, got-same, pop-framed, unsave-same, trip-same, step-same, spilled-same, rule-settled}
+use Rattle.model.proofs.Rules.{read-zero, frame-reads, frame-same, got-same, unsave-same}
+use Rattle.model.proofs.RuleStep.{pop-framed, trip-same, step-same, spilled-same, rule-settled}
 
 -- ---- rS moves with rO
 

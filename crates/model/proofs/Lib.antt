@@ -22,6 +22,7 @@ pub mod StepNeeds
 pub mod Locality
 pub mod Bench
 pub mod Rules
+pub mod RuleStep
 pub mod Departures
 pub mod Sent
 pub mod Unpark
