@@ -24,6 +24,7 @@ pub mod Bench
 pub mod Rules
 pub mod RuleStep
 pub mod Departures
+pub mod Order
 pub mod Sent
 pub mod Unpark
 pub mod Reader

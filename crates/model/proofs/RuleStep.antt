@@ -1,8 +1,6 @@
 -- Outside the departures the rule of each arm is its plan, and so Knuth's step is the step. Rules has the laws of each rule.
 use mathlib.Core.Path.{_≡_, refl, sym, ap, _∙_}
-
 use mathlib.Core.Bool.{Bool, true, false, cond}
-
 use Prim.Native.Nat.{ℕ, _+_, _-_, _*_, _%_, _^_, _≤_}
 use native.Mathlib.Omega.{arith}
 use lib.Dec.{leb, eqb}
@@ -25,7 +23,6 @@ use Rattle.model.specs.Step.{refusalOf, judged, refusing, planOf, stepPl
 use Rattle.model.specs.Rules.{operandRule, sumRule, After, goesOn, interrupts, unsaveRestRule, unsaveCountRule, unsaveRule, ruleOf, judgedRule, stepRule, settled, settledRule}
 use Rattle.model.specs.Departures.{ReadsZero, ReadsAlike, contextTaken, Outside, AtTop}
 use Rattle.model.specs.declared.State.{State}
-
 use Rattle.model.proofs.Plan.{perform-map, perform-left}
 use Rattle.model.proofs.Rules.{got-same, pop-plans, push-plans, unsave-same}
 

@@ -15,11 +15,9 @@ use Rattle.model.specs.Registers.{rO, rG, rL, stackStart, sp, reg, goes,
 use Rattle.model.specs.Memory.{Window, Shape, shapeOf, has, one}
 use Rattle.model.specs.Plan.{Plan, answer, read, Outcome, worst, clear, look, looks, perform, mapPlan}
 use Rattle.model.specs.Opcodes.{go, pop}
-
 use Rattle.model.specs.Frames.{hole, framed, framedRule, pushed, pushFrame, unslide, popped, popTo, popRule, countOf, noFrame, misplaced}
 use Rattle.model.specs.Contexts.{below, unsavedGeneral, unsavedSpecial, unsavedUnspilled, unsaved, contextRest, contextCount, contextAt, unsaveContext}
 use Rattle.model.specs.System.{got, gotRule}
-
 use Rattle.model.specs.Step.{refusing}
 use Rattle.model.specs.Rules.{readRule, goesOn, pushRule, belowTop, poppedRule, popHoleRule, popAnyRule, unsavedGeneralRule, unsavedSpecialRule, unsavedRule, unsaveRestRule, unsaveCountRule, unsaveRule, settled}
 use Rattle.model.specs.Departures.{ReadsZero, countTaken, contextTaken}
@@ -150,7 +148,7 @@ push-plans s x t h = λ i. answer 0 (goesOn (goes (pushed s (hole s x)) t)) (sp 
 
 -- ---- UNSAVE
 
-has-clear : (v : Shape) (a : ℕ) → clear (refusing v) a 1 ≡ has v a
+pub has-clear : (v : Shape) (a : ℕ) → clear (refusing v) a 1 ≡ has v a
 unfolding refusing worst
 has-clear v a = go (has v a)
   where

@@ -27,3 +27,4 @@ pub mod Demand
 pub mod Bench
 pub mod Roundtrip
 pub mod Departures
+pub mod Order
