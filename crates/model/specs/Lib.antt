@@ -25,6 +25,8 @@ pub mod Locality
 pub mod StepNeeds
 pub mod Demand
 pub mod Bench
+pub mod Points
 pub mod Roundtrip
 pub mod Departures
+pub mod DepartureExamples
 pub mod Order
