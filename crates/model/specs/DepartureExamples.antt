@@ -5,7 +5,7 @@ use mathlib.Core.Bool.{Bool, true, false, _&&_}
 use mathlib.Core.List.{List, [], _∷_, _++_}
 use lib.Dec.{eqb}
 use lib.ListN.{replicate}
-use Rattle.model.specs.Registers.{rB, rJ, rO, rS, rT, rK, rG, rL, rA, rW, rX, rWW, rXX, stackStart, sp, fresh, goes, halted, withSpecial, stored}
+use Rattle.model.specs.Registers.{rJ, rO, rS, rT, rK, rG, rL, rA, rW, rX, rWW, rXX, stackStart, sp, fresh, goes, halted, withSpecial, stored}
 use Rattle.model.specs.Memory.{Window, writeOcta}
 use Rattle.model.specs.Plan.{Outcome}
 use Rattle.model.specs.Said.{Said}
@@ -25,6 +25,7 @@ pub record Example : Type 0 where
   pub reply : ℕ
   pub end : State
   pub left : Window
+  pub knuth-reply : ℕ
   pub knuth : After
   pub knuth-left : Window
 
@@ -48,7 +49,7 @@ abbrev here : Example → Outcome State Window → Bool
 here e o = eqb (o .reply) (e .reply) && (sameState (o .state) (e .end) && sameWindow (o .memory) (e .left))
 
 abbrev there : Example → Outcome After Window → Bool
-there e o = eqb (o .reply) 0 && (sameAfter (o .state) (e .knuth) && sameWindow (o .memory) (e .knuth-left))
+there e o = eqb (o .reply) (e .knuth-reply) && (sameAfter (o .state) (e .knuth) && sameWindow (o .memory) (e .knuth-left))
 
 unfoldable pub shown : Example → Bool
 shown e =
@@ -84,7 +85,7 @@ abbrev holding : Window → ℕ → ℕ → Window
 holding w k v = writeOcta w (stackStart + 8 * k) v
 
 abbrev example : State → Window → ℕ → ℕ → ℕ → ℕ → ℕ → State → Window → After → Window → Example
-example s w op x y z r t v k u = record { begin = s; window = w; op = op; x = x; y = y; z = z; reply = r; end = t; left = v; knuth = k; knuth-left = u }
+example s w op x y z r t v k u = record { begin = s; window = w; op = op; x = x; y = y; z = z; reply = r; end = t; left = v; knuth-reply = 0; knuth = k; knuth-left = u }
 
 -- nothing is stored
 abbrev plain : State → Window → ℕ → ℕ → ℕ → ℕ → ℕ → State → After → Example
@@ -133,20 +134,35 @@ context n a = holding (holding (zeros stackStart 120) 0 n) 14 (255 * 2 ^ 56 + a)
 abbrev last : ℕ
 last = stackStart + 112
 
--- UNSAVE $255 where $255 is p, and where all of the context is 0
+-- UNSAVE $255 where $255 is p
 abbrev unsaving : Window → ℕ → ℕ → State → State → Example
 unsaving w p r t k = plain (stored start 255 p) w 0xFB 0 0 255 r t (goesOn k)
 
 abbrev unsaveExamples : List Example
 unsaveExamples =
-    -- a packed octabyte 0: 14
-    unsaving (zeros stackStart 2160) (stackStart + 2152) 14 (halted (stored start 255 (stackStart + 2152))) (goes (withSpecial start rG 0) 4)
     -- a saved rA of 0x40000: 15
-    ∷ unsaving (context 0 0x40000) last 15 (halted (stored start 255 last)) (goes (withSpecial start rG 255) 4)
+    unsaving (context 0 0x40000) last 15 (halted (stored start 255 last)) (goes (withSpecial start rG 255) 4)
     -- a local count of 256: 16
     ∷ unsaving (context 256 0) last 16 (halted (stored start 255 last)) (goes (withSpecial start rG 255) 4)
     -- the address's low bits
     ∷ unsaving (context 0 0) (last + 1) 0 (goes (topAt (withSpecial start rG 255) (stackStart + 1) (stackStart + 1)) 4) (goes (withSpecial start rG 255) 4) ∷ []
+
+-- a packed octabyte 0: 14; Knuth's UNSAVE goes on to the count, which is not in this window
+abbrev thresholdExample : Example
+thresholdExample = record {
+  begin = stored start 255 stackStart;
+  window = zeros stackStart 8;
+  op = 0xFB;
+  x = 0;
+  y = 0;
+  z = 255;
+  reply = 14;
+  end = halted (stored start 255 stackStart);
+  left = zeros stackStart 8;
+  knuth-reply = 6;
+  knuth = goesOn (stored start 255 stackStart);
+  knuth-left = zeros stackStart 8;
+}
 
 -- bytes that Knuth wants to be zero: SAVE $255,1,0; SAVE $255,0,1; PUT and GET with Y, UNSAVE with X and with Y
 abbrev saving : State
@@ -196,7 +212,7 @@ tripExamples =
     ∷ plain start nowhere 0 0 0 0 4 start (goesOn (handled 0)) ∷ []
 
 unfoldable pub examples : List Example
-examples = spillExample ∷ getExample ∷ (popExamples ++ (marginalExamples ++ (unsaveExamples ++ (byteExamples ++ (interruptExamples ++ tripExamples)))))
+examples = spillExample ∷ getExample ∷ thresholdExample ∷ (popExamples ++ (marginalExamples ++ (unsaveExamples ++ (byteExamples ++ (interruptExamples ++ tripExamples)))))
 
 -- two enabled flags; U without X, not enabled; a vector that is not loaded
 unfoldable pub exceptionExamples : List ExampleException

@@ -1,6 +1,6 @@
 -- Theorem 10. More points, of the same kind as 01's: one at each limit of a definition that no other theorem of this crate holds in its place.
 -- oracle/definitions/constants changes each constant of the definitions in turn: each change is refused by a theorem or by a point.
-use Prim.Native.Nat.{ℕ, suc, zero, _+_, _-_, _*_, _^_}
+use Prim.Native.Nat.{ℕ, _+_, _-_, _*_, _^_}
 use mathlib.Core.Path.{_≡_}
 use mathlib.Core.Bool.{Bool, true, false, cond, not, _&&_}
 use mathlib.Core.List.{List, [], _∷_, _++_}
