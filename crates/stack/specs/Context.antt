@@ -1,14 +1,17 @@
 -- What save_context, unsave_context, locate and read_context answer and leave.
 use Prim.Native.Nat.{ℕ, _+_, _-_, _%_, _^_, _≤_}
+use mathlib.Core.List.{List}
 use mathlib.Core.Path.{_≡_}
 use mathlib.Core.Bool.{cond}
 use lib.Dec.{leb}
 use lib.ListN.{length}
+use denote.Ref.{RefT, ptr, now}
 use Rattle.model.specs.Memory.{Window, shapeOf, has, one}
 use Rattle.model.specs.Plan.{Outcome, perform, look}
 use Rattle.model.specs.Contexts.{below, saveContext, contextAt, unsaveContext}
 use Rattle.model.specs.Step.{refusing}
-use Rattle.model.specs.Reader.{readContext}
+use Rattle.model.specs.Reader.{readContext, bytesIn}
+use Rattle.model.specs.Parts.{lent}
 use Rattle.stack.specs.Gives.{guardedOn}
 use Rattle.model.specs.declared.State.{State}
 use Rattle.stack.specs.declared.layout.Located.{Located}
@@ -68,3 +71,10 @@ pub record PlaceIs (w : Window) (p : ℕ) (r : Place) : Type 0 where
   pub size-is : r .size ≡ readContext w p .state .size
   pub reply-most : r .reply ≤ 16
   pub lies-inside : r .start + r .size ≤ length (w .bytes)
+
+-- the reader's reply, and the part r that it hands back of the window v: its bytes, and where it lies, as far behind v's first byte as
+-- the part's index says
+pub record PartIs (base : ℕ) (v : RefT (List ℕ)) (p : ℕ) (r : RefT (List ℕ)) (reply : ℕ) : Type 0 where
+  pub reply-is : reply ≡ readContext (lent base (now v)) p .reply
+  pub bytes-are : now r ≡ bytesIn (lent base (now v)) (readContext (lent base (now v)) p .state)
+  pub lies-at : ptr r ≡ (ptr v .0, ptr v .1 + readContext (lent base (now v)) p .state .start)
