@@ -1,9 +1,9 @@
--- What save_context, unsave_context, locate and read_context answer and leave.
+-- What save_context, unsave_context, save_context_layout, locate and read_context answer and leave.
 use Prim.Native.Nat.{ℕ, _+_, _-_, _%_, _^_, _≤_}
 use mathlib.Core.List.{List}
 use mathlib.Core.Path.{_≡_}
 use mathlib.Core.Bool.{cond}
-use lib.Dec.{leb}
+use lib.Dec.{leb, eqb}
 use lib.ListN.{length}
 use denote.Ref.{RefT, ptr, now}
 use Rattle.model.specs.Memory.{Window, shapeOf, has, one}
@@ -36,18 +36,23 @@ layoutAt p g l = record {
   «locals_base» = below p (l + 269 - g) % 2 ^ 64;
 }
 
--- the count read and compared at full width: 6 where it is missing, 16 with the count where it is above g
-unfoldable pub layoutOf : Window → ℕ → ℕ → Layout
-layoutOf w p g =
-    cond (has (shapeOf w) (below p (269 - g)))
-    (cond (leb (look one w (below p (269 - g))) g) (Found (layoutAt p g (look one w (below p (269 - g))))) (Excess (look one w (below p (269 - g)))))
-    Outside
+-- the number of the local count below p: 6 where it is missing, 16 where it is above g, compared at full width
+unfoldable pub countReply : Window → ℕ → ℕ → ℕ
+countReply w p g = cond (has (shapeOf w) (below p (269 - g))) (cond (leb (look one w (below p (269 - g))) g) 0 16) 6
 
 -- 01's number of each case
 unfoldable pub layoutNumber : Layout → ℕ
 layoutNumber (Found l) = 0
 layoutNumber (Excess count) = 16
 layoutNumber Outside = 6
+
+-- the case of each number, with its values, where the count is l
+unfoldable pub layoutAnswer : ℕ → ℕ → ℕ → ℕ → Layout
+layoutAnswer p g l n = cond (eqb n 0) (Found (layoutAt p g l)) (cond (eqb n 16) (Excess l) Outside)
+
+pub record LayoutIs (w : Window) (p g : ℕ) (r : Layout) : Type 0 where
+  pub answer-is : r ≡ layoutAnswer p g (look one w (below p (269 - g))) (countReply w p g)
+  pub number-is : layoutNumber r ≡ countReply w p g
 
 -- where the context at p is: its first local's address, rG, rA and local count; all 0 where it is refused
 unfoldable pub spot : ℕ → ℕ → ℕ → ℕ → ℕ → Located
