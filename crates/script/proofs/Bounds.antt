@@ -1,16 +1,13 @@
--- How long the text that a script prints can be: 12 bytes for each of the script and 27 more. A step's line prints 189 at most and has 17, its
--- newline counted. And how much of a script tells what it prints.
-use mathlib.Core.Path.{_≡_, refl, sym, ap, _∙_}
+-- How long the text that a script prints can be: 12 bytes for each of the script and 27 more. A step's line prints 189 at most and has 17, its newline counted.
+use mathlib.Core.Path.{_≡_, refl}
 use mathlib.Core.Bool.{Bool, true, false, cond, _&&_}
 use mathlib.Core.List.{List, [], _∷_, _++_}
 use mathlib.Core.Option.{Option, none, some}
 use Prim.Native.Nat.{ℕ, suc, _+_, _*_, _≤_, _<_}
 use native.Mathlib.Omega.{arith}
-use native.Mathlib.Decide.{decLe}
 use lib.Dec.{ltb, leb, eqb}
-use lib.ListN.{length, drop, getD, take, length-append, length-drop, length-take}
-use lib.Seq.{take-all}
-use borrow.Author.Tests.{ltb-true, leb-true, lt-leb}
+use lib.ListN.{length, drop, getD, length-append, length-drop}
+use borrow.Author.Tests.{ltb-true, leb-true}
 use Rattle.model.specs.Registers.{rG, rL, rO, sp}
 use Rattle.model.specs.Memory.{Window}
 use Rattle.model.specs.Plan.{Outcome}
@@ -21,7 +18,7 @@ use Rattle.model.proofs.Bools.{on, and-left}
 use Rattle.script.specs.Codes.{codes}
 use Rattle.script.specs.Text.{hexMark}
 use Rattle.script.specs.Line.{registerLine, specialLine, stepLine, digitOf, digitsAt, isNumber, numberOf, startsWith, before, matched, registerForm, specialForm, stepForm, orElse, lineOf}
-use Rattle.script.specs.Script.{doneLine, refusedLine, badLine, stepText, badText, turnOf, atFirst, pieces, carried, window, scriptMost, printed, outputLength, Bounded, FrontTells}
+use Rattle.script.specs.Script.{doneLine, refusedLine, badLine, stepText, badText, turnOf, atFirst, pieces, carried, window, scriptMost, printed, outputLength, Bounded}
 use Rattle.script.specs.declared.line.Form.{Form}
 use Rattle.script.specs.declared.line.Form.the-variants.{Register, Special, Step, Bad}
 use Rattle.script.specs.declared.line.Instruction.{Instruction}
@@ -175,20 +172,3 @@ of-any l =
 
 pub bounded : Bounded
 bounded = record { by-length = by-length; of-any = of-any }
-
--- ---- the front of a script
-
--- where the script is too long, so is its front
-long-prints : (l : List ℕ) → scriptMost < length l → printed l ≡ badText 0
-unfolding printed
-long-prints l h = rw (lt-leb (length l) scriptMost h)
-
-pub front-tells : FrontTells
-front-tells l n h = go (decLe (length l) scriptMost)
-  where
-    go : Dec (length l ≤ scriptMost) → printed (take n l) ≡ printed l
-    go (yes s) = ap printed (take-all n l (omega arith))
-    go (no s) =
-        let f : scriptMost < length l = omega arith in
-        let g : scriptMost < length (take n l) = omega (arith, length-take n l) in
-        long-prints (take n l) g ∙ sym (long-prints l f)
