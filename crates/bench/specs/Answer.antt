@@ -13,7 +13,7 @@ unfoldable pub Within : Input → List ℕ → Type 0
 Within (Read got) buffer = got ≤ length buffer
 Within Failed buffer = Unit {0}
 
--- a buffer that a script longer than the longest fills past it, the number of bytes read into it, and one for the longest text
+-- a buffer longer than the longest script, a number of bytes read into it, and a buffer with room for the longest text
 pub record Roomy (input : List ℕ) (got : ℕ) (output : List ℕ) : Type 0 where
   pub longer : scriptMost < length input
   pub held : got ≤ length input
