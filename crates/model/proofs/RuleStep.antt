@@ -10,7 +10,7 @@ use borrow.Author.Tests.{leb-true, le-ltb, lt-leb}
 use Rattle.model.specs.Fill.{tab}
 use Rattle.model.specs.Octa.{octa}
 use Rattle.model.specs.Registers.{rJ, rO, rS, rG, sp, reg, admissible, next, withSpecial, spilled}
-use Rattle.model.specs.Memory.{Window, shapeOf, ruled, one}
+use Rattle.model.specs.Memory.{Windows, shapesOf, ruled, both}
 use Rattle.model.specs.Plan.{Plan, answer, Outcome, perform, mapPlan, mapOutcome}
 use Rattle.model.specs.Opcodes.{Operand, register, immediate, Arm, branch, jump, getAddress, go, pushJump, pushGo, pop, put, get, save, unsave, sync, swym, trip, trap, none, armOf}
 use Rattle.model.specs.Said.{say, tell}
@@ -32,15 +32,15 @@ use Rattle.model.proofs.Rules.{got-same, pop-plans, push-plans, unsave-
 abbrev armPlan : State → Arm → ℕ → ℕ → ℕ → ℕ → Plan State
 armPlan s a op x y z = cond (eqb (refusalOf a x y z) 0) (planOf s a op x y z) (tell (say (refusalOf a x y z) s))
 
-ArmSame : Window → State → Arm → ℕ → ℕ → ℕ → ℕ → Type 0
+ArmSame : Windows → State → Arm → ℕ → ℕ → ℕ → ℕ → Type 0
 ArmSame w s a op x y z =
-    perform one (refusing (shapeOf w)) (goesOn s) (mapPlan (settled a) (ruleOf s a op x y z)) w
-    ≡ mapOutcome goesOn (perform one (refusing (shapeOf w)) s (armPlan s a op x y z) w)
+    perform both (refusing (shapesOf w)) (goesOn s) (mapPlan (settled a) (ruleOf s a op x y z)) w
+    ≡ mapOutcome goesOn (perform both (refusing (shapesOf w)) s (armPlan s a op x y z) w)
 
-by-plans : (w : Window) (s : State) (a : Arm) (op x y z : ℕ) → mapPlan (settled a) (ruleOf s a op x y z) ≡ mapPlan goesOn (armPlan s a op x y z) → ArmSame w s a op x y z
+by-plans : (w : Windows) (s : State) (a : Arm) (op x y z : ℕ) → mapPlan (settled a) (ruleOf s a op x y z) ≡ mapPlan goesOn (armPlan s a op x y z) → ArmSame w s a op x y z
 unfolding ArmSame
 by-plans w s a op x y z e =
-    ap (λ (p : Plan After). perform one (refusing (shapeOf w)) (goesOn s) p w) e ∙ perform-map one goesOn (refusing (shapeOf w)) s (armPlan s a op x y z) w
+    ap (λ (p : Plan After). perform both (refusing (shapesOf w)) (goesOn s) p w) e ∙ perform-map both goesOn (refusing (shapesOf w)) s (armPlan s a op x y z) w
 
 sum-same : (s : State) (o : Operand) (y z : ℕ) → ReadsZero s y → operandOf s o z ≡ operandRule s o z → sumRule s o y z ≡ sumOf s o y z
 sum-same s o y z e h = rw (e, h)
@@ -70,13 +70,13 @@ pub trip-same : (s : State) (k word u v : ℕ) → isLoaded s k ≡ true → tri
 unfolding tripTo
 trip-same s k word u v e = rw e
 
-unsave-arm : (w : Window) (s : State) (op x y z : ℕ) → x ≡ 0 → y ≡ 0 → ReadsZero s z → octa (reg s z) ≡ reg s z → contextTaken w (reg s z) ≡ true
+unsave-arm : (w : Windows) (s : State) (op x y z : ℕ) → x ≡ 0 → y ≡ 0 → ReadsZero s z → octa (reg s z) ≡ reg s z → contextTaken w (reg s z) ≡ true
     → ArmSame w s unsave op x y z
 unfolding ArmSame ruleOf planOf refusalOf mapPlan settled unsaveRule unsaveCountRule unsaveRestRule
 unsave-arm w s op x y z a b r o e =
-    rw (a, b, ← r) (perform-map one goesOn (refusing (shapeOf w)) s (unsaveRule s (reg s z)) w ∙ ap (λ (q : Outcome State Window). mapOutcome goesOn q) (sym (unsave-same w s (reg s z) o e)))
+    rw (a, b, ← r) (perform-map both goesOn (refusing (shapesOf w)) s (unsaveRule s (reg s z)) w ∙ ap (λ (q : Outcome State Windows). mapOutcome goesOn q) (sym (unsave-same w s (reg s z) o e)))
 
-arm-same : (w : Window) (s : State) (a : Arm) (op x y z : ℕ) → Outside w s a x y z → ArmSame w s a op x y z
+arm-same : (w : Windows) (s : State) (a : Arm) (op x y z : ℕ) → Outside w s a x y z → ArmSame w s a op x y z
 unfolding ruleOf planOf refusalOf mapPlan settled tell ReadsAlike
 arm-same w s (branch c d) op x y z h = by-plans w s (branch c d) op x y z (rw (h .reads))
 arm-same w s (jump d) op x y z h = by-plans w s (jump d) op x y z refl
@@ -99,21 +99,21 @@ arm-same w s none op x y z h = by-plans w s none op x y z refl
 
 -- ---- the step
 
-pub step-same : (w : Window) (s : State) (op x y z : ℕ) → Outside w s (armOf op) x y z → mapOutcome goesOn (stepOf w s op x y z) ≡ settledRule w s op x y z
+pub step-same : (w : Windows) (s : State) (op x y z : ℕ) → Outside w s (armOf op) x y z → mapOutcome goesOn (stepOf w s op x y z) ≡ settledRule w s op x y z
 unfolding stepOf stepPlan judged settledRule judgedRule
-step-same w s op x y z h = go (admissible s) (ruled (shapeOf w))
+step-same w s op x y z h = go (admissible s) (ruled (shapesOf w))
   where
     a : Arm
     a = armOf op
 
     go : (b c : Bool)
-        → mapOutcome goesOn (perform one (refusing (shapeOf w)) s
+        → mapOutcome goesOn (perform both (refusing (shapesOf w)) s
         (cond (eqb (cond b (cond c (refusalOf a x y z) 2) 1) 0) (planOf s a op x y z) (tell (say (cond b (cond c (refusalOf a x y z) 2) 1) s))) w)
-        ≡ perform one (refusing (shapeOf w)) (goesOn s)
+        ≡ perform both (refusing (shapesOf w)) (goesOn s)
         (cond b (cond c (mapPlan (settled a) (ruleOf s a op x y z)) (mapPlan goesOn (tell (say 2 s)))) (mapPlan goesOn (tell (say 1 s)))) w
     go true true = sym (unfold ArmSame in arm-same w s a op x y z h)
-    go true false = sym (perform-map one goesOn (refusing (shapeOf w)) s (tell (say 2 s)) w)
-    go false c = sym (perform-map one goesOn (refusing (shapeOf w)) s (tell (say 1 s)) w)
+    go true false = sym (perform-map both goesOn (refusing (shapesOf w)) s (tell (say 2 s)) w)
+    go false c = sym (perform-map both goesOn (refusing (shapesOf w)) s (tell (say 1 s)) w)
 
 -- where rS is rO nothing is to be settled
 pub spilled-same : (s : State) → sp s rS ≡ sp s rO → spilled s ≡ s
@@ -145,9 +145,9 @@ settled-top trip t h = refl
 settled-top trap t h = refl
 settled-top none t h = refl
 
-pub rule-settled : (w : Window) (s : State) (op x y z : ℕ) → AtTop (stepRule w s op x y z .state) → settledRule w s op x y z ≡ stepRule w s op x y z
+pub rule-settled : (w : Windows) (s : State) (op x y z : ℕ) → AtTop (stepRule w s op x y z .state) → settledRule w s op x y z ≡ stepRule w s op x y z
 unfolding stepRule settledRule judgedRule
-rule-settled w s op x y z = go (admissible s) (ruled (shapeOf w))
+rule-settled w s op x y z = go (admissible s) (ruled (shapesOf w))
   where
     two : Plan After
     two = mapPlan goesOn (tell (say 2 s))
@@ -158,10 +158,10 @@ rule-settled w s op x y z = go (admissible s) (ruled (shapeOf w))
     r : Plan After
     r = ruleOf s (armOf op) op x y z
 
-    at : Plan After → Outcome After Window
-    at p = perform one (refusing (shapeOf w)) (goesOn s) p w
+    at : Plan After → Outcome After Windows
+    at p = perform both (refusing (shapesOf w)) (goesOn s) p w
 
     go : (b c : Bool) → AtTop (at (cond b (cond c r two) one') .state) → at (cond b (cond c (mapPlan (settled (armOf op)) r) two) one') ≡ at (cond b (cond c r two) one')
-    go true true h = perform-left one (settled (armOf op)) (refusing (shapeOf w)) (goesOn s) r w (settled-top (armOf op) (at r .state) h)
+    go true true h = perform-left both (settled (armOf op)) (refusing (shapesOf w)) (goesOn s) r w (settled-top (armOf op) (at r .state) h)
     go true false h = refl
     go false c h = refl
