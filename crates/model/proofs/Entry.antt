@@ -1,7 +1,7 @@
 -- The entries once 1 to 5 have passed; the window's judge; a ruled window; and windows equal octabyte by octabyte, which are equal byte by byte.
 use mathlib.Core.Path.{_≡_, refl, sym, ap, _∙_, subst}
 use mathlib.Core.Logic.{_⊎_, inl, inr}
-use mathlib.Core.Bool.{true, _&&_}
+use mathlib.Core.Bool.{true, _&&_, Bool, cond, false}
 use mathlib.Core.List.{List, []}
 use Prim.Native.Nat.{ℕ, zero, suc, _+_, _-_, _*_, _/_, _%_, _^_, _≤_, _<_}
 use native.Mathlib.Omega.{arith}
@@ -15,7 +15,7 @@ use Rattle.model.specs.Plan.{Plan, answer, Outcome, perform, worst, clea
 use Rattle.model.specs.Registers.{admissible}
 use Rattle.model.specs.Opcodes.{Arm, armOf}
 use Rattle.model.specs.Said.{tell}
-use Rattle.model.specs.Step.{refusalOf, judged, refusing, planOf, stepPlan, stepOf, Item, mmix}
+use Rattle.model.specs.Step.{refusalOf, unruledBy, judged, refusing, planOf, guarded, fromThree, stepPlan, stepOf, Item, mmix}
 use Rattle.model.specs.Demand.{SameOutside}
 use Rattle.model.specs.declared.State.{State}
 use Rattle.model.proofs.Bools.{and-left, and-right, on}
@@ -48,24 +48,20 @@ answered j s t r a vs w =
 -- the step is its arm's plan
 pub step-open : (w : Windows) (s : State) (op x y z : ℕ) → admissible s ≡ true → ruled (shapesOf w) ≡ true → refusalOf (armOf op) x y z ≡ 0
     → stepOf w s op x y z ≡ performOn w s (planOf s (armOf op) op x y z)
-unfolding stepOf stepPlan judged
+unfolding stepOf stepPlan guarded unruledBy fromThree
 step-open w s op x y z a r e = rw (a, r, e)
 
--- what judging passes is neither 1 nor 2
-judged-passes : (s : State) (w : Shapes) (a : Arm) (x y z : ℕ) → judged s w a x y z ≡ 0 → (admissible s ≡ true) × (ruled w ≡ true)
-unfolding judged
-judged-passes s w a x y z =
-    on (λ (n : ℕ). n ≡ 0 → (admissible s ≡ true) × (ruled w ≡ true)) (admissible s)
-    (λ e. on (λ (n : ℕ). n ≡ 0 → (admissible s ≡ true) × (ruled w ≡ true)) (ruled w) (λ f h. (e, f)) (λ f h. absurd (omega arith)))
-    (λ e h. absurd (omega arith))
-
--- and so of a step that is done
+-- a step that is done met neither 1 nor 2
 pub step-done : (w : Windows) (s : State) (op x y z : ℕ) → stepOf w s op x y z .reply ≡ 0 → (admissible s ≡ true) × (ruled (shapesOf w) ≡ true)
-unfolding stepOf stepPlan tell
-step-done w s op x y z h =
-    judged-passes s (shapesOf w) (armOf op) x y z
-    (on (λ (p : Plan State). performOn w s p .reply ≡ 0 → judged s (shapesOf w) (armOf op) x y z ≡ 0)
-    (eqb (judged s (shapesOf w) (armOf op) x y z) 0) (λ e d. eqb-true _ _ e) (λ e d. sym (said-reply w s s _) ∙ d) h)
+unfolding stepOf stepPlan guarded unruledBy
+step-done w s op x y z = go (admissible s) (ruled (shapesOf w))
+  where
+    go : (b c : Bool)
+        → performOn w s (cond b (cond (eqb (cond c 0 2) 0) (fromThree s (armOf op) op x y z) (answer (cond c 0 2) s 0 [])) (answer 1 s 0 [])) .reply ≡ 0
+        → (b ≡ true) × (c ≡ true)
+    go true true h = (refl, refl)
+    go true false h = absurd (omega (arith, said-reply w s s 2))
+    go false c h = absurd (omega (arith, said-reply w s s 1))
 
 -- the judge passes just what lies in the window
 pub judged-inside : (w : Shapes) (a : ℕ) → refusing w a ≡ 0 → inside w a ≡ true

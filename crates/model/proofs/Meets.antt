@@ -16,13 +16,13 @@ use Rattle.model.specs.Registers.{rG, rL, rA, rJ, sp, reg, admissible, g
 use Rattle.model.specs.Memory.{Windows, Shapes, shapesOf, ruled, inside, both}
 use Rattle.model.specs.Plan.{Plan, answer, read, Outcome, perform, worst, clear, looks, puts, named}
 use Rattle.model.specs.Opcodes.{Arm, Way, forward, backward, Operand, register, immediate, branch, jump, getAddress, go, pushJump, pushGo, pop, put, get, save, unsave, sync, swym, trip, trap, none, armOf}
-use Rattle.model.specs.Said.{Said, tell}
+use Rattle.model.specs.Said.{say, Said, tell}
 use Rattle.model.specs.Control.{targetOf, near, far, yzOf, xyzOf, sumOf, operandOf, holds}
 use Rattle.model.specs.Frames.{hole, framed, pushed, pushFrame, popped, popTo, popRule, noFrame, misplaced, popFrame}
 use Rattle.model.specs.Contexts.{extent, saved, savedState, saveContext, unsaved, contextRest, contextCount, contextAt, unsaveContext}
 use Rattle.model.specs.System.{isPrivileged, isIllegal, putRefusal, putState, putSpecial, got, syncOf}
 use Rattle.model.specs.Trips.{wordOf, tripped, trapped, isLoaded, tripRule, tripTo, trapOf, enabled, withAdded, raised}
-use Rattle.model.specs.Step.{isNamed, refusalOf, judged, refusing, planOf, stepPlan, exceptionOf}
+use Rattle.model.specs.Step.{isNamed, refusalOf, unruledBy, judged, refusing, planOf, guarded, fromThree, stepPlan, exceptionOf}
 use Rattle.model.specs.declared.State.{State}
 use Rattle.model.proofs.Bools.{and-left, and-right, or-left, or-right, eqb-swap, on}
 
@@ -215,17 +215,41 @@ refusal-most swym x y z = omega arith
 refusal-most trip x y z = omega arith
 
 pub judged-most : (s : State) (w : Shapes) (a : Arm) (x y z : ℕ) → judged s w a x y z ≤ 5
-unfolding judged
+unfolding judged unruledBy
 judged-most s w a x y z =
-    on (λ (n : ℕ). n ≤ 5) (admissible s) (λ e. on (λ (n : ℕ). n ≤ 5) (ruled w) (λ f. refusal-most a x y z) (λ f. omega arith)) (λ e. omega arith)
+    on (λ (n : ℕ). n ≤ 5) (admissible s)
+    (λ e. on (λ (n : ℕ). n ≤ 5) (eqb (unruledBy w) 0) (λ f. refusal-most a x y z) (λ f. on (λ (n : ℕ). n ≤ 5) (ruled w) (λ g. omega arith) (λ g. omega arith)))
+    (λ e. omega arith)
+
+-- the step by the number that judging gives
+pub step-judged : (s : State) (w : Shapes) (op x y z : ℕ)
+    → stepPlan s w op x y z ≡ cond (eqb (judged s w (armOf op) x y z) 0) (planOf s (armOf op) op x y z) (tell (say (judged s w (armOf op) x y z) s))
+unfolding stepPlan guarded fromThree judged tell
+step-judged s w op x y z = go (admissible s) (eqb (unruledBy w) 0) refl
+  where
+    n : ℕ
+    n = unruledBy w
+
+    r : ℕ
+    r = refusalOf (armOf op) x y z
+
+    p : Plan State
+    p = planOf s (armOf op) op x y z
+
+    go : (b c : Bool) → eqb n 0 ≡ c
+        → cond b (cond c (cond (eqb r 0) p (answer r s 0 [])) (answer n s 0 [])) (answer 1 s 0 [])
+        ≡ cond (eqb (cond b (cond c r n) 1) 0) p (answer (cond b (cond c r n) 1) s 0 [])
+    go false c e = refl
+    go true true e = refl
+    go true false e = rw e
 
 -- 1 to 5 in order, then the arm; the arm is met only where the state was admissible
 pub step-meets : (s : State) (w : Shapes) (Read : List ℕ → Type 0) (R : ℕ → State → List ℕ → Type 0) → ((n : ℕ) → 1 ≤ n → n ≤ 5 → R n s [])
     → (op x y z : ℕ) → (admissible s ≡ true → Answers Read R (planOf s (armOf op) op x y z)) → Answers Read R (stepPlan s w op x y z)
-unfolding stepPlan tell Answers
+unfolding tell Answers
 step-meets s w Read R refuses op x y z met =
-    on (Answers Read R) (eqb (judged s w (armOf op) x y z) 0) (λ e. met (passed (eqb-true _ _ e)))
-    (λ e. refuses _ (nonzero (judged s w (armOf op) x y z) (eqb-false _ _ e)) (judged-most s w (armOf op) x y z))
+    rw (step-judged s w op x y z) (on (Answers Read R) (eqb (judged s w (armOf op) x y z) 0) (λ e. met (passed (eqb-true _ _ e)))
+    (λ e. refuses _ (nonzero (judged s w (armOf op) x y z) (eqb-false _ _ e)) (judged-most s w (armOf op) x y z)))
   where
     nonzero : (n : ℕ) → (n ≡ 0 → ⊥) → 1 ≤ n
     nonzero n f = omega arith
@@ -233,7 +257,7 @@ step-meets s w Read R refuses op x y z met =
     passed : judged s w (armOf op) x y z ≡ 0 → admissible s ≡ true
     passed = unfold judged in (go (admissible s))
       where
-        go : (b : Bool) → cond b (cond (ruled w) (refusalOf (armOf op) x y z) 2) 1 ≡ 0 → b ≡ true
+        go : (b : Bool) → cond b (cond (eqb (unruledBy w) 0) (refusalOf (armOf op) x y z) (unruledBy w)) 1 ≡ 0 → b ≡ true
         go true e = refl
         go false e = absurd (omega arith)
 

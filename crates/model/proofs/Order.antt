@@ -17,7 +17,7 @@ use Rattle.model.specs.Control.{yzOf}
 use Rattle.model.specs.Frames.{noFrame, misplaced, popRule, popFrame}
 use Rattle.model.specs.Contexts.{extent, saved, savedState, saveContext, below, unsaved, contextRest, contextCount, contextAt, unsaveContext}
 use Rattle.model.specs.Trips.{enabled, isLoaded, withAdded, tripTo, raised}
-use Rattle.model.specs.Step.{refusalOf, judged, refusing, planOf, stepPlan, stepOf, exceptionOf}
+use Rattle.model.specs.Step.{refusalOf, unruledBy, refusing, planOf, guarded, fromThree, stepPlan, stepOf, exceptionOf}
 use Rattle.model.specs.Order.{refusedBy, haltedBy, Passes, Packed, Counted, StepsInOrder}
 use Rattle.model.specs.declared.State.{State}
 use Rattle.model.proofs.Runs.{length-tab}
@@ -28,15 +28,15 @@ use Rattle.model.proofs.Rules.{has-clear}
 -- ---- 1 to 5
 
 one-first : (w : Windows) (s : State) (op x y z : ℕ) → admissible s ≡ false → stepOf w s op x y z ≡ refusedBy 1 w s
-unfolding stepOf stepPlan judged tell
+unfolding stepOf stepPlan guarded unruledBy fromThree tell
 one-first w s op x y z e = rw e (said w s s 1)
 
 two-next : (w : Windows) (s : State) (op x y z : ℕ) → admissible s ≡ true → ruled (shapesOf w) ≡ false → stepOf w s op x y z ≡ refusedBy 2 w s
-unfolding stepOf stepPlan judged tell
+unfolding stepOf stepPlan guarded unruledBy fromThree tell
 two-next w s op x y z a e = rw (a, e) (said w s s 2)
 
 three-to-five : (w : Windows) (s : State) (op x y z : ℕ) → Passes w s → refusalOf (armOf op) x y z ≢ 0 → stepOf w s op x y z ≡ refusedBy (refusalOf (armOf op) x y z) w s
-unfolding stepOf stepPlan judged tell
+unfolding stepOf stepPlan guarded unruledBy fromThree tell
 three-to-five w s op x y z h n = rw (h .admitted, h .windowed, ne-eqb (refusalOf (armOf op) x y z) 0 n) (said w s s (refusalOf (armOf op) x y z))
 
 -- ---- runs

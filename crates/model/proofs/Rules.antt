@@ -11,7 +11,7 @@ use lib.Seq.{set-set, getD-set-other}
 use borrow.Author.Tests.{leb-true, leb-false, ltb-true, eqb-true, lt-ltb, le-leb, lt-leb, eq-eqb, not-false}
 use Rattle.model.specs.Fill.{over, tab}
 use Rattle.model.specs.Octa.{octa}
-use Rattle.model.specs.Registers.{rO, rG, rL, stackStart, sp, reg, goes, next, halted, withSpecial, spilled, cleared, claimLocal, isMarginal, MarginalZero}
+use Rattle.model.specs.Registers.{withParts, rO, rG, rL, stackStart, sp, reg, goes, next, halted, withSpecial, spilled, cleared, claimLocal, isMarginal, MarginalZero}
 use Rattle.model.specs.Memory.{Windows, Shapes, shapesOf, inside, both}
 use Rattle.model.specs.Plan.{Plan, answer, read, Outcome, worst, clear, look, looks, perform, mapPlan}
 use Rattle.model.specs.Opcodes.{go, pop}
@@ -112,7 +112,7 @@ top-below s k a b = omega arith
 
 popped-same : (s : State) (x h : ℕ) (ls : List ℕ) → 8 * (h + 1) ≤ sp s rO → sp s rO < 2 ^ 64 → poppedRule s x h ls ≡ unslide s x h ls
 unfolding poppedRule withSpecial unslide
-popped-same s x h ls a b = λ i. record { general = unslide s x h ls .general; special = same i; pc = s .pc; halt = s .halt; marks = s .marks }
+popped-same s x h ls a b = λ i. withParts s (unslide s x h ls .general) (same i)
   where
     same : set (set (set (s .special) rL (min (h + countOf s x) (sp s rG))) rO (sp s rO - 8 * (h + 1))) rO (belowTop s (h + 1))
         ≡ set (set (s .special) rL (min (h + countOf s x) (sp s rG))) rO (sp s rO - 8 * (h + 1))
@@ -162,13 +162,9 @@ special-rl s o g a l vs = refl
 
 unsaved-same : (s : State) (o g a l : ℕ) (vs : List ℕ) → l ≤ g → unsavedRule s o g a l vs ≡ unsaved s o g a l vs
 unfolding unsavedRule unsaved unsavedUnspilled unsavedGeneralRule unsavedGeneral unsavedSpecialRule
-unsaved-same s o g a l vs h = λ i. spilled (record {
-  general = over (λ k. general-at k i) 0 256 (s .general);
-  special = over (λ k. special-at k i) 0 32 (s .special);
-  pc = s .pc;
-  halt = s .halt;
-  marks = s .marks;
-})
+unsaved-same s o g a l vs h = λ i. spilled (withParts s
+    (over (λ k. general-at k i) 0 256 (s .general))
+    (over (λ k. special-at k i) 0 32 (s .special)))
   where
     least : min l g ≡ l
     least = omega arith

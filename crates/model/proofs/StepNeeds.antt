@@ -15,12 +15,12 @@ use Rattle.model.specs.Control.{near, sumOf}
 use Rattle.model.specs.Frames.{hole, framed, pushed, pushFrame, popTo, popRule, noFrame, misplaced, popFrame}
 use Rattle.model.specs.Contexts.{extent, saved, savedState, saveContext, below, unsaved, contextRest, contextCount, contextAt, unsaveContext}
 use Rattle.model.specs.Lists.{needsOf}
-use Rattle.model.specs.Step.{refusalOf, judged, refusing, planOf, stepPlan, stepOf, stepNeeds, exceptionOf, itemPlan, mmix}
+use Rattle.model.specs.Step.{refusalOf, unruledBy, judged, refusing, planOf, guarded, fromThree, stepPlan, stepOf, stepNeeds, exceptionOf, itemPlan, mmix}
 use Rattle.model.specs.StepNeeds.{run, popNeeds, unsaveNeedsRest, unsaveNeedsCount, unsaveNeeds, armNeeds, NeedsAre, BytesUnused}
 use Rattle.model.specs.declared.State.{State}
 use Rattle.model.proofs.Bools.{on, on-both}
 use Rattle.model.proofs.Runs.{length-tab}
-use Rattle.model.proofs.Meets.{worst-six}
+use Rattle.model.proofs.Meets.{step-judged, worst-six}
 use Rattle.model.proofs.Entry.{step-open, step-done}
 
 abbrev unsavedNext : State → ℕ → ℕ → ℕ → ℕ → List ℕ → State
@@ -99,9 +99,10 @@ module _ (w : Windows) where
 
 step-needs : (w : Windows) (s : State) (op x y z : ℕ)
     → stepNeeds w s op x y z ≡ cond (eqb (judged s (shapesOf w) (armOf op) x y z) 0) (armNeeds w s (armOf op) x y z) []
-unfolding stepNeeds stepPlan
+unfolding stepNeeds
 step-needs w s op x y z =
-    by-cond w (eqb (judged s (shapesOf w) (armOf op) x y z) 0) (planOf s (armOf op) op x y z) (tell (say (judged s (shapesOf w) (armOf op) x y z) s))
+    ap (λ (p : Plan State). needs both (refusing (shapesOf w)) p w) (step-judged s (shapesOf w) op x y z)
+    ∙ by-cond w (eqb (judged s (shapesOf w) (armOf op) x y z) 0) (planOf s (armOf op) op x y z) (tell (say (judged s (shapesOf w) (armOf op) x y z) s))
     ∙ rw (arm-needs w s (armOf op) op x y z, tell-none w (say (judged s (shapesOf w) (armOf op) x y z) s))
 
 -- a plan that stores and is done: its run passed
@@ -116,7 +117,7 @@ stored-done w s t a n f =
 entry-stored : (w : Windows) (s t : State) (op x y z a n : ℕ) (f : ℕ → ℕ) → refusalOf (armOf op) x y z ≡ 0
     → (admissible s ≡ true → stepOf w s op x y z .reply ≡ 0 → planOf s (armOf op) op x y z ≡ answer 0 t a (tab 0 n f))
     → stepOf w s op x y z .reply ≡ 0 → stepNeeds w s op x y z ≡ ups a n
-unfolding stepNeeds stepPlan judged
+unfolding stepNeeds stepPlan guarded unruledBy fromThree
 entry-stored w s t op x y z a n f e p d =
     let j : (admissible s ≡ true) × (ruled (shapesOf w) ≡ true) = step-done w s op x y z d in
     let q : planOf s (armOf op) op x y z ≡ answer 0 t a (tab 0 n f) = p (j .0) d in
@@ -160,7 +161,7 @@ needs-are = record {
 }
 
 pub bytes-unused : BytesUnused
-unfolding stepOf stepNeeds stepPlan judged refusalOf planOf armOf
+unfolding stepOf stepNeeds stepPlan guarded fromThree refusalOf planOf armOf
 bytes-unused = record {
   save-yz = λ w s x y z y' z'. record { outcome-same = refl; needs-same = refl };
   unsave-xy = λ w s x y z x' y'. record { outcome-same = refl; needs-same = refl };

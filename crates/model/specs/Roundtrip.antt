@@ -6,7 +6,7 @@ use lib.ListN.{set}
 use Rattle.model.specs.Fill.{over}
 use Rattle.model.specs.Memory.{Windows, shapesOf, ruled, offset, both}
 use Rattle.model.specs.Plan.{Outcome, look}
-use Rattle.model.specs.Registers.{rO, rS, rG, rL, sp, reg, admissible, Sized, Words}
+use Rattle.model.specs.Registers.{built, rO, rS, rG, rL, sp, reg, admissible, Sized, Words}
 use Rattle.model.specs.Contexts.{below, contextAddress}
 use Rattle.model.specs.Reader.{Part, readContext}
 use Rattle.model.specs.Step.{stepOf}
@@ -31,13 +31,7 @@ pub record FromFirstToPacked (w : Windows) (p : ℕ) (q : Part) : Type 0 where
 -- s after SAVE and then UNSAVE: rL, rG, rA, rO, the specials, the locals below rL and all globals as before, the other locals 0,
 -- rS = rO, and PC two instructions on
 unfoldable pub unparked : State → State
-unparked s = record {
-  general = over (λ i. 0) (sp s rL) (sp s rG) (s .general);
-  special = set (s .special) rS (sp s rO);
-  pc = (s .pc + 8) % 2 ^ 64;
-  halt = s .halt;
-  marks = s .marks;
-}
+unparked s = built s (over (λ i. 0) (sp s rL) (sp s rG) (s .general)) (set (s .special) rS (sp s rO)) ((s .pc + 8) % 2 ^ 64) (s .halt)
 
 -- UNSAVE of $x, where o is what SAVE $x left
 abbrev pub unsaveAfter : Outcome State Windows → ℕ → ℕ → ℕ → Outcome State Windows

@@ -1,10 +1,10 @@
 -- The entries' own definitions, `stepOf` and `exceptionOf`: 01's steps under 01's order of judging; and lists of them.
 use Prim.Native.Nat.{ℕ, _+_, _*_, _%_, _^_}
 use mathlib.Core.Bool.{Bool, cond, _&&_, _||_}
-use mathlib.Core.List.{List}
+use mathlib.Core.List.{List, []}
 use lib.Dec.{leb, ltb, eqb}
 use Rattle.model.specs.Memory.{Windows, Shapes, shapesOf, ruled, inside, both}
-use Rattle.model.specs.Plan.{Plan, Outcome, perform, needs}
+use Rattle.model.specs.Plan.{Plan, answer, Outcome, perform, needs}
 use Rattle.model.specs.Lists.{Machine}
 use Rattle.model.specs.Registers.{rJ, sp, reg, admissible, goes, following, next, setRegister}
 use Rattle.model.specs.Opcodes.{Arm, branch, jump, getAddress, go, pushJump, pushGo, pop, put, get, save, unsave, sync, swym, trip, trap, none, armOf}
@@ -42,9 +42,13 @@ refusalOf sync x y z = 0
 refusalOf swym x y z = 0
 refusalOf trip x y z = 0
 
+-- 2: "window length or base breaks its rule"; 0 where it does not
+unfoldable pub unruledBy : Shapes → ℕ
+unruledBy w = cond (ruled w) 0 2
+
 -- "Order: 1, 2, then 3 to 5, then the instruction's own"
 unfoldable pub judged : State → Shapes → Arm → ℕ → ℕ → ℕ → ℕ
-judged s w a x y z = cond (admissible s) (cond (ruled w) (refusalOf a x y z) 2) 1
+judged s w a x y z = cond (admissible s) (cond (eqb (unruledBy w) 0) (refusalOf a x y z) (unruledBy w)) 1
 
 -- 6: "a needed octabyte lies outside the window"
 unfoldable pub refusing : Shapes → ℕ → ℕ
@@ -76,8 +80,16 @@ planOf s trip op x y z = tell (tripTo s 0 (wordOf op x y z) (reg s y) (reg s z))
 planOf s trap op x y z = tell (trapOf s (wordOf op x y z) (reg s y) (reg s z))
 planOf s none op x y z = tell (say 3 s)
 
+-- "Order: 1, 2, ..", `bad` where one of them is met; ..
+unfoldable pub guarded : {S : Type 0} → S → State → Shapes → Plan S → Plan S
+guarded bad s w p = cond (admissible s) (cond (eqb (unruledBy w) 0) p (answer (unruledBy w) bad 0 [])) (answer 1 bad 0 [])
+
+-- ".. then 3 to 5, then the instruction's own"
+unfoldable pub fromThree : State → Arm → ℕ → ℕ → ℕ → ℕ → Plan State
+fromThree s a op x y z = cond (eqb (refusalOf a x y z) 0) (planOf s a op x y z) (tell (say (refusalOf a x y z) s))
+
 unfoldable pub stepPlan : State → Shapes → ℕ → ℕ → ℕ → ℕ → Plan State
-stepPlan s w op x y z = cond (eqb (judged s w (armOf op) x y z) 0) (planOf s (armOf op) op x y z) (tell (say (judged s w (armOf op) x y z) s))
+stepPlan s w op x y z = guarded s s w (fromThree s (armOf op) op x y z)
 
 -- THE step: reply, state and window after it
 unfoldable pub stepOf : Windows → State → ℕ → ℕ → ℕ → ℕ → Outcome State Windows
