@@ -54,8 +54,8 @@ module _ (P : State → Type 0) (k : Keeps P) where
     word = λ n b. tt;
     general-is = λ i. tt;
     special-is = λ i. tt;
-    refuses = λ n a b. h;
-    halts = λ n a b. k .at-halt s h;
+    refuses = λ n a. h;
+    halts = λ n a. k .at-halt s h;
     moves = λ a w. k .at-pc s a h;
     writes = λ x v a w u. k .at-pc _ a (k .write s x v h);
     locals = λ v a w u. k .at-pc _ a (k .locals s v h);
@@ -76,7 +76,7 @@ pub item-keeps : (P Q : State → Type 0) → Keeps Q → ((t : State) → Q t �
     → (s : State) (w : Shapes) (i : Item) → (admissible s ≡ true → Q s) → P s → Always P (itemPlan s w i)
 unfolding itemPlan tell Always
 item-keeps P Q k f s w (step op x y z) q h =
-    answers-always P (stepPlan s w op x y z) (step-meets s w Any (λ r t vs. P t) (λ n a b. h) op x y z (λ e. answers-map P Q f (planOf s (armOf op) op x y z)
+    answers-always P (stepPlan s w op x y z) (step-meets s w Any (λ r t vs. P t) (λ n a. h) op x y z (λ e. answers-map P Q f (planOf s (armOf op) op x y z)
     (plan-meets s Any Any (λ r t vs. Q t) (meets Q k s (q e)) (armOf op) op x y z tt (meets-trip Q k s _ _ _ (q e)) (k .at-halt _ (k .traps s _ _ _ (q e))))))
 item-keeps P Q k f s w (exception g op x y z u v) q h =
     exception-meets s Any (λ r t vs. P t) g op x y z u v (λ n b. tt) h

@@ -19,6 +19,7 @@ use Rattle.model.specs.Trips.{interrupted, tripped, trapped, wordOf, wit
 use Rattle.model.specs.Step.{stepPlan, stepOf, exceptionOf}
 use Rattle.model.specs.Reader.{Part, emptyPart, partAt, readContext}
 use Rattle.model.specs.Leaves.{Interrupted, Tripped, Trapped, StepLeaves, ExceptionLeaves, ReaderLeaves, RepliesLeave}
+use Rattle.model.specs.Numbers.{Early, Lost, Halting}
 use Rattle.model.specs.declared.State.{State}
 use Rattle.model.proofs.Bools.{on}
 use Rattle.model.proofs.Keeps.{Any}
@@ -67,8 +68,9 @@ traps s word u v n = interrupts s rBB rWW rXX rYY rZZ word u v n (omega arith) (
 
 record Answered (s : State) (op x y z : ℕ) (r : ℕ) (t : State) (vs : List ℕ) : Type 0 where
   most : r ≤ 20
-  one-to-six : 1 ≤ r → r ≤ 6 → (t ≡ s) × (vs ≡ [])
-  seven-to-eighteen : 7 ≤ r → r ≤ 18 → (t ≡ halted s) × (vs ≡ [])
+  early : Early r → (t ≡ s) × (vs ≡ [])
+  lost : Lost r → (t ≡ s) × (vs ≡ [])
+  halting : Halting r → (t ≡ halted s) × (vs ≡ [])
   nineteen : r ≡ 19 → Tripped s t (wordOf op x y z) (reg s y) (reg s z) × (vs ≡ [])
   twenty : r ≡ 20 → Trapped s t (wordOf op x y z) (reg s y) (reg s z) × (vs ≡ [])
   done : r ≡ 0 → t .halt ≡ s .halt
@@ -77,28 +79,31 @@ module _ (s : State) (op x y z : ℕ) where
   as-done : (t : State) (vs : List ℕ) → t .halt ≡ s .halt → Answered s op x y z 0 t vs
   as-done t vs e = record {
     most = omega arith;
-    one-to-six = λ p q. absurd (omega arith);
-    seven-to-eighteen = λ p q. absurd (omega arith);
+    early = λ p. absurd (omega arith);
+    lost = λ p. absurd (omega arith);
+    halting = λ p. absurd (omega arith);
     nineteen = λ p. absurd (omega arith);
     twenty = λ p. absurd (omega arith);
     done = λ p. e;
   }
 
-  as-refused : (n : ℕ) → 1 ≤ n → n ≤ 5 → Answered s op x y z n s []
-  as-refused n a b = record {
+  as-refused : (n : ℕ) → Early n → Answered s op x y z n s []
+  as-refused n a = record {
     most = omega arith;
-    one-to-six = λ p q. (refl, refl);
-    seven-to-eighteen = λ p q. absurd (omega arith);
+    early = λ p. (refl, refl);
+    lost = λ p. (refl, refl);
+    halting = λ p. absurd (omega arith);
     nineteen = λ p. absurd (omega arith);
     twenty = λ p. absurd (omega arith);
     done = λ p. absurd (omega arith);
   }
 
-  as-halted : (n : ℕ) → 7 ≤ n → n ≤ 18 → Answered s op x y z n (halted s) []
-  as-halted n a b = record {
+  as-halted : (n : ℕ) → Halting n → Answered s op x y z n (halted s) []
+  as-halted n a = record {
     most = omega arith;
-    one-to-six = λ p q. absurd (omega arith);
-    seven-to-eighteen = λ p q. (refl, refl);
+    early = λ p. absurd (omega arith);
+    lost = λ p. absurd (omega arith);
+    halting = λ p. (refl, refl);
     nineteen = λ p. absurd (omega arith);
     twenty = λ p. absurd (omega arith);
     done = λ p. absurd (omega arith);
@@ -107,8 +112,9 @@ module _ (s : State) (op x y z : ℕ) where
   as-tripped : (t : State) → Tripped s t (wordOf op x y z) (reg s y) (reg s z) → Answered s op x y z 19 t []
   as-tripped t h = record {
     most = omega arith;
-    one-to-six = λ p q. absurd (omega arith);
-    seven-to-eighteen = λ p q. absurd (omega arith);
+    early = λ p. absurd (omega arith);
+    lost = λ p. absurd (omega arith);
+    halting = λ p. absurd (omega arith);
     nineteen = λ p. (h, refl);
     twenty = λ p. absurd (omega arith);
     done = λ p. absurd (omega arith);
@@ -117,8 +123,9 @@ module _ (s : State) (op x y z : ℕ) where
   as-trapped : (t : State) → Trapped s t (wordOf op x y z) (reg s y) (reg s z) → Answered s op x y z 20 t []
   as-trapped t h = record {
     most = omega arith;
-    one-to-six = λ p q. absurd (omega arith);
-    seven-to-eighteen = λ p q. absurd (omega arith);
+    early = λ p. absurd (omega arith);
+    lost = λ p. absurd (omega arith);
+    halting = λ p. absurd (omega arith);
     nineteen = λ p. absurd (omega arith);
     twenty = λ p. (h, refl);
     done = λ p. absurd (omega arith);
@@ -163,8 +170,9 @@ leaves-of : (w : Windows) (s : State) (op x y z : ℕ) (r : ℕ) (t : State) (a 
     → StepLeaves w s op x y z (record { reply = r; state = t; memory = puts both w a vs })
 leaves-of w s op x y z r t a vs h = record {
   most = h .most;
-  one-to-six = λ p q. (h .one-to-six p q .0, stored-none w a vs (h .one-to-six p q .1));
-  seven-to-eighteen = λ p q. (h .seven-to-eighteen p q .0, stored-none w a vs (h .seven-to-eighteen p q .1));
+  early = λ p. (h .early p .0, stored-none w a vs (h .early p .1));
+  lost = λ p. (h .lost p .0, stored-none w a vs (h .lost p .1));
+  halting = λ p. (h .halting p .0, stored-none w a vs (h .halting p .1));
   nineteen = λ p. (h .nineteen p .0, stored-none w a vs (h .nineteen p .1));
   twenty = λ p. (h .twenty p .0, stored-none w a vs (h .twenty p .1));
   done = h .done;
@@ -176,8 +184,9 @@ step-leaves w s op x y z n =
     perform-meets w s Any (Answered s op x y z) (StepLeaves w s op x y z)
     (record {
       most = omega arith;
-      one-to-six = λ p q. (refl, refl);
-      seven-to-eighteen = λ p q. absurd (omega arith);
+      early = λ p. (refl, refl);
+      lost = λ p. (refl, refl);
+      halting = λ p. absurd (omega arith);
       nineteen = λ p. absurd (omega arith);
       twenty = λ p. absurd (omega arith);
       done = λ p. absurd (omega arith);

@@ -99,8 +99,8 @@ never-six s = record {
   word = λ n b. tt;
   general-is = λ i. tt;
   special-is = λ k. tt;
-  refuses = λ n a b e. omega arith;
-  halts = λ n a b e. omega arith;
+  refuses = λ n a e. omega arith;
+  halts = λ n a e. omega arith;
   moves = λ a w e. omega arith;
   writes = λ x v a w u e. omega arith;
   locals = λ v a w u e. omega arith;
@@ -115,7 +115,7 @@ never-six s = record {
 
 step-never-six : (s : State) (w : Shapes) (op x y z : ℕ) → Answers Any (λ r t vs. r ≢ 6) (stepPlan s w op x y z)
 step-never-six s w op x y z =
-    step-meets s w Any (λ r t vs. r ≢ 6) (λ n a b e. omega arith) op x y z
+    step-meets s w Any (λ r t vs. r ≢ 6) (λ n a e. omega arith) op x y z
     (λ e. plan-meets s Any Any (λ r t vs. r ≢ 6) (never-six s) (armOf op) op x y z tt (record { trips = λ a w e. omega arith; trips-not = λ e. omega arith }) (λ e. omega arith))
 
 inside-front : (w : Shapes) (xs ys : List ℕ) → allInside w xs ≡ true → allInside w (xs ++ ys) ≡ allInside w ys

@@ -23,6 +23,7 @@ use Rattle.model.specs.Contexts.{extent, saved, savedState, saveContext,
 use Rattle.model.specs.System.{isPrivileged, isIllegal, putRefusal, putState, putSpecial, got, syncOf}
 use Rattle.model.specs.Trips.{wordOf, tripped, trapped, isLoaded, tripRule, tripTo, trapOf, enabled, withAdded, raised}
 use Rattle.model.specs.Step.{isNamed, refusalOf, unruledBy, judged, refusing, planOf, guarded, fromThree, stepPlan, exceptionOf}
+use Rattle.model.specs.Numbers.{Early, Lost, Halting}
 use Rattle.model.specs.declared.State.{State}
 use Rattle.model.proofs.Bools.{and-left, and-right, or-left, or-right, eqb-swap, on}
 
@@ -34,8 +35,8 @@ pub record Meets (s : State) (W : ℕ → Type 0) (Read : List ℕ → Type 0) (
   pub word : (n : ℕ) → n < 2 ^ 64 → W n
   pub general-is : (i : ℕ) → W (reg s i)
   pub special-is : (k : ℕ) → W (sp s k)
-  pub refuses : (n : ℕ) → 1 ≤ n → n ≤ 5 → R n s []
-  pub halts : (n : ℕ) → 7 ≤ n → n ≤ 18 → R n (halted s) []
+  pub refuses : (n : ℕ) → Early n → R n s []
+  pub halts : (n : ℕ) → Halting n → R n (halted s) []
   pub moves : (a : ℕ) → W a → R 0 (goes s a) []
   pub writes : (x v a : ℕ) → W v → W a → R 0 (goes (setRegister s x v) a) []
   pub locals : (v a : ℕ) → W v → W a → R 0 (goes (putLocals s v) a) []
@@ -86,11 +87,11 @@ put-bound s x v =
     on Range (eqb x rG) (λ e. on Range (ltb v 32 || (ltb v (sp s rL) || ltb 255 v)) (λ e. inr (omega arith, omega arith)) (λ e. inl refl)) (λ e.
     on Range (eqb x rA) (λ e. on Range (ltb 0x3FFFF v) (λ e. inr (omega arith, omega arith)) (λ e. inl refl)) (λ e. inl refl)))))
 
-put-range : (s : State) (x v : ℕ) → eqb (putRefusal s x v) 0 ≡ false → (7 ≤ putRefusal s x v) × (putRefusal s x v ≤ 18)
+put-range : (s : State) (x v : ℕ) → eqb (putRefusal s x v) 0 ≡ false → Halting (putRefusal s x v)
 unfolding Range
 put-range s x v e = pick (putRefusal s x v) (eqb-false _ _ e) (put-bound s x v)
   where
-    pick : (n : ℕ) → (n ≡ 0 → ⊥) → (n ≡ 0) ⊎ ((7 ≤ n) × (n ≤ 11)) → (7 ≤ n) × (n ≤ 18)
+    pick : (n : ℕ) → (n ≡ 0 → ⊥) → (n ≡ 0) ⊎ ((7 ≤ n) × (n ≤ 11)) → Halting n
     pick n f (inl g) = absurd (f g)
     pick n f (inr g) = let a : 7 ≤ n = g .0 in let b : n ≤ 11 = g .1 in (a, omega arith)
 
@@ -129,23 +130,23 @@ module _ (s : State) (W : ℕ → Type 0) (Read : List ℕ → Type 0) (R : ℕ 
   unfolding putSpecial
   put-meets x v w =
       on {A = Said} (Tells s W R) (eqb (putRefusal s x v) 0) (λ e. putState-meets x v w (eqb-true _ _ e))
-      (λ e. let r : (7 ≤ putRefusal s x v) × (putRefusal s x v ≤ 18) = put-range s x v e in m .halts (putRefusal s x v) (r .0) (r .1))
+      (λ e. m .halts (putRefusal s x v) (put-range s x v e))
 
   sync-meets : (n : ℕ) → Tells s W R (syncOf s n)
   unfolding syncOf
   sync-meets n =
-      on {A = Said} (Tells s W R) (ltb 7 n) (λ e. m .halts 18 (omega arith) (omega arith))
-      (λ e. on {A = Said} (Tells s W R) (leb 4 n) (λ e. m .halts 17 (omega arith) (omega arith)) (λ e. m .moves _ (onward s)))
+      on {A = Said} (Tells s W R) (ltb 7 n) (λ e. m .halts 18 (omega arith, omega arith))
+      (λ e. on {A = Said} (Tells s W R) (leb 4 n) (λ e. m .halts 17 (omega arith, omega arith)) (λ e. m .moves _ (onward s)))
 
   pop-meets : (x t : ℕ) → W t → Answers Read R (popFrame s x t)
   unfolding popFrame popRule popTo tell Answers
   pop-meets x t w =
       on (Answers Read R) (noFrame s) (λ e. m .moves t w)
-      (λ e. on (Answers Read R) (misplaced s) (λ e. m .halts 12 (omega arith) (omega arith)) (λ e. (refl, λ vs i. (refl, λ ls j. m .pops x t _ ls w j))))
+      (λ e. on (Answers Read R) (misplaced s) (λ e. m .halts 12 (omega arith, omega arith)) (λ e. (refl, λ vs i. (refl, λ ls j. m .pops x t _ ls w j))))
 
   save-meets : (x : ℕ) → Answers Read R (saveContext s x)
   unfolding saveContext tell Answers
-  save-meets x = on (Answers Read R) (ltb x (sp s rG)) (λ e. m .halts 13 (omega arith) (omega arith)) (λ e. m .saves x _ (ltb-false _ _ e) (onward (savedState s x)))
+  save-meets x = on (Answers Read R) (ltb x (sp s rG)) (λ e. m .halts 13 (omega arith, omega arith)) (λ e. m .saves x _ (ltb-false _ _ e) (onward (savedState s x)))
 
 -- a context, for UNSAVE and for the reader
 module _ {S : Type 0} (bad : S) (found : ℕ → ℕ → ℕ → ℕ → List ℕ → S) (p : ℕ) (Read : List ℕ → Type 0) (R : ℕ → S → List ℕ → Type 0)
@@ -188,12 +189,12 @@ module _ (s : State) (W : ℕ → Type 0) (Read : List ℕ → Type 0) (R : ℕ 
   plan-meets get op x y z wz mt mr = m .writes x (sp s z) _ (m .special-is z) (onward s W Read R m (setRegister s x (sp s z)))
   plan-meets save op x y z wz mt mr = save-meets s W Read R m x
   plan-meets unsave op x y z wz mt mr =
-      context-meets (halted s) _ (reg s z) Read R (λ n a b. m .halts n (omega arith) (omega arith)) (λ o g a l vs c. m .unsaves o g a l vs _ (onward s W Read R m (unsaved s o g a l vs)) (m .word o c))
+      context-meets (halted s) _ (reg s z) Read R (λ n a b. m .halts n (omega arith, omega arith)) (λ o g a l vs c. m .unsaves o g a l vs _ (onward s W Read R m (unsaved s o g a l vs)) (m .word o c))
   plan-meets sync op x y z wz mt mr = sync-meets s W Read R m (xyzOf x y z)
   plan-meets swym op x y z wz mt mr = m .moves (following s) (onward s W Read R m s)
   plan-meets trip op x y z wz mt mr = trip-meets s W R 0 (wordOf op x y z) (reg s y) (reg s z) (m .word _ (omega arith)) mt
   plan-meets trap op x y z wz mt mr = mr
-  plan-meets none op x y z wz mt mr = m .refuses 3 (omega arith) (omega arith)
+  plan-meets none op x y z wz mt mr = m .refuses 3 (omega arith, omega arith)
 
 refusal-most : (a : Arm) (x y z : ℕ) → refusalOf a x y z ≤ 5
 unfolding refusalOf
@@ -244,12 +245,12 @@ step-judged s w op x y z = go (admissible s) (eqb (unruledBy w) 0) refl
     go true false e = rw e
 
 -- 1 to 5 in order, then the arm; the arm is met only where the state was admissible
-pub step-meets : (s : State) (w : Shapes) (Read : List ℕ → Type 0) (R : ℕ → State → List ℕ → Type 0) → ((n : ℕ) → 1 ≤ n → n ≤ 5 → R n s [])
+pub step-meets : (s : State) (w : Shapes) (Read : List ℕ → Type 0) (R : ℕ → State → List ℕ → Type 0) → ((n : ℕ) → Early n → R n s [])
     → (op x y z : ℕ) → (admissible s ≡ true → Answers Read R (planOf s (armOf op) op x y z)) → Answers Read R (stepPlan s w op x y z)
 unfolding tell Answers
 step-meets s w Read R refuses op x y z met =
     rw (step-judged s w op x y z) (on (Answers Read R) (eqb (judged s w (armOf op) x y z) 0) (λ e. met (passed (eqb-true _ _ e)))
-    (λ e. refuses _ (nonzero (judged s w (armOf op) x y z) (eqb-false _ _ e)) (judged-most s w (armOf op) x y z)))
+    (λ e. refuses _ (nonzero (judged s w (armOf op) x y z) (eqb-false _ _ e), judged-most s w (armOf op) x y z)))
   where
     nonzero : (n : ℕ) → (n ≡ 0 → ⊥) → 1 ≤ n
     nonzero n f = omega arith
@@ -276,26 +277,26 @@ exception-meets s W R f op x y z u v word refused met =
 
 -- ---- what a plan comes to
 
-six-head : (w : Shapes) (a : ℕ) → (refusing w a ≡ 0) ⊎ (refusing w a ≡ 6)
+six-head : (w : Shapes) (a : ℕ) → (refusing w a ≡ 0) ⊎ Lost (refusing w a)
 unfolding refusing
-six-head w a = on (λ (n : ℕ). (n ≡ 0) ⊎ (n ≡ 6)) (inside w a) (λ e. inl refl) (λ e. inr refl)
+six-head w a = on (λ (n : ℕ). (n ≡ 0) ⊎ Lost n) (inside w a) (λ e. inl refl) (λ e. inr refl)
 
-six-both : (p q : ℕ) → (p ≡ 0) ⊎ (p ≡ 6) → (q ≡ 0) ⊎ (q ≡ 6) → (max p q ≡ 0) ⊎ (max p q ≡ 6)
+six-both : (p q : ℕ) → (p ≡ 0) ⊎ Lost p → (q ≡ 0) ⊎ Lost q → (max p q ≡ 0) ⊎ Lost (max p q)
 six-both p q (inl f) (inl g) = inl (omega arith)
 six-both p q (inl f) (inr g) = inr (omega arith)
 six-both p q (inr f) (inl g) = inr (omega arith)
 six-both p q (inr f) (inr g) = inr (omega arith)
 
-six-run : (w : Shapes) (n a : ℕ) → (worst (refusing w) a n ≡ 0) ⊎ (worst (refusing w) a n ≡ 6)
+six-run : (w : Shapes) (n a : ℕ) → (worst (refusing w) a n ≡ 0) ⊎ Lost (worst (refusing w) a n)
 unfolding worst
 six-run w zero a = inl refl
 six-run w (suc n) a = six-both (refusing w a) (worst (refusing w) (a + 8) n) (six-head w a) (six-run w n (a + 8))
 
 -- a run that does not pass is refused by 6
-pub worst-six : (w : Shapes) (n a : ℕ) → eqb (worst (refusing w) a n) 0 ≡ false → worst (refusing w) a n ≡ 6
+pub worst-six : (w : Shapes) (n a : ℕ) → eqb (worst (refusing w) a n) 0 ≡ false → Lost (worst (refusing w) a n)
 worst-six w n a e = pick (worst (refusing w) a n) (eqb-false _ _ e) (six-run w n a)
   where
-    pick : (r : ℕ) → (r ≡ 0 → ⊥) → (r ≡ 0) ⊎ (r ≡ 6) → r ≡ 6
+    pick : (r : ℕ) → (r ≡ 0 → ⊥) → (r ≡ 0) ⊎ Lost r → Lost r
     pick r f (inl g) = absurd (f g)
     pick r f (inr g) = g
 
@@ -303,7 +304,7 @@ worst-six w n a e = pick (worst (refusing w) a n) (eqb-false _ _ e) (six-run w n
 module _ {S : Type 0} (w : Windows) (s : S) (Read : List ℕ → Type 0) (R : ℕ → S → List ℕ → Type 0) (Q : Outcome S Windows → Type 0)
     (six : Q (record { reply = 6; state = s; memory = w })) (met : (r : ℕ) (t : S) (a : ℕ) (vs : List ℕ) → R r t vs → Q (record { reply = r; state = t; memory = puts both w a vs }))
     (reads : (a n : ℕ) → Read (looks both w a n)) where
-  missed : (r : ℕ) → r ≡ 6 → Q (record { reply = r; state = s; memory = w })
+  missed : (r : ℕ) → Lost r → Q (record { reply = r; state = s; memory = w })
   missed r e = rw e six
 
   pub perform-meets : (p : Plan S) → Answers Read R p → Q (perform both (refusing (shapesOf w)) s p w)

@@ -17,6 +17,7 @@ use Rattle.model.specs.Said.{Said, say, tell}
 use Rattle.model.specs.Frames.{framed, pushed, pushFrame, popped, popTo, popRule, noFrame, misplaced, popFrame}
 use Rattle.model.specs.Contexts.{savedUnspilled, savedState, saveContext, unsavedUnspilled, unsaved, unsaveContext}
 use Rattle.model.specs.Step.{refusalOf, unruledBy, refusing, planOf, guarded, fromThree, stepPlan, stepOf}
+use Rattle.model.specs.Numbers.{Lost}
 use Rattle.model.specs.declared.State.{State}
 use Rattle.model.proofs.Bools.{on, on-both}
 use Rattle.model.proofs.Entry.{performOn, said, step-open}
@@ -59,7 +60,7 @@ answer-sent w s p t u a vs =
     on-both (λ (o q : Outcome State Windows). o ≡ sent q t) (clear (refusing (shapesOf w)) a (length vs)) (λ e. refl)
     (λ e. refused (worst (refusing (shapesOf w)) a (length vs)) (worst-six (shapesOf w) (length vs) a e))
   where
-    refused : (n : ℕ) → n ≡ 6 → record { reply = n; state = s; memory = w } ≡ sent (record { reply = n; state = s; memory = w }) t
+    refused : (n : ℕ) → Lost n → record { reply = n; state = s; memory = w } ≡ sent (record { reply = n; state = s; memory = w }) t
     refused n e = rw e
 
 read-sent : (w : Windows) (s : State) (t a n : ℕ) (f g : List ℕ → Plan State) → performOn w s (f (looks both w a n)) ≡ sent (performOn w s (g (looks both w a n))) t
@@ -69,7 +70,7 @@ read-sent w s t a n f g h =
     on-both (λ (o q : Outcome State Windows). o ≡ sent q t) (clear (refusing (shapesOf w)) a n) (λ e. h)
     (λ e. refused (named 6 (worst (refusing (shapesOf w)) a n)) (ap (named 6) (worst-six (shapesOf w) n a e) ∙ (unfold named in refl)))
   where
-    refused : (n : ℕ) → n ≡ 6 → record { reply = n; state = s; memory = w } ≡ sent (record { reply = n; state = s; memory = w }) t
+    refused : (n : ℕ) → Lost n → record { reply = n; state = s; memory = w } ≡ sent (record { reply = n; state = s; memory = w }) t
     refused n e = rw e
 
 pub push-sent : (w : Windows) (s : State) (h t u : ℕ) → performOn w s (pushFrame s h t) ≡ sent (performOn w s (pushFrame s h u)) t

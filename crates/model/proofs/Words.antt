@@ -252,8 +252,8 @@ meets-words s h = record {
   word = λ n b. b;
   general-is = h .general-word;
   special-is = h .special-word;
-  refuses = λ n a b. h;
-  halts = λ n a b. halted-words s h;
+  refuses = λ n a. h;
+  halts = λ n a. halted-words s h;
   moves = λ a w. goes-words s a w h;
   writes = λ x v a w u. goes-words _ a u (set-words s x v w h);
   locals = λ v a w u. goes-words _ a u (locals-words s v h);
@@ -276,7 +276,7 @@ pub item-words : (w : Windows) (s : State) (i : Item) → Fits i → Bytes w →
 unfolding stepOn mmix itemPlan Fits one
 item-words w s (step op x y z) f b h =
     perform-meets w s (Below (2 ^ 64)) (λ r t vs. Words t) (λ o. Words (o .state)) h (λ r t a vs k. k) (λ a n. looks-words n w a b) (stepPlan s (shapesOf w) op x y z)
-    (step-meets s (shapesOf w) (Below (2 ^ 64)) (λ r t vs. Words t) (λ n c d. h) op x y z
+    (step-meets s (shapesOf w) (Below (2 ^ 64)) (λ r t vs. Words t) (λ n c. h) op x y z
     (λ e. let z-word : Word z = let c : z < 256 = f .z-byte in omega arith in
     plan-meets s Word (Below (2 ^ 64)) (λ r t vs. Words t) (meets-words s h) (armOf op) op x y z z-word
     (meets-trip s (wordOf op x y z) (reg s y) (reg s z) (word-small op x y z f) (h .general-word y) (h .general-word z) h)

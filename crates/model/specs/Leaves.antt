@@ -9,6 +9,7 @@ use Rattle.model.specs.Said.{Said}
 use Rattle.model.specs.Trips.{wordOf, withAdded}
 use Rattle.model.specs.Step.{stepOf, exceptionOf}
 use Rattle.model.specs.Reader.{Part, emptyPart, readContext}
+use Rattle.model.specs.Numbers.{Early, Lost, Halting}
 use Rattle.model.specs.declared.State.{State}
 
 -- 19, 20: t is s with the trip or trap registers set, under the numbers b, w, x, y, z, "PC unmoved, halt code 1"
@@ -34,8 +35,11 @@ Trapped s t word u v = Interrupted s t rBB rWW rXX rYY rZZ word u v
 -- what a step leaves
 pub record StepLeaves (w : Windows) (s : State) (op x y z : ℕ) (o : Outcome State Windows) : Type 0 where
   pub most : o .reply ≤ 20
-  pub one-to-six : 1 ≤ o .reply → o .reply ≤ 6 → (o .state ≡ s) × (o .memory ≡ w)
-  pub seven-to-eighteen : 7 ≤ o .reply → o .reply ≤ 18 → (o .state ≡ halted s) × (o .memory ≡ w)
+  -- 1 to 6
+  pub early : Early (o .reply) → (o .state ≡ s) × (o .memory ≡ w)
+  pub lost : Lost (o .reply) → (o .state ≡ s) × (o .memory ≡ w)
+  -- 7 to 18
+  pub halting : Halting (o .reply) → (o .state ≡ halted s) × (o .memory ≡ w)
   pub nineteen : o .reply ≡ 19 → Tripped s (o .state) (wordOf op x y z) (reg s y) (reg s z) × (o .memory ≡ w)
   pub twenty : o .reply ≡ 20 → Trapped s (o .state) (wordOf op x y z) (reg s y) (reg s z) × (o .memory ≡ w)
   pub done : o .reply ≡ 0 → o .state .halt ≡ s .halt

@@ -6,6 +6,17 @@ use lib.ListN.{getD}
 use Rattle.model.specs.declared.Reply.{Reply}
 use Rattle.model.specs.declared.Reply.the-variants.{Done, NotAdmissible, WindowRule, NoArm, NamedTrap, NoSpecial, Missing, PutUnknown, PutPrivileged, PutIllegal, PutThreshold, PutStatus, Misplaced, SaveLocal, SavedThreshold, SavedStatus, SavedCount, SyncPrivileged, SyncIllegal, NotLoaded, Trapped}
 
+-- what the numbers leave, by kind: judged before an octabyte is asked for, nothing changes; a needed octabyte that is not there, nothing
+-- changes; "halt code 1 only". 19 and 20 have kinds of their own
+abbrev pub Early : ℕ → Type 0
+Early n = (1 ≤ n) × (n ≤ 5)
+
+abbrev pub Lost : ℕ → Type 0
+Lost n = n ≡ 6
+
+abbrev pub Halting : ℕ → Type 0
+Halting n = (7 ≤ n) × (n ≤ 18)
+
 unfoldable pub numberOf : Reply → ℕ
 numberOf Done = 0
 numberOf NotAdmissible = 1
