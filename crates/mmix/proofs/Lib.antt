@@ -3,4 +3,5 @@ pub mod Octabytes
 pub mod Codec
 pub mod RoundTrips
 pub mod Entries
+pub mod Lent
 pub mod Calls
