@@ -31,32 +31,32 @@ raised-state s f op x y z u v q t g r e = record { reply-is = e ∙ ap numberOf 
 -- ---- on an image of another length
 
 module _ (l : List ℕ) (h : length l ≡ imageLength → ⊥) where
-  pub other : {A : Type 0} (a b : A) → b ≡ cond (isImage l) a b
-  other a b = ap (λ (t : Bool). cond t a b) (sym (ne-eqb (length l) imageLength h))
+  if-other : {A : Type 0} (a b : A) → b ≡ cond (isImage l) a b
+  if-other a b = ap (λ (t : Bool). cond t a b) (sym (ne-eqb (length l) imageLength h))
 
   pub decoded-else : (s : State) → Decoded l s 1 s
-  decoded-else s = record { reply-is = other _ _; state-is = other _ _ }
+  decoded-else s = record { reply-is = if-other _ _; state-is = if-other _ _ }
 
   pub encoded-else : (s : State) → Encoded s l 1 l
-  encoded-else s = record { reply-is = other _ _; image-is = other _ _ }
+  encoded-else s = record { reply-is = if-other _ _; image-is = if-other _ _ }
 
   pub stepped-else : (w : Window) (op x y z : ℕ) → Stepped l w op x y z 1 l w
-  stepped-else w op x y z = record { reply-is = other _ _; image-is = other _ _; window-is = other _ _ }
+  stepped-else w op x y z = record { reply-is = if-other _ _; image-is = if-other _ _; window-is = if-other _ _ }
 
   pub raised-else : (f op x y z u v : ℕ) → Raised l f op x y z u v 1 l
-  raised-else f op x y z u v = record { reply-is = other _ _; image-is = other _ _ }
+  raised-else f op x y z u v = record { reply-is = if-other _ _; image-is = if-other _ _ }
 
 -- ---- on an image
 
 module _ (l : List ℕ) (n : length l ≡ imageLength) where
-  pub image : {A : Type 0} (a b : A) → a ≡ cond (isImage l) a b
-  image a b = ap (λ (t : Bool). cond t a b) (sym (eq-eqb (length l) imageLength n))
+  pub if-image : {A : Type 0} (a b : A) → a ≡ cond (isImage l) a b
+  if-image a b = ap (λ (t : Bool). cond t a b) (sym (eq-eqb (length l) imageLength n))
 
   pub decoded : (s t : State) → t ≡ stateOf l → Decoded l s 0 t
-  decoded s t e = record { reply-is = image _ _; state-is = e ∙ image _ _ }
+  decoded s t e = record { reply-is = if-image _ _; state-is = e ∙ if-image _ _ }
 
   pub encoded : (s : State) (m : List ℕ) → m ≡ imageOf s → Encoded s l 0 m
-  encoded s m e = record { reply-is = image _ _; image-is = e ∙ image _ _ }
+  encoded s m e = record { reply-is = if-image _ _; image-is = e ∙ if-image _ _ }
 
   pub stepped : (w : Window) (op x y z : ℕ) (s : State) → s ≡ stateOf l
       → (r : ℕ) (t : State) (v : Window) → SteppedState w s op x y z r t v
@@ -64,9 +64,9 @@ module _ (l : List ℕ) (n : length l ≡ imageLength) where
   stepped w op x y z s e r t v g m k =
       let d : stepOf w s op x y z ≡ stepOf w (stateOf l) op x y z = ap (λ (a : State). stepOf w a op x y z) e in
       record {
-        reply-is = g .reply-is ∙ ap (λ (o : Outcome State Window). numberOf (replyOf (o .reply))) d ∙ image _ _;
-        image-is = k ∙ ap imageOf (g .state-is) ∙ ap (λ (o : Outcome State Window). imageOf (o .state)) d ∙ image _ _;
-        window-is = g .window-is ∙ ap (λ (o : Outcome State Window). o .memory) d ∙ image _ _;
+        reply-is = g .reply-is ∙ ap (λ (o : Outcome State Window). numberOf (replyOf (o .reply))) d ∙ if-image _ _;
+        image-is = k ∙ ap imageOf (g .state-is) ∙ ap (λ (o : Outcome State Window). imageOf (o .state)) d ∙ if-image _ _;
+        window-is = g .window-is ∙ ap (λ (o : Outcome State Window). o .memory) d ∙ if-image _ _;
       }
 
   pub raised : (c op x y z a b : ℕ) (s : State) → s ≡ stateOf l
@@ -75,8 +75,8 @@ module _ (l : List ℕ) (n : length l ≡ imageLength) where
   raised c op x y z a b s e r t g m k =
       let d : exceptionOf s c op x y z a b ≡ exceptionOf (stateOf l) c op x y z a b = ap (λ (u : State). exceptionOf u c op x y z a b) e in
       record {
-        reply-is = g .reply-is ∙ ap (λ (o : Said). numberOf (replyOf (o .reply))) d ∙ image _ _;
-        image-is = k ∙ ap imageOf (g .state-is) ∙ ap (λ (o : Said). imageOf (o .state)) d ∙ image _ _;
+        reply-is = g .reply-is ∙ ap (λ (o : Said). numberOf (replyOf (o .reply))) d ∙ if-image _ _;
+        image-is = k ∙ ap imageOf (g .state-is) ∙ ap (λ (o : Said). imageOf (o .state)) d ∙ if-image _ _;
       }
 
 -- the image of the fresh state

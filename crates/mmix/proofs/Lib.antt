@@ -4,4 +4,5 @@ pub mod Codec
 pub mod RoundTrips
 pub mod Entries
 pub mod Lent
+pub mod Call
 pub mod Calls
