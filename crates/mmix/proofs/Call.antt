@@ -58,7 +58,7 @@ pub record Left (s : State) (w : Window) (i : Item) (r : ℕ) (k : Held) (v : Wi
   pub held-is : HeldIs k (stepOn one mmix s w i .state)
   pub window-is : v ≡ stepOn one mmix s w i .memory
 
-few : (n : ℕ) → (n ≡ 0) ⊎ ((n ≡ 1) ⊎ (n ≡ 19)) → n ≤ 20
+pub few : (n : ℕ) → (n ≡ 0) ⊎ ((n ≡ 1) ⊎ (n ≡ 19)) → n ≤ 20
 few n (inl e) = omega arith
 few n (inr (inl e)) = omega arith
 few n (inr (inr e)) = omega arith
@@ -89,7 +89,7 @@ image-state l w (exception f op x y z a b) r m v n g = (
   g .0 .image-is ∙ sym (if-image l n _ _),
 )
 
-image-left : (l : List ℕ) (w : Window) (i : Item) (r : ℕ) (m : List ℕ) (v : Window) → length l ≡ imageLength → ImageCall l w i r m v → Left (stateOf l) w i r (image m) v
+pub image-left : (l : List ℕ) (w : Window) (i : Item) (r : ℕ) (m : List ℕ) (v : Window) → length l ≡ imageLength → ImageCall l w i r m v → Left (stateOf l) w i r (image m) v
 unfolding HeldIs
 image-left l w i r m v n g =
     let e = image-state l w i r m v n g in

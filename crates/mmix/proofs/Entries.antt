@@ -31,7 +31,7 @@ raised-state s f op x y z u v q t g r e = record { reply-is = e ∙ ap numberOf 
 -- ---- on an image of another length
 
 module _ (l : List ℕ) (h : length l ≡ imageLength → ⊥) where
-  if-other : {A : Type 0} (a b : A) → b ≡ cond (isImage l) a b
+  pub if-other : {A : Type 0} (a b : A) → b ≡ cond (isImage l) a b
   if-other a b = ap (λ (t : Bool). cond t a b) (sym (ne-eqb (length l) imageLength h))
 
   pub decoded-else : (s : State) → Decoded l s 1 s

@@ -5,4 +5,6 @@ pub mod RoundTrips
 pub mod Entries
 pub mod Lent
 pub mod Call
+pub mod Writes
+pub mod Leaves
 pub mod Calls
