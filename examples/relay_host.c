@@ -117,8 +117,8 @@ static void take_a_trip(void)
     uint64_t reply = mmix_exceptions(MMIX_FLAG_V | MMIX_FLAG_X, 0x20, 1, 2, 3, 7, 9, image, sizeof image);
     if (reply != MMIX_DONE)
         end(mmix_reply_text(reply));
-    printf("%-28s reply %2" PRIu64 "  PC %" PRIx64 "  rW %" PRIx64 "  rX %" PRIx64 "  rA %" PRIx64 "\n", "overflow: a trip", reply,
-           octabyte(MMIX_AT_PC), special(MMIX_RW), special(MMIX_RX), special(MMIX_RA));
+    printf("%-28s reply %2" PRIu64 "  PC %" PRIx64 "  rW %" PRIx64 "  rX %" PRIx64 "  rA %" PRIx64 "\n", "overflow: a trip",
+           reply, octabyte(MMIX_AT_PC), special(MMIX_RW), special(MMIX_RX), special(MMIX_RA));
 
     set_octabyte(MMIX_AT_GENERAL(255), at_255);
     set_octabyte(MMIX_AT_PC, special(MMIX_RW));
@@ -160,12 +160,12 @@ static void step_in_place(void)
     if (mmix_decode(image, sizeof image, &state) != MMIX_DONE)
         end("no state in an image");
     uint64_t called = mmix_step_lent(MMIX_STACK_START, MMIX_OP_PUSHJ, 1, 0, 16, &state, window, sizeof window);
-    uint64_t back = mmix_step_parts(MMIX_STACK_START, MMIX_OP_POP, 0, 0, 0, state.general, state.special, &state.pc, &state.halt,
-                                    state.marks, window, sizeof window);
+    uint64_t back = mmix_step_parts(MMIX_STACK_START, MMIX_OP_POP, 0, 0, 0, state.general, state.special, &state.pc,
+                                    &state.halt, state.marks, window, sizeof window);
     uint64_t raised = mmix_exceptions_parts(MMIX_FLAG_X, 0x04, 1, 2, 3, 7, 9, state.general, state.special, &state.pc,
                                             &state.halt, state.marks);
-    printf("%-28s replies %" PRIu64 ", %" PRIu64 ", %" PRIu64 "; the state then:\n", "PUSHJ, POP, inexact in place", called, back,
-           raised);
+    printf("%-28s replies %" PRIu64 ", %" PRIu64 ", %" PRIu64 "; the state then:\n", "PUSHJ, POP, inexact in place", called,
+           back, raised);
     if (called != MMIX_DONE || back != MMIX_DONE || raised != MMIX_DONE)
         end("a step in place was refused");
     mmix_print_state(stdout, &state);

@@ -13,8 +13,8 @@
  *
  * What can hurt:
  *  - The halt code stops nothing by itself. After a refusal by 7 to 20 it is 1, and the next step is done if the host asks
- *    for it. So a host looks at the reply of each call, or at the halt code, and decides whether to go on; the library
- *    never sets the halt code back to 0.
+ *    for it. So a host looks at the reply of each call, or at the halt code, and decides whether to go on; no step and no
+ *    exception sets the halt code back to 0.
  *  - A system call is the host's. On MMIX_NAMED_TRAP nothing has changed: the host does what TRAP 0,Y,Z names, writes the
  *    registers that it is to leave ($255, as a rule) and moves PC to @ + 4 itself, or the same TRAP comes again.
  *  - There is no RESUME. A host that has taken a trip goes back by setting PC to rW itself, and what rB and $255 hold is

@@ -1,5 +1,6 @@
 -- Demand 3 as a host meets it: lists of calls of the C functions, in any mix, each on what the one before left. A host holds the machine as
--- an image or as a struct, goes from one to the other by mmix_decode and mmix_encode, and lends one window.
+-- an image or as a struct, goes from one to the other by mmix_decode and mmix_encode, and lends one window. (mmix_initialize starts another
+-- run, and mmix_context changes nothing: neither is in a list.)
 -- `Stepped`, `Raised`, `SteppedState`, `RaisedState`, `Decoded` and `Encoded` are the functions' contracts.
 use Prim.Native.Nat.{ℕ, _+_, _<_}
 use mathlib.Core.Path.{_≡_}
@@ -106,7 +107,7 @@ pub record Made : Type 0 where
   pub held : Held
   pub window : Window
 
--- each on what the one before left
+-- "each later one what the one before left, refused or not"
 unfoldable pub Chain : Held → Window → List Made → Type 0
 Chain g w [] = Unit {0}
 Chain g w (c ∷ cs) = Meets g w (c .entry) (c .reply) (c .held) (c .window) × Chain (c .held) (c .window) cs
@@ -150,7 +151,7 @@ unfoldable pub AllFit : List Item → Type 0
 AllFit [] = Unit {0}
 AllFit (i ∷ is) = Fits i × AllFit is
 
--- THEOREM: a list of calls is `runs` on the state that is held
+-- THEOREM: a list of calls is `runs` on the state that is held: the same answers, state and window; mmix_decode and mmix_encode reply 0
 pub record Carried (g : Held) (w : Window) (cs : List Made) (r : Ran State Window) : Type 0 where
   pub answers-are : answers cs ≡ r .answers
   pub others-are : Moved cs
@@ -164,12 +165,14 @@ ListsOfCalls = (g : Held) (w : Window) (cs : List Made) → HeldFits g → Bytes
 
 -- ---- demand 3
 
--- POP by any function as the next call on g and v: it is done, and $0 to $(h − 1) are those of s
+-- "a POP as the next step, whatever its X and YZ, succeeds, and those locals hold exactly what they held before the call": POP by any function
+-- as the next call on g and v is done, and $0 to $(h − 1) are those of s
 abbrev pub Returns : ℕ → State → Held → Window → Type 0
 Returns h s g v = (e : Entry) (x y z r : ℕ) (k : Held) (u : Window) → asked e ≡ step 0xF8 x y z ∷ [] → InstructionFits 0xF8 x y z → Meets g v e r k u
     → (r ≡ 0) × ((i : ℕ) → i < h → reg (heldState k) i ≡ reg s i)
 
--- what holds of two lists of calls after a call, a and b: on g and on k
+-- what holds of two lists of calls after a call, a and b: on g and on k; "the same answers in the same order, the same registers, PC, halt
+-- code and marks, and the same memory outside those locals"; and the POP in each
 pub record PrivateCalls (h : ℕ) (g k : Held) (a b : Made) (cs ds : List Made) : Type 0 where
   pub call-same : b .reply ≡ a .reply
   pub replies-same : replies cs ≡ replies ds
@@ -180,7 +183,9 @@ pub record PrivateCalls (h : ℕ) (g k : Held) (a b : Made) (cs ds : List Made) 
   pub second-back : AtPop h (sp (heldState (a .held)) rO) (heldState (lastHeld (a .held) cs))
       → Returns h (heldState k) (lastHeld (b .held) ds) (lastWindow (b .window) ds)
 
--- THEOREM: demand 3 of the C functions. Both runs make the same calls: a call by any function that steps, then any list
+-- THEOREM: demand 3 of the C functions. "Before the call the two runs have equal windows and states equal outside $0 to $(H−1); call and list
+-- are the same in both. A call target is the PC after the call"; "It is enough that the first run's needs keep off the frame". The call is by
+-- any function that steps
 abbrev pub Demand3Calls : Type 0
 Demand3Calls = (w : Window) (g k : Held) (c : Call) (x y z : ℕ) (a b : Made) (cs ds : List Made)
     → HeldFits g → HeldFits k → Bytes w → InstructionFits (opcodeOf c) x y z → AllFit (items (entries cs))
