@@ -14,16 +14,18 @@ export MMIX_LIB_DIR := $(abspath $(LIB_DIR))
 RATTLE = crates.txt $(shell find crates -name '*.rt' -o -name '*.antt')
 # All that `rt ci` goes by: files, folders (so that one taken away counts), the toolchain.
 CHECKED = crates.txt $(shell find crates) $(shell command -v rt)
-HOST_FLAGS = -O2 -std=c99 -Wall -Wextra -Werror
+WARNINGS = -Wall -Wextra -Wpedantic -Werror
+HEADERS = build/mmix.h build/mmix_text.h
+VERSION = $(shell sed -n 's/^\#define MMIX_VERSION_[MI].* //p' include/mmix.h | paste -s -d .)
 
 .PHONY: help test prove bench scripts-test lib install host host-test oracle oracle-test differential guards mutants speed replay-list clean need-rt need-gcc need-script
 
 help:
 	@echo 'make bench SCRIPT=path       the bench program on a script (examples/scripts/first.script)'
 	@echo 'make test                    the gate: all proofs and must-fail edits, the host, the scripts, the comparison with the Rust'
-	@echo 'make lib                     build/libmmix.a and build/mmix.h, proved'
+	@echo 'make lib                     build/libmmix.a with its headers, proved'
 	@echo 'make host                    build and run examples/relay_host.c'
-	@echo 'make install PREFIX=dir      libmmix.a, mmix.h and mmix.pc under dir (/usr/local)'
+	@echo 'make install PREFIX=dir      libmmix.a, its headers and mmix.pc under dir (/usr/local)'
 	@echo 'make prove                   prove every crate, from what is proved already'
 	@echo 'make differential CASES=n    run n cases on the Rust and beside it; SEED=s for others'
 	@echo 'make guards                  the same with every buffer between guards, and under valgrind'
@@ -80,35 +82,39 @@ scripts-test: need-rt build/bench
 
 # ---- the C library and a host
 
-lib: need-rt build/libmmix.a build/mmix.h
+lib: build/libmmix.a $(HEADERS)
 
-# The log is shown as it goes, crate by crate, and whole where something is not proved.
+# The log is shown as it goes, crate by crate, and whole where something is not proved. Only this rule needs rt: what is built can be
+# installed without it.
 build/libmmix.a: $(RATTLE)
+	@$(MAKE) --no-print-directory need-rt
 	@mkdir -p build
 	@set -o pipefail; rt staticlib mmix 2>&1 | tee build/lib.log | grep --line-buffered '^rt:' || { cat build/lib.log; exit 1; }
 	@cp target/staticlib/libmmix.a $@
 
-build/mmix.h: include/mmix.h
+build/%.h: include/%.h
 	@mkdir -p build
 	@cp $< $@
 
-build/relay_host: examples/relay_host.c build/libmmix.a build/mmix.h
-	@gcc $(HOST_FLAGS) -Ibuild -o $@ $< build/libmmix.a
+build/relay_host: examples/relay_host.c build/libmmix.a $(HEADERS)
+	@gcc -O2 -std=c99 $(WARNINGS) -Ibuild -o $@ $< build/libmmix.a
 
-host: need-rt need-gcc build/relay_host
+host: need-gcc build/relay_host
 	@build/relay_host
 
-# What the host prints is the stored text, and the header serves C++ too.
-host-test: need-rt need-gcc build/relay_host
+# What the host prints is the stored text, and each header serves C99 and C++17 by itself.
+host-test: need-gcc build/relay_host
 	@build/relay_host | diff examples/relay_host.out - && echo 'relay_host: prints what it should'
-	@if command -v g++ >/dev/null 2>&1; then echo '#include "mmix.h"' | g++ -Wall -Wextra -Werror -Iinclude -fsyntax-only -x c++ -; fi
+	@for h in $(HEADERS); do gcc -std=c99 $(WARNINGS) -Ibuild -fsyntax-only -x c - < $$h || exit 1; done; echo 'the headers are C99'
+	@if ! command -v g++ >/dev/null 2>&1; then echo 'no test of the headers as C++: g++ is not on the PATH; install the package g++'; \
+	  else for h in $(HEADERS); do g++ -std=c++17 $(WARNINGS) -Ibuild -fsyntax-only -x c++ - < $$h || exit 1; done; echo 'the headers are C++17'; fi
 
 install: lib
 	@install -D -m 644 build/libmmix.a '$(DESTDIR)$(PREFIX)/lib/libmmix.a'
-	@install -D -m 644 build/mmix.h '$(DESTDIR)$(PREFIX)/include/mmix.h'
+	@install -m 644 -D -t '$(DESTDIR)$(PREFIX)/include' $(HEADERS)
 	@mkdir -p '$(DESTDIR)$(PREFIX)/lib/pkgconfig'
-	@sed 's|@PREFIX@|$(abspath $(PREFIX))|' include/mmix.pc.in > '$(DESTDIR)$(PREFIX)/lib/pkgconfig/mmix.pc'
-	@echo 'libmmix.a, mmix.h and mmix.pc are under $(DESTDIR)$(PREFIX)'
+	@sed 's|@PREFIX@|$(abspath $(PREFIX))|; s|@VERSION@|$(VERSION)|' include/mmix.pc.in > '$(DESTDIR)$(PREFIX)/lib/pkgconfig/mmix.pc'
+	@echo 'libmmix.a, mmix.h, mmix_text.h and mmix.pc are under $(DESTDIR)$(PREFIX)'
 
 # ---- the Rust beside it
 

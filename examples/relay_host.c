@@ -1,5 +1,6 @@
 /* A relay host. It keeps the direction of feed in a local of the caller, calls the feed routine some levels deep, parks the
- * whole context while a case is worked, comes back, and shows that the direction is as it was.
+ * whole context while a case is worked, comes back, and shows that the direction is as it was. On the way it meets what a
+ * host meets: a trip, a system call to serve, a halt, a window too small, steps in place.
  *
  *     make host
  */
@@ -9,11 +10,11 @@
 #include <string.h>
 
 #include "mmix.h"
+#include "mmix_text.h"
 
-/* Opcodes that the host plays; each is one step, with its X, Y and Z. */
-enum { GETA = 0xF4, PUSHJ = 0xF2, POP = 0xF8, PUTI = 0xF7, SAVE = 0xFA, UNSAVE = 0xFB, TRIP = 0xFF };
+enum { WINDOW_LEN = 8192, MESSAGE_AT = 8000, DEPTH = 5 };
 
-enum { WINDOW_LEN = 8192, DEPTH = 5 };
+enum { FPUTS = 7 };                     /* the system call that this host serves: Y of TRAP 0,Fputs,.. */
 
 static const uint64_t FORWARD = 0xF0;   /* direction markers: feed forward, feed reversed */
 static const uint64_t REVERSED = 0x0F;
@@ -21,39 +22,65 @@ static const uint64_t REVERSED = 0x0F;
 static uint8_t image[MMIX_IMAGE_LEN];
 static uint8_t window[WINDOW_LEN];
 
-/* An octabyte of the image; registers come first, so $k is octabyte k. */
-static uint64_t octabyte(size_t index)
+/* The octabyte that starts at a byte of the image. */
+static uint64_t octabyte(size_t at)
 {
     uint64_t value = 0;
     for (size_t k = 0; k < 8; k++)
-        value = value << 8 | image[8 * index + k];
+        value = value << 8 | image[at + k];
     return value;
 }
 
-static void set_octabyte(size_t index, uint64_t value)
+static void set_octabyte(size_t at, uint64_t value)
 {
     for (size_t k = 0; k < 8; k++)
-        image[8 * index + k] = (uint8_t)(value >> (56 - 8 * k));
+        image[at + k] = (uint8_t)(value >> (56 - 8 * k));
+}
+
+static uint64_t general(size_t k)
+{
+    return octabyte(MMIX_AT_GENERAL(k));
 }
 
 static uint64_t special(enum mmix_special which)
 {
-    return octabyte(256 + (size_t)which);
+    return octabyte(MMIX_AT_SPECIAL((size_t)which));
 }
 
 static void show(const char *what, uint64_t reply)
 {
     printf("%-28s reply %2" PRIu64 "  rO %016" PRIx64 "  rL %2" PRIu64 "  $0 %02" PRIx64 "\n", what, reply, special(MMIX_RO),
-           special(MMIX_RL), octabyte(0));
+           special(MMIX_RL), general(0));
+}
+
+/* Says why the host ends, and ends. */
+static void end(const char *why)
+{
+    printf("relay_host ends: %s\n", why);
+    exit(EXIT_FAILURE);
+}
+
+static uint64_t ask(uint8_t op, uint8_t x, uint8_t y, uint8_t z)
+{
+    return mmix_step(MMIX_STACK_START, op, x, y, z, image, sizeof image, window, sizeof window);
 }
 
 /* One step that has to be done. */
 static void step(const char *what, uint8_t op, uint8_t x, uint8_t y, uint8_t z)
 {
-    uint64_t reply = mmix_step(MMIX_STACK_START, op, x, y, z, image, sizeof image, window, sizeof window);
+    uint64_t reply = ask(op, x, y, z);
     show(what, reply);
     if (reply != MMIX_DONE)
-        exit(EXIT_FAILURE);
+        end(mmix_reply_text(reply));
+}
+
+/* One call that has to be refused by a number. */
+static void refused(const char *what, uint64_t reply, uint64_t expected)
+{
+    show(what, reply);
+    printf("%-28s %s\n", "", mmix_reply_text(reply));
+    if (reply != expected)
+        end("that is another reply than expected");
 }
 
 /* Parks the context at the top of the stack in $255, works another case, and takes the context up again. */
@@ -63,47 +90,124 @@ static void work_another_case(void)
     size_t start, length;
 
     memcpy(before, image, sizeof image);
-    step("SAVE $255: park", SAVE, 255, 0, 0);
-    uint64_t address = octabyte(255);
-    uint64_t reply = mmix_context(MMIX_STACK_START, address, window, sizeof window, &start, &length);
+    step("SAVE $255: park", MMIX_OP_SAVE, 255, 0, 0);
+    uint64_t reply = mmix_context(MMIX_STACK_START, general(255), window, sizeof window, &start, &length);
     printf("%-28s reply %2" PRIu64 "  bytes %zu to %zu\n", "the parked context", reply, start, start + length);
 
-    step("the other case: GETA $0", GETA, 0, 0x40, 0);
-    step("the other case: PUSHJ $1", PUSHJ, 1, 0, 8);
-    step("the other case: POP", POP, 0, 0, 0);
+    step("the other case: GETA $0", MMIX_OP_GETA, 0, 0x40, 0);
+    step("the other case: PUSHJ $1", MMIX_OP_PUSHJ, 1, 0, 8);
+    step("the other case: POP", MMIX_OP_POP, 0, 0, 0);
 
-    step("UNSAVE $255: take up", UNSAVE, 0, 0, 255);
-    printf("%-28s %s\n", "registers as before", memcmp(before, image, 8 * 255) == 0 ? "yes" : "no");
+    step("UNSAVE $255: take up", MMIX_OP_UNSAVE, 0, 0, 255);
+    for (unsigned k = 0; k < 256; k++)
+        if (memcmp(before + MMIX_AT_GENERAL(k), image + MMIX_AT_GENERAL(k), 8) != 0)
+            end("a general register is not as it was");
+    for (unsigned k = 0; k < 32; k++)
+        if (memcmp(before + MMIX_AT_SPECIAL(k), image + MMIX_AT_SPECIAL(k), 8) != 0)
+            end(mmix_special_name(k));
+    printf("%-28s all 256 general and 32 special ones\n", "registers as before");
+}
+
+/* Integer overflow, which rA enables: a trip through the vector at 32. There is no RESUME, so the host goes back itself. */
+static void take_a_trip(void)
+{
+    set_octabyte(MMIX_AT_MARKS, 0x1FF);
+    set_octabyte(MMIX_AT_SPECIAL(MMIX_RA), MMIX_FLAG_V * 256);
+    uint64_t at_255 = general(255);
+    uint64_t reply = mmix_exceptions(MMIX_FLAG_V | MMIX_FLAG_X, 0x20, 1, 2, 3, 7, 9, image, sizeof image);
+    if (reply != MMIX_DONE)
+        end(mmix_reply_text(reply));
+    printf("%-28s reply %2" PRIu64 "  PC %" PRIx64 "  rW %" PRIx64 "  rX %" PRIx64 "  rA %" PRIx64 "\n", "overflow: a trip",
+           reply, octabyte(MMIX_AT_PC), special(MMIX_RW), special(MMIX_RX), special(MMIX_RA));
+
+    set_octabyte(MMIX_AT_GENERAL(255), at_255);
+    set_octabyte(MMIX_AT_PC, special(MMIX_RW));
+}
+
+/* TRAP 0,Fputs,1 writes the bytes from address $255 on up to a zero one. The step changes nothing; the host does the call,
+ * writes how many there were into $255 and moves PC. */
+static void serve_a_call(void)
+{
+    static const char message[] = "served: feed held";
+
+    memcpy(window + MESSAGE_AT, message, sizeof message);
+    set_octabyte(MMIX_AT_GENERAL(255), MMIX_STACK_START + MESSAGE_AT);
+    refused("TRAP 0,Fputs,1", ask(MMIX_OP_TRAP, 0, FPUTS, 1), MMIX_NAMED_TRAP);
+
+    uint64_t from = general(255) - MMIX_STACK_START;
+    const char *zero = from < sizeof window ? memchr(window + from, 0, sizeof window - from) : NULL;
+    if (zero == NULL)
+        end("the text of Fputs is not in the window");
+    printf("%-28s %s\n", "", (const char *)window + from);
+    set_octabyte(MMIX_AT_GENERAL(255), (uint64_t)(zero - (const char *)(window + from)));
+    set_octabyte(MMIX_AT_PC, octabyte(MMIX_AT_PC) + 4);
+}
+
+/* A PUT that is refused sets the halt code; a host that would not look at it could go on stepping. */
+static void look_at_a_halt(void)
+{
+    refused("PUT rN, 1", ask(MMIX_OP_PUTI, MMIX_RN, 0, 1), MMIX_PUT_ILLEGAL);
+    printf("%-28s %" PRIu64 ", PC %" PRIx64 "\n", "halt code", octabyte(MMIX_AT_HALT), octabyte(MMIX_AT_PC));
+    step("SWYM: done all the same", MMIX_OP_SWYM, 0, 0, 0);
+    set_octabyte(MMIX_AT_HALT, 0);
+}
+
+/* Calls and returns on numbers of the host: the struct lent whole, then its parts. */
+static void step_in_place(void)
+{
+    struct mmix_state state;
+
+    if (mmix_decode(image, sizeof image, &state) != MMIX_DONE)
+        end("no state in an image");
+    uint64_t called = mmix_step_lent(MMIX_STACK_START, MMIX_OP_PUSHJ, 1, 0, 16, &state, window, sizeof window);
+    uint64_t back = mmix_step_parts(MMIX_STACK_START, MMIX_OP_POP, 0, 0, 0, state.general, state.special, &state.pc,
+                                    &state.halt, state.marks, window, sizeof window);
+    uint64_t raised = mmix_exceptions_parts(MMIX_FLAG_X, 0x04, 1, 2, 3, 7, 9, state.general, state.special, &state.pc,
+                                            &state.halt, state.marks);
+    printf("%-28s replies %" PRIu64 ", %" PRIu64 ", %" PRIu64 "; the state then:\n", "PUSHJ, POP, inexact in place", called,
+           back, raised);
+    if (called != MMIX_DONE || back != MMIX_DONE || raised != MMIX_DONE)
+        end("a step in place was refused");
+    mmix_print_state(stdout, &state);
+    if (mmix_encode(&state, image, sizeof image) != MMIX_DONE)
+        end("no image of a state");
+    show("back in the image", MMIX_DONE);
 }
 
 int main(void)
 {
     if (mmix_initialize(image, sizeof image) != MMIX_DONE)
-        return EXIT_FAILURE;
+        end("the image has the wrong length");
     show("fresh state", MMIX_DONE);
 
     /* the caller's direction marker is in its $0, the argument of each call in $1 */
-    step("PUT rL, 2: no more than rL", PUTI, MMIX_RL, 0, 2);
-    step("GETA $1: two locals", GETA, 1, 0, 4);
-    set_octabyte(0, REVERSED);
+    step("PUT rL, 2: no more than rL", MMIX_OP_PUTI, MMIX_RL, 0, 2);
+    step("GETA $1: two locals", MMIX_OP_GETA, 1, 0, 4);
+    set_octabyte(MMIX_AT_GENERAL(0), REVERSED);
     show("the marker is set", MMIX_DONE);
 
     for (int level = 1; level <= DEPTH; level++) {
-        step("PUSHJ $1", PUSHJ, 1, 0, 16);
-        step("GETA $1: its locals", GETA, 1, 0, 4);
-        set_octabyte(0, FORWARD);
+        step("PUSHJ $1", MMIX_OP_PUSHJ, 1, 0, 16);
+        step("GETA $1: its locals", MMIX_OP_GETA, 1, 0, 4);
+        set_octabyte(MMIX_AT_GENERAL(0), FORWARD);
     }
     work_another_case();
+    take_a_trip();
+    serve_a_call();
+    look_at_a_halt();
     for (int level = DEPTH; level >= 1; level--)
-        step("POP", POP, 0, 0, 0);
+        step("POP", MMIX_OP_POP, 0, 0, 0);
+    step_in_place();
 
     /* what a host meets when it asks for what is not there */
-    uint64_t reply = mmix_step(MMIX_STACK_START, PUSHJ, 1, 0, 16, image, sizeof image, window, 8);
-    show("PUSHJ $1, window too small", reply);
-    reply = mmix_step(MMIX_STACK_START, TRIP, 0, 0, 0, image, sizeof image - 1, window, sizeof window);
-    show("an image cut short", reply);
+    refused("PUSHJ $1, window too small",
+            mmix_step(MMIX_STACK_START, MMIX_OP_PUSHJ, 1, 0, 16, image, sizeof image, window, 8), MMIX_MISSING);
+    refused("an image cut short",
+            mmix_step(MMIX_STACK_START, MMIX_OP_TRIP, 0, 0, 0, image, sizeof image - 1, window, sizeof window),
+            MMIX_NOT_ADMISSIBLE);
 
-    int intact = octabyte(0) == REVERSED && special(MMIX_RO) == MMIX_STACK_START;
-    printf("direction marker: %s\n", intact ? "intact" : "CHANGED");
-    return intact ? EXIT_SUCCESS : EXIT_FAILURE;
+    if (general(0) != REVERSED || special(MMIX_RO) != MMIX_STACK_START)
+        end("the direction marker is CHANGED");
+    printf("relay_host ends: all done, direction marker intact\n");
+    return EXIT_SUCCESS;
 }

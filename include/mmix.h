@@ -1,7 +1,8 @@
 /* mmix.h: the MMIX register machine, one step at a time.
  *
  * The library keeps nothing between calls, allocates nothing and calls nothing but memcpy and memset. Every function
- * takes any values, ends, and returns MMIX_DONE (0) or the number of a refusal (1 to 20).
+ * takes any values, ends, and returns MMIX_DONE (0) or the number of a refusal (1 to 20). That each function does what it
+ * should is proved; README.md says what that means.
  *
  * What the caller owes:
  *  - a pointer is to as many bytes as the length beside it says, or to an object of its type; it may be null only where
@@ -9,6 +10,23 @@
  *  - no two objects that one call may write to overlap, and none that it writes to overlaps one that it reads: image,
  *    window, state, parts, start and length are apart from each other;
  *  - nothing else reads or writes them during the call.
+ *
+ * What can hurt:
+ *  - The halt code stops nothing by itself. After a refusal by 7 to 20 it is 1, and the next step is done if the host asks
+ *    for it. So a host looks at the reply of each call, or at the halt code, and decides whether to go on; no step and no
+ *    exception sets the halt code back to 0.
+ *  - A system call is the host's. On MMIX_NAMED_TRAP nothing has changed: the host does what TRAP 0,Y,Z names, writes the
+ *    registers that it is to leave ($255, as a rule) and moves PC to @ + 4 itself, or the same TRAP comes again.
+ *  - There is no RESUME. A host that has taken a trip goes back by setting PC to rW itself, and what rB and $255 hold is
+ *    its own to put back.
+ *
+ * Platform: the library is built for x86-64 and the C conventions of Linux there (System V), and for no other.
+ *
+ * Threads: a function touches only what it is handed, so threads may call any of them at the same time, each on objects of
+ * its own.
+ *
+ * Stack, most that was measured, in bytes: mmix_step_lent 5,100; mmix_decode 4,700; mmix_step, mmix_exceptions,
+ * mmix_initialize and mmix_encode 2,900; mmix_step_parts, mmix_exceptions_parts and mmix_context 400. There is no recursion.
  */
 #ifndef MMIX_H
 #define MMIX_H
@@ -20,8 +38,14 @@
 extern "C" {
 #endif
 
+/* What a change of the version promises. Minor: something was added, as a function, a name or a reply above the last; what
+ * was written for an earlier minor version compiles, links and means the same. Major: a function, a struct, the image or a
+ * number has another meaning; look before you link. */
+#define MMIX_VERSION_MAJOR 1
+#define MMIX_VERSION_MINOR 0
+
 /* The replies. 1 to 6 leave every byte as it was; 7 to 18 set the halt code to 1 and leave all else; 19 and 20 set the
- * halt code to 1 and the trip or trap registers, with PC where it was. */
+ * halt code to 1 and the trip or trap registers, with PC where it was (an exception refused by 19 has also added to rA). */
 enum mmix_reply {
     MMIX_DONE = 0,                /* The step or the exception was done. */
     MMIX_NOT_ADMISSIBLE = 1,      /* rG, rL, rA or the marks are out of range, or the image is not MMIX_IMAGE_LEN bytes. */
@@ -29,7 +53,7 @@ enum mmix_reply {
     MMIX_NO_ARM = 3,              /* This machine has no such instruction, or it is RESUME. */
     MMIX_NAMED_TRAP = 4,          /* TRAP 0 that names a system call, which the host must serve. */
     MMIX_NO_SPECIAL = 5,          /* GET of a special register above 31. */
-    MMIX_MISSING = 6,             /* An octabyte that the step needs lies outside the window. */
+    MMIX_MISSING = 6,             /* An octabyte that the step needs lies outside the window: lend more, and ask again. */
     MMIX_PUT_UNKNOWN = 7,         /* PUT to a special register above 31. */
     MMIX_PUT_PRIVILEGED = 8,      /* PUT to rC, rI, rK, rQ, rT, rU, rV or rTT. */
     MMIX_PUT_ILLEGAL = 9,         /* PUT to rN, rO or rS. */
@@ -46,6 +70,21 @@ enum mmix_reply {
     MMIX_TRAPPED = 20             /* TRAP that names no system call. */
 };
 
+/* The opcodes that have an arm; every other byte is MMIX_NO_ARM. Of a pair with B at the end, that one goes backward; with I
+ * at the end, the last operand is Z itself. */
+enum mmix_opcode {
+    MMIX_OP_TRAP = 0x00,
+    MMIX_OP_BN = 0x40, MMIX_OP_BNB, MMIX_OP_BZ, MMIX_OP_BZB, MMIX_OP_BP, MMIX_OP_BPB, MMIX_OP_BOD, MMIX_OP_BODB,
+    MMIX_OP_BNN, MMIX_OP_BNNB, MMIX_OP_BNZ, MMIX_OP_BNZB, MMIX_OP_BNP, MMIX_OP_BNPB, MMIX_OP_BEV, MMIX_OP_BEVB,
+    MMIX_OP_PBN, MMIX_OP_PBNB, MMIX_OP_PBZ, MMIX_OP_PBZB, MMIX_OP_PBP, MMIX_OP_PBPB, MMIX_OP_PBOD, MMIX_OP_PBODB,
+    MMIX_OP_PBNN, MMIX_OP_PBNNB, MMIX_OP_PBNZ, MMIX_OP_PBNZB, MMIX_OP_PBNP, MMIX_OP_PBNPB, MMIX_OP_PBEV, MMIX_OP_PBEVB,
+    MMIX_OP_GO = 0x9E, MMIX_OP_GOI,
+    MMIX_OP_PUSHGO = 0xBE, MMIX_OP_PUSHGOI,
+    MMIX_OP_JMP = 0xF0, MMIX_OP_JMPB, MMIX_OP_PUSHJ, MMIX_OP_PUSHJB, MMIX_OP_GETA, MMIX_OP_GETAB, MMIX_OP_PUT, MMIX_OP_PUTI,
+    MMIX_OP_POP = 0xF8,
+    MMIX_OP_SAVE = 0xFA, MMIX_OP_UNSAVE, MMIX_OP_SYNC, MMIX_OP_SWYM, MMIX_OP_GET, MMIX_OP_TRIP
+};
+
 /* The special registers, as indices. */
 enum mmix_special {
     MMIX_RB = 0, MMIX_RD, MMIX_RE, MMIX_RH, MMIX_RJ, MMIX_RM, MMIX_RR, MMIX_RBB,
@@ -54,9 +93,26 @@ enum mmix_special {
     MMIX_RW, MMIX_RX, MMIX_RY, MMIX_RZ, MMIX_RWW, MMIX_RXX, MMIX_RYY, MMIX_RZZ
 };
 
-/* Bytes of a state image: 291 octabytes, each with its high byte first, in the order of struct mmix_state. So $k is at
- * byte 8 * k, special register k at 2048 + 8 * k, PC at 2304, the halt code at 2312 and the marks at 2320. */
+/* The flags of mmix_exceptions. rA enables each by the same bit times 256. */
+enum mmix_flag {
+    MMIX_FLAG_D = 0x80,    /* integer divide check; vector at address 16 */
+    MMIX_FLAG_V = 0x40,    /* integer overflow; 32, and so on */
+    MMIX_FLAG_W = 0x20,    /* float-to-fix overflow */
+    MMIX_FLAG_I = 0x10,    /* invalid floating operation */
+    MMIX_FLAG_O = 0x08,    /* floating overflow */
+    MMIX_FLAG_U = 0x04,    /* floating underflow */
+    MMIX_FLAG_Z = 0x02,    /* floating division by zero */
+    MMIX_FLAG_X = 0x01     /* floating inexact; 128 */
+};
+
+/* A state image is 291 octabytes, each with its high byte first, in the order of struct mmix_state; these are the bytes at
+ * which they start. */
 #define MMIX_IMAGE_LEN 2328
+#define MMIX_AT_GENERAL(k) (8 * (k))
+#define MMIX_AT_SPECIAL(k) (2048 + 8 * (k))
+#define MMIX_AT_PC 2304
+#define MMIX_AT_HALT 2312
+#define MMIX_AT_MARKS 2320
 
 /* The longest window. */
 #define MMIX_WINDOW_MAX 65536
@@ -64,7 +120,7 @@ enum mmix_special {
 /* Where the register stack starts: rO and rS of a fresh state. */
 #define MMIX_STACK_START UINT64_C(0x6000000000000000)
 
-/* A state as numbers of the host, for mmix_step_lent; it has no padding. */
+/* A state as numbers of the host; it has no padding. */
 struct mmix_state {
     uint64_t general[256];
     uint64_t special[32];
@@ -76,6 +132,8 @@ struct mmix_state {
 /* The window is the part of MMIX's memory that the host lends: `window_len` bytes from address `base` up, octabytes with
  * their high byte first. Addresses wrap at 2^64, so a window may cross the end of memory. */
 
+/* ---- on an image */
+
 /* Makes the image that of the fresh state: rG 32, rL 0, rO and rS at the stack's start, no vector loaded.
  * MMIX_NOT_ADMISSIBLE, and no byte changed, where image_len is not MMIX_IMAGE_LEN. */
 uint64_t mmix_initialize(uint8_t *image, size_t image_len);
@@ -84,25 +142,40 @@ uint64_t mmix_initialize(uint8_t *image, size_t image_len);
 uint64_t mmix_step(uint64_t base, uint8_t op, uint8_t x, uint8_t y, uint8_t z,
                    uint8_t *image, size_t image_len, uint8_t *window, size_t window_len);
 
-/* The arithmetic exceptions that the instruction with bytes op, x, y, z raised: flags has D V W I O U Z X from 0x80 down to
- * 0x01, y_val and z_val are its operands. The leftmost one that rA enables is taken: a trip. It needs no window. */
+/* The arithmetic exceptions that the instruction with bytes op, x, y, z raised: flags are those of enum mmix_flag, y_val and
+ * z_val its operands. The leftmost one that rA enables is taken, a trip; those that rA does not enable are added to rA. With
+ * none taken, PC moves to @ + 4. It needs no window. */
 uint64_t mmix_exceptions(uint8_t flags, uint8_t op, uint8_t x, uint8_t y, uint8_t z, uint64_t y_val, uint64_t z_val,
                          uint8_t *image, size_t image_len);
+
+/* ---- on a state of the host's numbers, changed in place */
+
+/* Makes the struct the state of the image. MMIX_NOT_ADMISSIBLE, and the struct left as it was, where image_len is not
+ * MMIX_IMAGE_LEN. The state is not judged here: the first step judges it. */
+uint64_t mmix_decode(const uint8_t *image, size_t image_len, struct mmix_state *state);
+
+/* Makes the image that of the struct. MMIX_NOT_ADMISSIBLE, and no byte changed, where image_len is not MMIX_IMAGE_LEN. */
+uint64_t mmix_encode(const struct mmix_state *state, uint8_t *image, size_t image_len);
+
+/* As mmix_step. */
+uint64_t mmix_step_lent(uint64_t base, uint8_t op, uint8_t x, uint8_t y, uint8_t z,
+                        struct mmix_state *state, uint8_t *window, size_t window_len);
+
+/* As mmix_step and mmix_exceptions, on the parts of a state: the fastest, for a host that steps millions of times. The parts
+ * may be those of a struct mmix_state. The marks do not change. */
+uint64_t mmix_step_parts(uint64_t base, uint8_t op, uint8_t x, uint8_t y, uint8_t z,
+                         uint64_t general[256], uint64_t special[32], uint64_t *pc, uint64_t *halt, uint64_t marks,
+                         uint8_t *window, size_t window_len);
+uint64_t mmix_exceptions_parts(uint8_t flags, uint8_t op, uint8_t x, uint8_t y, uint8_t z, uint64_t y_val, uint64_t z_val,
+                               uint64_t general[256], uint64_t special[32], uint64_t *pc, uint64_t *halt, uint64_t marks);
+
+/* ---- saved contexts */
 
 /* Finds the context that SAVE put in the window; `address` is what SAVE left in $X. Done, the context is the *length bytes of
  * the window from index *start on: its locals, their count, its globals, twelve special registers, rG and rA packed.
  * Refused by 2, 6, 14, 15 or 16, as UNSAVE of it would be, *start and *length are 0. No byte of the window is changed. */
 uint64_t mmix_context(uint64_t base, uint64_t address, const uint8_t *window, size_t window_len,
                       size_t *start, size_t *length);
-
-/* As mmix_step, on a state of the host's numbers, changed in place. */
-uint64_t mmix_step_lent(uint64_t base, uint8_t op, uint8_t x, uint8_t y, uint8_t z,
-                        struct mmix_state *state, uint8_t *window, size_t window_len);
-
-/* As mmix_step, on the parts of a state: the fastest, for a host that steps millions of times. The marks do not change. */
-uint64_t mmix_step_parts(uint64_t base, uint8_t op, uint8_t x, uint8_t y, uint8_t z,
-                         uint64_t general[256], uint64_t special[32], uint64_t *pc, uint64_t *halt, uint64_t marks,
-                         uint8_t *window, size_t window_len);
 
 #ifdef __cplusplus
 }

@@ -18,6 +18,7 @@ pub fn compare(reference: &mut Reference, subjects: &[Box<dyn Subject>], case: &
             Call::Exceptions { .. } => exceptions(subject.as_ref(), case, &answer),
             Call::Context { .. } => context(subject.as_ref(), case, &answer),
         };
+        let same = same.and_then(|()| codec(subject.as_ref(), case));
         same.map_err(|difference| format!("{}: {difference}", subject.name()))?;
     }
     needs(case, &answer)?;
@@ -34,7 +35,36 @@ fn exceptions(subject: &dyn Subject, case: &Case, answer: &Answer) -> Result<(),
     let Call::Exceptions { flags, of, y_val, z_val } = case.call else { unreachable!() };
     let mut image = case.image();
     let reply = subject.exceptions(flags, of, y_val, z_val, &mut image);
-    same_image("mmix_exceptions", case, answer, reply, &image)
+    same_image("mmix_exceptions", case, answer, reply, &image)?;
+    if case.image_len != IMAGE_LEN {
+        return Ok(());
+    }
+
+    let mut state = case.state.clone();
+    let reply = subject.exceptions_parts(flags, of, y_val, z_val, (&mut state).into());
+    same_state("mmix_exceptions_parts", answer, reply, &state)
+}
+
+/// The case's image into a struct that holds other numbers, and its state into an image with other bytes. What
+/// an image of a wrong length is to leave is those.
+fn codec(subject: &dyn Subject, case: &Case) -> Result<(), String> {
+    let whole = case.image_len == IMAGE_LEN;
+    let other = State { general: [!7; 256], special: [!9; 32], pc: !1, halt: !2, marks: !3 };
+    let mut state = other.clone();
+    let reply = subject.decode(&case.image(), &mut state);
+    same_reply("mmix_decode", !whole as u64, reply)?;
+    if let Some(difference) = (if whole { &case.state } else { &other }).difference(&state) {
+        return Err(format!("mmix_decode: reply {reply}, {difference}"));
+    }
+
+    let other = vec![0xA5; case.image_len];
+    let mut image = other.clone();
+    let reply = subject.encode(&case.state, &mut image);
+    same_reply("mmix_encode", !whole as u64, reply)?;
+    if image == if whole { case.state.image().to_vec() } else { other } {
+        return Ok(());
+    }
+    Err(format!("mmix_encode: reply {reply}, another image"))
 }
 
 /// Both numbers must be written: the part is empty where the reader refuses.
@@ -43,7 +73,7 @@ fn context(subject: &dyn Subject, case: &Case, answer: &Answer) -> Result<(), St
     let (mut start, mut length) = (usize::MAX, usize::MAX);
     let found = Found { start: &mut start, length: &mut length };
     let reply = subject.context(case.base, address, &case.window, found);
-    same_reply("mmix_context", answer, reply)?;
+    same_reply("mmix_context", answer.reply, reply)?;
     if (start, length) == (answer.part.start, answer.part.len()) {
         return Ok(());
     }
@@ -74,23 +104,23 @@ fn same_image(entry: &str, case: &Case, answer: &Answer, reply: u64, image: &[u8
     if case.image_len == IMAGE_LEN {
         return same_state(entry, answer, reply, &State::of_image(image));
     }
-    same_reply(entry, answer, reply)?;
+    same_reply(entry, answer.reply, reply)?;
     if image != case.image() {
         return Err(format!("{entry}: an image of a wrong length is changed"));
     }
     Ok(())
 }
 
-fn same_reply(entry: &str, answer: &Answer, reply: u64) -> Result<(), String> {
+fn same_reply(entry: &str, expected: u64, reply: u64) -> Result<(), String> {
     match reply {
         WROTE_OUTSIDE => Err(format!("{entry}: a byte outside its buffers is written")),
-        _ if reply == answer.reply => Ok(()),
-        _ => Err(format!("{entry}: reply {} against {reply}", answer.reply)),
+        _ if reply == expected => Ok(()),
+        _ => Err(format!("{entry}: reply {expected} against {reply}")),
     }
 }
 
 fn same_state(entry: &str, answer: &Answer, reply: u64, state: &State) -> Result<(), String> {
-    same_reply(entry, answer, reply)?;
+    same_reply(entry, answer.reply, reply)?;
     match answer.state.difference(state) {
         Some(difference) => Err(format!("{entry}: reply {reply}, {difference}")),
         None => Ok(()),

@@ -215,6 +215,30 @@ impl Subject for Guarded {
             self.subject.step_parts(base, i, parts, window)
         })
     }
+
+    fn exceptions_parts(&self, flags: u8, of: Instruction, y_val: u64, z_val: u64, parts: Parts) -> u64 {
+        let Parts { general, special, pc, halt, marks } = parts;
+        let buffers = [bytes_of(general), bytes_of(special), bytes_of(pc), bytes_of(halt)];
+        self.call(buffers, |[general, special, pc, halt]| {
+            let (general, special) = (of_bytes(general), of_bytes(special));
+            let parts = Parts { general, special, pc: of_bytes(pc), halt: of_bytes(halt), marks };
+            self.subject.exceptions_parts(flags, of, y_val, z_val, parts)
+        })
+    }
+
+    fn decode(&self, image: &[u8], state: &mut State) -> u64 {
+        let mut copy = image.to_vec();
+        let reply =
+            self.call([&mut copy, bytes_of(state)], |[image, state]| self.subject.decode(image, of_bytes(state)));
+        if copy == image { reply } else { WROTE_OUTSIDE }
+    }
+
+    fn encode(&self, state: &State, image: &mut [u8]) -> u64 {
+        let mut copy = state.clone();
+        let reply =
+            self.call([bytes_of(&mut copy), image], |[state, image]| self.subject.encode(of_bytes(state), image));
+        if copy == *state { reply } else { WROTE_OUTSIDE }
+    }
 }
 
 thread_local! {

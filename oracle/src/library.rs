@@ -62,6 +62,22 @@ unsafe extern "C" {
         window: *mut u8,
         window_len: usize,
     ) -> u64;
+    fn mmix_exceptions_parts(
+        flags: u8,
+        op: u8,
+        x: u8,
+        y: u8,
+        z: u8,
+        y_val: u64,
+        z_val: u64,
+        general: *mut [u64; 256],
+        special: *mut [u64; 32],
+        pc: *mut u64,
+        halt: *mut u64,
+        marks: u64,
+    ) -> u64;
+    fn mmix_decode(image: *const u8, image_len: usize, state: *mut State) -> u64;
+    fn mmix_encode(state: *const State, image: *mut u8, image_len: usize) -> u64;
 }
 
 pub struct Library {
@@ -121,5 +137,22 @@ impl Subject for Library {
         let Parts { general, special, pc, halt, marks } = parts;
         let room = self.lent_mut(window);
         unsafe { mmix_step_parts(base, op, x, y, z, general, special, pc, halt, marks, room, window.len()) }
+    }
+
+    #[inline]
+    fn exceptions_parts(&self, flags: u8, of: Instruction, y_val: u64, z_val: u64, parts: Parts) -> u64 {
+        let Instruction { op, x, y, z } = of;
+        let Parts { general, special, pc, halt, marks } = parts;
+        unsafe { mmix_exceptions_parts(flags, op, x, y, z, y_val, z_val, general, special, pc, halt, marks) }
+    }
+
+    #[inline]
+    fn decode(&self, image: &[u8], state: &mut State) -> u64 {
+        unsafe { mmix_decode(self.lent(image), image.len(), state) }
+    }
+
+    #[inline]
+    fn encode(&self, state: &State, image: &mut [u8]) -> u64 {
+        unsafe { mmix_encode(state, self.lent_mut(image), image.len()) }
     }
 }

@@ -1,4 +1,4 @@
-//! The machine that is compared with the Rust: six functions that equal those of include/mmix.h. 0 is done,
+//! The machine that is compared with the Rust: nine functions that equal those of include/mmix.h. 0 is done,
 //! 1 to 20 are 01's numbers.
 
 use crate::case::Instruction;
@@ -38,6 +38,9 @@ pub trait Subject {
     fn context(&self, base: u64, address: u64, window: &[u8], found: Found) -> u64;
     fn step_lent(&self, base: u64, i: Instruction, state: &mut State, window: &mut [u8]) -> u64;
     fn step_parts(&self, base: u64, i: Instruction, parts: Parts, window: &mut [u8]) -> u64;
+    fn exceptions_parts(&self, flags: u8, of: Instruction, y_val: u64, z_val: u64, parts: Parts) -> u64;
+    fn decode(&self, image: &[u8], state: &mut State) -> u64;
+    fn encode(&self, state: &State, image: &mut [u8]) -> u64;
 }
 
 /// The subject that counts in this build: the library where it is linked, else the model.

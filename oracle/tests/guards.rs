@@ -61,6 +61,15 @@ impl Subject for Probe {
     fn step_parts(&self, _: u64, _: Instruction, _: Parts, _: &mut [u8]) -> u64 {
         0
     }
+    fn exceptions_parts(&self, _: u8, _: Instruction, _: u64, _: u64, _: Parts) -> u64 {
+        0
+    }
+    fn decode(&self, _: &[u8], _: &mut State) -> u64 {
+        0
+    }
+    fn encode(&self, _: &State, _: &mut [u8]) -> u64 {
+        0
+    }
 }
 
 /// Two calls in turn: flush against the page after the buffer, then against the one before it.

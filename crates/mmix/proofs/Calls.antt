@@ -1,188 +1,232 @@
--- A list of calls on an image is a list of steps on its state, so demand 3 holds of the two functions.
+-- A list of calls is a list of steps on the state that is held, so demand 3 holds of the C functions.
 use mathlib.Core.Path.{_≡_, refl, sym, ap, subst, _∙_}
-use mathlib.Core.Logic.{_⊎_, inl, inr}
-use mathlib.Core.List.{List, [], _∷_}
-use Prim.Native.Nat.{ℕ, _+_, _≤_}
+use mathlib.Core.List.{List, [], _∷_, _++_, head-eq-of-cons-eq, tail-eq-of-cons-eq}
+use Prim.Native.Nat.{ℕ, _+_}
 use native.Mathlib.Omega.{arith}
 use lib.ListN.{length}
 use Rattle.model.specs.Memory.{Window, one}
-use Rattle.model.specs.Plan.{Outcome, All, Off, perform, worst, puts}
+use Rattle.model.specs.Plan.{Outcome, All, Off}
 use Rattle.model.specs.Lists.{Ran, stepOn, runs, runNeeds}
 use Rattle.model.specs.Registers.{rO, sp, reg, Sized, Words}
-use Rattle.model.specs.Said.{tell}
 use Rattle.model.specs.Frames.{hole}
-use Rattle.model.specs.Step.{Item, step, exception, stepOf, itemPlan, mmix}
+use Rattle.model.specs.Step.{Item, step, stepOf, itemPlan, mmix}
 use Rattle.model.specs.Keeps.{InstructionFits, Fits, Bytes}
 use Rattle.model.specs.Demand.{Within, opcodeOf, SameOutside, AtPop, GivesBack, Private, after, popAfter}
 use Rattle.model.specs.declared.State.{State}
-use Rattle.model.proofs.Numbers.{numbered}
-use Rattle.model.proofs.Leaves.{replies-leave}
 use Rattle.model.proofs.Kept.{items-keep}
 use Rattle.model.proofs.Demand.{demand3}
-use Rattle.mmix.specs.Image.{imageLength, imageOf, stateOf}
-use Rattle.mmix.specs.Calls.{ImageBytes, Made, Meets, Chain, items, replies, lastImage, lastWindow, AllFit, Carried, ListsOfCalls, Returns, Demand3Calls}
-use Rattle.mmix.proofs.RoundTrips.{round-trips}
-use Rattle.mmix.proofs.Entries.{image}
+use Rattle.mmix.specs.Calls.{Held, heldState, HeldIs, HeldFits, Entry, asked, Meets, Made, Chain, entries, replies, lastHeld, lastWindow, items, answered, answers, Moved, AllFit, Carried, ListsOfCalls, Returns, Demand3Calls}
+use Rattle.mmix.proofs.Call.{Intact, intact, intact-of, held-state, After, after-call, form, formAfter, form-after, same-held}
 
--- ---- one call
+-- ---- lists of items
 
--- what it leaves, as a step on the image's state
-record Left (l : List ℕ) (w : Window) (i : Item) (r : ℕ) (m : List ℕ) (v : Window) : Type 0 where
-  reply-is : r ≡ stepOn one mmix (stateOf l) w i .reply
-  image-is : m ≡ imageOf (stepOn one mmix (stateOf l) w i .state)
-  window-is : v ≡ stepOn one mmix (stateOf l) w i .memory
+abbrev joined : Ran State Window → Ran State Window → Ran State Window
+joined o p = record { answers = o .answers ++ p .answers; state = p .state; memory = p .memory }
 
-few : (n : ℕ) → (n ≡ 0) ⊎ ((n ≡ 1) ⊎ (n ≡ 19)) → n ≤ 20
-few n (inl e) = omega arith
-few n (inr (inl e)) = omega arith
-few n (inr (inr e)) = omega arith
+runs-append : (is js : List Item) (s : State) (w : Window)
+    → runs one mmix s w (is ++ js) ≡ joined (runs one mmix s w is) (runs one mmix (runs one mmix s w is .state) (runs one mmix s w is .memory) js)
+unfolding runs
+runs-append [] js s w = refl
+runs-append (i ∷ is) js s w =
+    let o : Outcome State Window = stepOn one mmix s w i in
+    ap (λ (r : Ran State Window). record { answers = o .reply ∷ r .answers; state = r .state; memory = r .memory }) (runs-append is js (o .state) (o .memory))
 
-call-left : (l : List ℕ) (w : Window) (i : Item) (r : ℕ) (m : List ℕ) (v : Window) → length l ≡ imageLength → Meets l w i r m v → Left l w i r m v
-unfolding Meets stepOn mmix itemPlan one stepOf tell perform worst puts
-call-left l w (step op x y z) r m v n g = record {
-  reply-is = g .reply-is ∙ sym (image l n _ _) ∙ numbered .number-reply _ (replies-leave .by-step w (stateOf l) op x y z (round-trips .state-sized l) .most);
-  image-is = g .image-is ∙ sym (image l n _ _);
-  window-is = g .window-is ∙ sym (image l n _ _);
-}
-call-left l w (exception f op x y z a b) r m v n g = record {
-  reply-is = g .0 .reply-is ∙ sym (image l n _ _)
-      ∙ numbered .number-reply _ (few _ (replies-leave .by-exception (stateOf l) f op x y z a b (round-trips .state-sized l) .among));
-  image-is = g .0 .image-is ∙ sym (image l n _ _);
-  window-is = g .1;
-}
+fit-both : (is js : List Item) → AllFit (is ++ js) → AllFit is × AllFit js
+unfolding AllFit
+fit-both [] js f = (tt, f)
+fit-both (i ∷ is) js f = ((f .0, fit-both is js (f .1) .0), fit-both is js (f .1) .1)
+
+-- a list keeps what is in range there
+record InRange (s : State) (w : Window) : Type 0 where
+  sized : Sized s
+  words : Words s
+  bytes : Bytes w
+
+runs-range : (is : List Item) (s : State) (w : Window) → AllFit is → InRange s w → InRange (runs one mmix s w is .state) (runs one mmix s w is .memory)
+unfolding runs AllFit
+runs-range [] s w f h = h
+runs-range (i ∷ is) s w f h =
+    runs-range is (stepOn one mmix s w i .state) (stepOn one mmix s w i .memory) (f .1) (record {
+      sized = items-keep .sized w s i (h .sized);
+      words = items-keep .words w s i (f .0) (h .bytes) (h .words);
+      bytes = items-keep .bytes w s i (h .bytes);
+    })
 
 -- ---- a list of calls
 
--- the image is that of its state
-record Intact (l : List ℕ) : Type 0 where
-  long : length l ≡ imageLength
-  back : l ≡ imageOf (stateOf l)
-  words : Words (stateOf l)
+-- what a call leaves is intact again
+record Kept (s : State) (w : Window) (is : List Item) (k : Held) (v : Window) : Type 0 where
+  state-is : heldState k ≡ runs one mmix s w is .state
+  whole : Intact k
+  bytes : Bytes v
 
-intact-image : (l : List ℕ) → ImageBytes l → Intact l
-intact-image l h = record { long = h .long; back = sym (round-trips .image-state l (h .long) (h .byte)); words = round-trips .state-words l (h .byte) }
-
-intact-of : (m : List ℕ) (s : State) → m ≡ imageOf s → Sized s → Words s → Intact m
-intact-of m s e z w =
-    let t : s ≡ stateOf m = sym (ap stateOf e ∙ round-trips .state-image s z w) in
-    record { long = ap length e ∙ round-trips .image-length s z; back = e ∙ ap imageOf t; words = subst Words t w }
-
--- image and window after a call are intact again
-record After (l : List ℕ) (w : Window) (i : Item) (m : List ℕ) (v : Window) : Type 0 where
-  state-is : stateOf m ≡ stepOn one mmix (stateOf l) w i .state
-  intact : Intact m
-  bytes-are : Bytes v
-
-after-call : (l : List ℕ) (w : Window) (i : Item) (r : ℕ) (m : List ℕ) (v : Window) → Intact l → Bytes w → Fits i → Left l w i r m v → After l w i m v
-after-call l w i r m v h b f g =
-    let z : Sized (stepOn one mmix (stateOf l) w i .state) = items-keep .sized w (stateOf l) i (round-trips .state-sized l) in
-    let k : Words (stepOn one mmix (stateOf l) w i .state) = items-keep .words w (stateOf l) i f b (h .words) in
+kept : (g : Held) (w : Window) (is : List Item) (r : ℕ) (k : Held) (v : Window) → Intact g → Bytes w → AllFit is
+    → After (heldState g) w is r k v → Kept (heldState g) w is k v
+kept g w is r k v h b f n =
+    let i = runs-range is (heldState g) w f (record { sized = h .sized; words = h .words; bytes = b }) in
     record {
-      state-is = ap stateOf (g .image-is) ∙ round-trips .state-image _ z k;
-      intact = intact-of m _ (g .image-is) z k;
-      bytes-are = subst Bytes (sym (g .window-is)) (items-keep .bytes w (stateOf l) i b);
+      state-is = held-state k _ (n .held-is) (i .sized) (i .words);
+      whole = intact-of k _ (n .held-is) (i .sized) (i .words);
+      bytes = subst Bytes (sym (n .window-is)) (i .bytes);
     }
 
--- the state that a list starts from, and what it ends in
-record Ended (l : List ℕ) (w : Window) (cs : List Made) (s : State) (v : Window) (is : List Item) : Type 0 where
-  carried : Carried l w cs (runs one mmix s v is)
-  intact : Intact (lastImage l cs)
-  bytes-are : Bytes (lastWindow w cs)
+-- what a list ends in
+record Ended (g : Held) (w : Window) (cs : List Made) (r : Ran State Window) : Type 0 where
+  carried : Carried g w cs r
+  whole : Intact (lastHeld g cs)
+  bytes : Bytes (lastWindow w cs)
 
-chain-ended : (l : List ℕ) (w : Window) (cs : List Made) → Intact l → Bytes w → AllFit (items cs) → Chain l w cs → Ended l w cs (stateOf l) w (items cs)
-unfolding Chain AllFit items replies lastImage lastWindow runs
-chain-ended l w [] h b f g = record {
-  carried = record { replies-are = refl; image-is = h .back; state-is = refl; window-is = refl };
-  intact = h;
-  bytes-are = b;
+chain-ended : (g : Held) (w : Window) (cs : List Made) → Intact g → Bytes w → AllFit (items (entries cs)) → Chain g w cs
+    → Ended g w cs (runs one mmix (heldState g) w (items (entries cs)))
+unfolding Chain items entries answers Moved lastHeld lastWindow runs
+chain-ended g w [] h b f c = record {
+  carried = record { answers-are = refl; others-are = tt; held-is = h .back; state-is = refl; window-is = refl };
+  whole = h;
+  bytes = b;
 }
-chain-ended l w (c ∷ cs) h b f g =
-    let k : Left l w (c .item) (c .reply) (c .image) (c .window) = call-left l w (c .item) (c .reply) (c .image) (c .window) (h .long) (g .0) in
-    let n : After l w (c .item) (c .image) (c .window) = after-call l w (c .item) (c .reply) (c .image) (c .window) h b (f .0) k in
-    let o : Outcome State Window = stepOn one mmix (stateOf l) w (c .item) in
-    let e : Ended (c .image) (c .window) cs (o .state) (o .memory) (items cs)
-    = subst (λ (s : State). Ended (c .image) (c .window) cs s (o .memory) (items cs)) (n .state-is)
-    (subst (λ (v : Window). Ended (c .image) (c .window) cs (stateOf (c .image)) v (items cs)) (k .window-is)
-    (chain-ended (c .image) (c .window) cs (n .intact) (n .bytes-are) (f .1) (g .1))) in
-    record {
+chain-ended g w (c ∷ cs) h b f m =
+    let fs = fit-both (asked (c .entry)) (items (entries cs)) f in
+    let n : After (heldState g) w (asked (c .entry)) (c .reply) (c .held) (c .window) = after-call g w (c .entry) (c .reply) (c .held) (c .window) h (m .0) in
+    let k : Kept (heldState g) w (asked (c .entry)) (c .held) (c .window) = kept g w (asked (c .entry)) (c .reply) (c .held) (c .window) h b (fs .0) n in
+    let o : Ran State Window = runs one mmix (heldState g) w (asked (c .entry)) in
+    let p : Ran State Window = runs one mmix (o .state) (o .memory) (items (entries cs)) in
+    let t : Ended (c .held) (c .window) cs p
+    = subst (λ (s : State). Ended (c .held) (c .window) cs (runs one mmix s (o .memory) (items (entries cs)))) (k .state-is)
+    (subst (λ (v : Window). Ended (c .held) (c .window) cs (runs one mmix (heldState (c .held)) v (items (entries cs)))) (n .window-is)
+    (chain-ended (c .held) (c .window) cs (k .whole) (k .bytes) (fs .1) (m .1))) in
+    subst (Ended g w (c ∷ cs)) (sym (runs-append (asked (c .entry)) (items (entries cs)) (heldState g) w)) (record {
       carried = record {
-        replies-are = ap (λ (r : ℕ). r ∷ replies cs) (k .reply-is) ∙ ap (λ (rs : List ℕ). o .reply ∷ rs) (e .carried .replies-are);
-        image-is = e .carried .image-is;
-        state-is = e .carried .state-is;
-        window-is = e .carried .window-is;
+        answers-are = ap (λ (a : List ℕ). a ++ answers cs) (n .answers-are) ∙ ap (λ (a : List ℕ). o .answers ++ a) (t .carried .answers-are);
+        others-are = (n .moved, t .carried .others-are);
+        held-is = t .carried .held-is;
+        state-is = t .carried .state-is;
+        window-is = t .carried .window-is;
       };
-      intact = e .intact;
-      bytes-are = e .bytes-are;
-    }
+      whole = t .whole;
+      bytes = t .bytes;
+    })
 
 pub lists-of-calls : ListsOfCalls
-lists-of-calls l w cs h b f g = chain-ended l w cs (intact-image l h) b f g .carried
+lists-of-calls g w cs h b f c = chain-ended g w cs (intact g h) b f c .carried
+
+-- ---- two lists of the same calls
+
+-- replies are answers, and 0 to each call that asks for nothing
+same-reply : (is : List Item) (q r : ℕ) (us vs : List ℕ) → answered is q ++ us ≡ answered is r ++ vs → (is ≡ [] → q ≡ 0) → (is ≡ [] → r ≡ 0)
+    → (q ≡ r) × (us ≡ vs)
+unfolding answered
+same-reply [] q r us vs e f g = (f refl ∙ sym (g refl), e)
+same-reply (i ∷ is) q r us vs e f g = (head-eq-of-cons-eq e, tail-eq-of-cons-eq e)
+
+same-replies : (cs ds : List Made) → entries ds ≡ entries cs → answers cs ≡ answers ds → Moved cs → Moved ds → replies cs ≡ replies ds
+unfolding entries answers Moved replies
+same-replies [] [] e h f g = refl
+same-replies [] (d ∷ ds) e h f g = absurd (omega (arith, ap length e))
+same-replies (c ∷ cs) [] e h f g = absurd (omega (arith, ap length e))
+same-replies (c ∷ cs) (d ∷ ds) e h f g =
+    let a : asked (d .entry) ≡ asked (c .entry) = ap asked (head-eq-of-cons-eq e) in
+    let t = same-reply (asked (c .entry)) (c .reply) (d .reply) (answers cs) (answers ds) (h ∙ ap (λ (is : List Item). answered is (d .reply) ++ answers ds) a) (f .0) (λ n. g .0 (a ∙ n)) in
+    ap (λ (r : ℕ). r ∷ replies cs) (t .0) ∙ ap (λ (rs : List ℕ). d .reply ∷ rs) (same-replies cs ds (tail-eq-of-cons-eq e) (t .1) (f .1) (g .1))
+
+-- whether an image or a struct is held at the end
+unfoldable lastForm : ℕ → List Entry → ℕ
+lastForm n [] = n
+lastForm n (e ∷ es) = lastForm (formAfter e) es
+
+last-form : (g : Held) (w : Window) (cs : List Made) → Chain g w cs → form (lastHeld g cs) ≡ lastForm (form g) (entries cs)
+unfolding Chain lastHeld lastForm entries
+last-form g w [] c = refl
+last-form g w (c ∷ cs) m =
+    last-form (c .held) (c .window) cs (m .1) ∙ ap (λ (n : ℕ). lastForm n (entries cs)) (form-after g w (c .entry) (c .reply) (c .held) (c .window) (m .0))
+
+same-form : (g k : Held) (v w : Window) (cs ds : List Made) → entries ds ≡ entries cs → Chain g v cs → Chain k w ds → form g ≡ form k
+    → form (lastHeld g cs) ≡ form (lastHeld k ds)
+same-form g k v w cs ds e c d f = last-form g v cs c ∙ ap (λ (n : ℕ). lastForm n (entries cs)) f ∙ ap (lastForm (form k)) (sym e) ∙ sym (last-form k w ds d)
 
 -- ---- demand 3
 
--- a POP on an image and a window that are those of r
-returns : (h : ℕ) (l m : List ℕ) (v : Window) (r : Ran State Window) → Intact m → Bytes v → stateOf m ≡ r .state → v ≡ r .memory
-    → ((x y z : ℕ) → GivesBack h (stateOf l) (popAfter r x y z)) → Returns h l m v
-unfolding Meets Fits stepOn mmix itemPlan one stepOf
-returns h l m v r k b es ev back x y z q n u f g =
-    let c : Left m v (step 0xF8 x y z) q n u = call-left m v (step 0xF8 x y z) q n u (k .long) g in
-    let a : After m v (step 0xF8 x y z) n u = after-call m v (step 0xF8 x y z) q n u k b f c in
-    let e : stepOf v (stateOf m) 0xF8 x y z ≡ popAfter r x y z
+-- one call that asks for a step
+record StepMade (g : Held) (w : Window) (op x y z r : ℕ) (k : Held) (v : Window) : Type 0 where
+  reply-is : r ≡ stepOf w (heldState g) op x y z .reply
+  state-is : heldState k ≡ stepOf w (heldState g) op x y z .state
+  window-is : v ≡ stepOf w (heldState g) op x y z .memory
+  whole : Intact k
+  bytes : Bytes v
+
+step-made : (g : Held) (w : Window) (e : Entry) (op x y z r : ℕ) (k : Held) (v : Window) → Intact g → Bytes w → asked e ≡ step op x y z ∷ []
+    → InstructionFits op x y z → Meets g w e r k v → StepMade g w op x y z r k v
+unfolding Fits AllFit answered runs stepOn mmix itemPlan one stepOf
+step-made g w e op x y z r k v h b a f c =
+    let n : After (heldState g) w (step op x y z ∷ []) r k v
+    = subst (λ (is : List Item). After (heldState g) w is r k v) a (after-call g w e r k v h c) in
+    let t : Kept (heldState g) w (step op x y z ∷ []) k v = kept g w (step op x y z ∷ []) r k v h b (f, tt) n in
+    record {
+      reply-is = head-eq-of-cons-eq (n .answers-are);
+      state-is = t .state-is;
+      window-is = n .window-is;
+      whole = t .whole;
+      bytes = t .bytes;
+    }
+
+-- a POP on what is held and a window that are those of r
+returns : (h : ℕ) (s : State) (g : Held) (v : Window) (r : Ran State Window) → Intact g → Bytes v → heldState g ≡ r .state → v ≡ r .memory
+    → ((x y z : ℕ) → GivesBack h s (popAfter r x y z)) → Returns h s g v
+returns h s g v r i b es ev back e x y z q k u a f c =
+    let t : StepMade g v 0xF8 x y z q k u = step-made g v e 0xF8 x y z q k u i b a f c in
+    let o : stepOf v (heldState g) 0xF8 x y z ≡ popAfter r x y z
     = ap (λ (t : State). stepOf v t 0xF8 x y z) es ∙ ap (λ (t : Window). stepOf t (r .state) 0xF8 x y z) ev in (
-      c .reply-is ∙ ap (λ (o : Outcome State Window). o .reply) e ∙ back x y z .done,
-      λ i less. ap (λ (t : State). reg t i) (a .state-is ∙ ap (λ (o : Outcome State Window). o .state) e) ∙ back x y z .locals i less,
+      t .reply-is ∙ ap (λ (o : Outcome State Window). o .reply) o ∙ back x y z .done,
+      λ i less. ap (λ (t : State). reg t i) (t .state-is ∙ ap (λ (o : Outcome State Window). o .state) o) ∙ back x y z .locals i less,
     )
 
 -- the first call of a list, and the rest of it after that call's outcome
-record Begun (l : List ℕ) (w : Window) (op x y z : ℕ) (a : Made) (cs : List Made) (is : List Item) : Type 0 where
-  reply-is : a .reply ≡ stepOf w (stateOf l) op x y z .reply
-  state-is : stateOf (a .image) ≡ stepOf w (stateOf l) op x y z .state
-  window-is : a .window ≡ stepOf w (stateOf l) op x y z .memory
-  ended : Ended (a .image) (a .window) cs (stepOf w (stateOf l) op x y z .state) (stepOf w (stateOf l) op x y z .memory) is
+record Begun (g : Held) (w : Window) (op x y z : ℕ) (a : Made) (cs : List Made) (es : List Entry) : Type 0 where
+  call : StepMade g w op x y z (a .reply) (a .held) (a .window)
+  rest : Ended (a .held) (a .window) cs (after (stepOf w (heldState g) op x y z) (items es))
 
-begun : (l : List ℕ) (w : Window) (op x y z : ℕ) (a : Made) (cs : List Made) (is : List Item) → ImageBytes l → Bytes w → InstructionFits op x y z
-    → AllFit is → items cs ≡ is → a .item ≡ step op x y z → Chain l w (a ∷ cs) → Begun l w op x y z a cs is
-unfolding Chain Fits stepOn mmix itemPlan one stepOf
-begun l w op x y z a cs is h b f fs es ei g =
-    let k : Left l w (step op x y z) (a .reply) (a .image) (a .window)
-    = call-left l w (step op x y z) (a .reply) (a .image) (a .window) (h .long) (subst (λ (i : Item). Meets l w i (a .reply) (a .image) (a .window)) ei (g .0)) in
-    let n : After l w (step op x y z) (a .image) (a .window) = after-call l w (step op x y z) (a .reply) (a .image) (a .window) (intact-image l h) b f k in
-    let e : Ended (a .image) (a .window) cs (stateOf (a .image)) (a .window) is
-    = subst (λ (js : List Item). Ended (a .image) (a .window) cs (stateOf (a .image)) (a .window) js) es
-    (chain-ended (a .image) (a .window) cs (n .intact) (n .bytes-are) (subst AllFit (sym es) fs) (g .1)) in
+begun : (g : Held) (w : Window) (op x y z : ℕ) (a : Made) (cs : List Made) (es : List Entry) → HeldFits g → Bytes w → InstructionFits op x y z
+    → AllFit (items es) → entries cs ≡ es → asked (a .entry) ≡ step op x y z ∷ [] → Chain g w (a ∷ cs) → Begun g w op x y z a cs es
+unfolding Chain
+begun g w op x y z a cs es h b f fs e ei c =
+    let t : StepMade g w op x y z (a .reply) (a .held) (a .window) = step-made g w (a .entry) op x y z (a .reply) (a .held) (a .window) (intact g h) b ei f (c .0) in
+    let o : Outcome State Window = stepOf w (heldState g) op x y z in
+    let d : Ended (a .held) (a .window) cs (runs one mmix (heldState (a .held)) (a .window) (items es))
+    = subst (λ (us : List Entry). Ended (a .held) (a .window) cs (runs one mmix (heldState (a .held)) (a .window) (items us))) e
+    (chain-ended (a .held) (a .window) cs (t .whole) (t .bytes) (subst (λ (us : List Entry). AllFit (items us)) (sym e) fs) (c .1)) in
     record {
-      reply-is = k .reply-is;
-      state-is = n .state-is;
-      window-is = k .window-is;
-      ended = subst (λ (s : State). Ended (a .image) (a .window) cs s (stepOf w (stateOf l) op x y z .memory) is) (n .state-is)
-          (subst (λ (v : Window). Ended (a .image) (a .window) cs (stateOf (a .image)) v is) (k .window-is) e);
+      call = t;
+      rest = subst (λ (s : State). Ended (a .held) (a .window) cs (runs one mmix s (o .memory) (items es))) (t .state-is)
+          (subst (λ (v : Window). Ended (a .held) (a .window) cs (runs one mmix (heldState (a .held)) v (items es))) (t .window-is) d);
     }
 
 pub demand3-calls : Demand3Calls
-demand3-calls w l k c x y z a b cs ds hl hk hw f fs alike ea eb es ga gb done pcs off =
-    let p : Begun l w (opcodeOf c) x y z a cs (items cs) = begun l w (opcodeOf c) x y z a cs (items cs) hl hw f fs refl ea ga in
-    let q : Begun k w (opcodeOf c) x y z b ds (items cs) = begun k w (opcodeOf c) x y z b ds (items cs) hk hw f fs es eb gb in
-    let o : Outcome State Window = stepOf w (stateOf l) (opcodeOf c) x y z in
-    let u : Outcome State Window = stepOf w (stateOf k) (opcodeOf c) x y z in
-    let frame : ℕ → Type 0 = Off (Within (sp (stateOf l) rO) (hole (stateOf l) x + 1)) in
-    let away : All frame (runNeeds one mmix (o .state) (o .memory) (items cs))
-    = subst (λ (s : State). All frame (runNeeds one mmix s (o .memory) (items cs))) (p .state-is)
-    (subst (λ (v : Window). All frame (runNeeds one mmix (stateOf (a .image)) v (items cs))) (p .window-is) off) in
-    let d : Private (hole (stateOf l) x) (stateOf l) (stateOf k) o u (items cs)
-    = demand3 w (stateOf l) (stateOf k) c x y z (items cs) (round-trips .state-sized l) (round-trips .state-sized k)
-    (round-trips .state-words l (hl .byte)) (round-trips .state-words k (hk .byte)) alike (sym (p .reply-is) ∙ done)
-    (ap (λ (s : State). s .pc) (sym (p .state-is)) ∙ pcs ∙ ap (λ (s : State). s .pc) (q .state-is)) away in
-    let ca : Carried (a .image) (a .window) cs (after o (items cs)) = p .ended .carried in
-    let cb : Carried (b .image) (b .window) ds (after u (items cs)) = q .ended .carried in
-    let at-pop : AtPop (hole (stateOf l) x) (sp (stateOf (a .image)) rO) (stateOf (lastImage (a .image) cs)) → AtPop (hole (stateOf l) x) (sp (o .state) rO) (after o (items cs) .state)
-    = λ t. subst (λ (s : State). AtPop (hole (stateOf l) x) (sp s rO) (after o (items cs) .state)) (p .state-is)
-    (subst (λ (s : State). AtPop (hole (stateOf l) x) (sp (stateOf (a .image)) rO) s) (ca .state-is) t) in
+unfolding Chain
+demand3-calls w g k c x y z a b cs ds hg hk hw f fs alike ea eb es ga gb done pcs off =
+    let s : State = heldState g in
+    let p : Begun g w (opcodeOf c) x y z a cs (entries cs) = begun g w (opcodeOf c) x y z a cs (entries cs) hg hw f fs refl ea ga in
+    let q : Begun k w (opcodeOf c) x y z b ds (entries cs) = begun k w (opcodeOf c) x y z b ds (entries cs) hk hw f fs es (ap asked eb ∙ ea) gb in
+    let is : List Item = items (entries cs) in
+    let o : Outcome State Window = stepOf w s (opcodeOf c) x y z in
+    let u : Outcome State Window = stepOf w (heldState k) (opcodeOf c) x y z in
+    let frame : ℕ → Type 0 = Off (Within (sp s rO) (hole s x + 1)) in
+    let away : All frame (runNeeds one mmix (o .state) (o .memory) is)
+    = subst (λ (t : State). All frame (runNeeds one mmix t (o .memory) is)) (p .call .state-is)
+    (subst (λ (v : Window). All frame (runNeeds one mmix (heldState (a .held)) v is)) (p .call .window-is) off) in
+    let d : Private (hole s x) s (heldState k) o u is
+    = demand3 w s (heldState k) c x y z is (intact g hg .sized) (intact k hk .sized) (intact g hg .words) (intact k hk .words) alike
+    (sym (p .call .reply-is) ∙ done) (ap (λ (t : State). t .pc) (sym (p .call .state-is)) ∙ pcs ∙ ap (λ (t : State). t .pc) (q .call .state-is)) away in
+    let ca : Carried (a .held) (a .window) cs (after o is) = p .rest .carried in
+    let cb : Carried (b .held) (b .window) ds (after u is) = q .rest .carried in
+    let at-pop : AtPop (hole s x) (sp (heldState (a .held)) rO) (heldState (lastHeld (a .held) cs)) → AtPop (hole s x) (sp (o .state) rO) (after o is .state)
+    = λ t. subst (λ (v : State). AtPop (hole s x) (sp v rO) (after o is .state)) (p .call .state-is)
+    (subst (λ (v : State). AtPop (hole s x) (sp (heldState (a .held)) rO) v) (ca .state-is) t) in
     record {
-      call-same = q .reply-is ∙ d .call-same ∙ sym (p .reply-is);
-      replies-same = ca .replies-are ∙ d .answers-same ∙ sym (cb .replies-are);
-      image-same = ca .image-is ∙ ap imageOf (d .state-same) ∙ sym (cb .image-is);
-      window-same = subst (λ (v : Window). SameOutside (Within (sp (stateOf l) rO) (hole (stateOf l) x)) v (lastWindow (b .window) ds)) (sym (ca .window-is))
-          (subst (λ (v : Window). SameOutside (Within (sp (stateOf l) rO) (hole (stateOf l) x)) (after o (items cs) .memory) v) (sym (cb .window-is)) (d .window-same));
-      first-back = λ t. returns (hole (stateOf l) x) l _ _ (after o (items cs)) (p .ended .intact) (p .ended .bytes-are) (ca .state-is) (ca .window-is) (d .first-back (at-pop t));
-      second-back = λ t. returns (hole (stateOf l) x) k _ _ (after u (items cs)) (q .ended .intact) (q .ended .bytes-are) (cb .state-is) (cb .window-is) (d .second-back (at-pop t));
+      call-same = q .call .reply-is ∙ d .call-same ∙ sym (p .call .reply-is);
+      replies-same = same-replies cs ds es (ca .answers-are ∙ d .answers-same ∙ sym (cb .answers-are)) (ca .others-are) (cb .others-are);
+      held-same = same-held _ _ _ (ca .held-is) (subst (HeldIs (lastHeld (b .held) ds)) (sym (d .state-same)) (cb .held-is))
+          (same-form (a .held) (b .held) (a .window) (b .window) cs ds es (ga .1) (gb .1) (form-after g w (a .entry) _ _ _ (ga .0) ∙ ap formAfter (sym eb) ∙ sym (form-after k w (b .entry) _ _ _ (gb .0))));
+      window-same = subst (λ (v : Window). SameOutside (Within (sp s rO) (hole s x)) v (lastWindow (b .window) ds)) (sym (ca .window-is))
+          (subst (λ (v : Window). SameOutside (Within (sp s rO) (hole s x)) (after o is .memory) v) (sym (cb .window-is)) (d .window-same));
+      first-back = λ t. returns (hole s x) s _ _ (after o is) (p .rest .whole) (p .rest .bytes) (ca .state-is) (ca .window-is) (d .first-back (at-pop t));
+      second-back = λ t. returns (hole s x) (heldState k) _ _ (after u is) (q .rest .whole) (q .rest .bytes) (cb .state-is) (cb .window-is) (d .second-back (at-pop t));
     }

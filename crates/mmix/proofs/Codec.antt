@@ -1,37 +1,25 @@
--- What `decode` and `encode` come to, from what their calls leave.
+-- What `load_state` and `store_state` come to, from what their calls leave.
 use mathlib.Core.Path.{_≡_, sym, ap, _∙_}
-use mathlib.Core.Bool.{Bool, cond}
 use mathlib.Core.List.{List, [], _∷_, _++_, append-assoc}
 use Prim.Native.Nat.{ℕ}
 use native.Mathlib.Omega.{arith}
 use lib.ListN.{length, length-append}
-use borrow.Author.Tests.{eq-eqb, ne-eqb}
 use Rattle.model.specs.Octa.{part, written, valueOf}
-use Rattle.model.specs.Registers.{fresh, Sized}
+use Rattle.model.specs.Registers.{Sized}
 use Rattle.model.specs.declared.State.{State}
-use Rattle.mmix.specs.Image.{imageLength, flat, octas, imageOf, stateOf, decoded, encoded}
+use Rattle.mmix.specs.Image.{imageLength, flat, octas, imageOf, stateOf}
 use Rattle.model.proofs.Bytes.{written-append}
 use Rattle.mmix.proofs.Octabytes.{length-flat, flat-append, written-all}
 
--- ---- decoded
+-- ---- out of an image
 
-pub decoded-else : (l : List ℕ) → (length l ≡ imageLength → ⊥) → decoded l ≡ fresh
-unfolding decoded
-decoded-else l h = ap (λ (t : Bool). cond t (stateOf l) fresh) (ne-eqb (length l) imageLength h)
-
-pub decoded-state : (l g s : List ℕ) (p h m : ℕ) → length l ≡ imageLength → g ≡ octas l 0 256 → s ≡ octas l 2048 32
+pub state-loaded : (l g s : List ℕ) (p h m : ℕ) → g ≡ octas l 0 256 → s ≡ octas l 2048 32
     → p ≡ valueOf 0 (part l 2304 8) → h ≡ valueOf 0 (part l 2312 8) → m ≡ valueOf 0 (part l 2320 8)
-    → record { general = g; special = s; pc = p; halt = h; marks = m } ≡ decoded l
-unfolding decoded stateOf
-decoded-state l g s p h m n eg es ep eh em =
-    (λ i. record { general = eg i; special = es i; pc = ep i; halt = eh i; marks = em i })
-    ∙ ap (λ (t : Bool). cond t (stateOf l) fresh) (sym (eq-eqb (length l) imageLength n))
+    → record { general = g; special = s; pc = p; halt = h; marks = m } ≡ stateOf l
+unfolding stateOf
+state-loaded l g s p h m eg es ep eh em = λ i. record { general = eg i; special = es i; pc = ep i; halt = eh i; marks = em i }
 
--- ---- encoded
-
-pub encoded-else : (l : List ℕ) (s : State) → (length l ≡ imageLength → ⊥) → encoded l s ≡ l
-unfolding encoded
-encoded-else l s h = ap (λ (t : Bool). cond t (imageOf s) l) (ne-eqb (length l) imageLength h)
+-- ---- into an image
 
 -- the numbers of a state, in the image's order
 abbrev pub numbers : State → List ℕ
@@ -54,11 +42,10 @@ three l us vs ws nu nv =
     ∙ written-append l 0 (flat us ++ flat vs) (flat ws) 2304 (omega arith)
     ∙ ap (λ (k : List ℕ). written l 0 k) (simp (flat-append, append-assoc))
 
-pub encoded-image : (l l₁ l₂ l₃ : List ℕ) (s : State) → length l ≡ imageLength → Sized s
+pub image-stored : (l l₁ l₂ l₃ : List ℕ) (s : State) → length l ≡ imageLength → Sized s
     → l₁ ≡ written l 0 (flat (s .general)) → l₂ ≡ written l₁ 2048 (flat (s .special)) → l₃ ≡ written l₂ 2304 (flat (s .pc ∷ s .halt ∷ s .marks ∷ []))
-    → l₃ ≡ encoded l s
-unfolding encoded imageOf
-encoded-image l l₁ l₂ l₃ s n z e₁ e₂ e₃ =
+    → l₃ ≡ imageOf s
+unfolding imageOf
+image-stored l l₁ l₂ l₃ s n z e₁ e₂ e₃ =
     rw (e₃, e₂, e₁) (three l (s .general) (s .special) (s .pc ∷ s .halt ∷ s .marks ∷ []) (z .generals) (z .specials))
     ∙ written-all l (imageOf s) (length-image s z ∙ sym n)
-    ∙ ap (λ (t : Bool). cond t (imageOf s) l) (sym (eq-eqb (length l) imageLength n))

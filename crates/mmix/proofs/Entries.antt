@@ -15,8 +15,8 @@ use Rattle.model.specs.declared.State.{State}
 use Rattle.model.specs.declared.Reply.{Reply}
 use Rattle.instruction.specs.Told.{Told}
 use Rattle.instruction.specs.Whole.{Whole}
-use Rattle.mmix.specs.Image.{imageLength, imageOf, stateOf, decoded, encoded}
-use Rattle.mmix.specs.Entries.{isImage, Initialized, Stepped, SteppedState, Raised}
+use Rattle.mmix.specs.Image.{imageLength, imageOf, stateOf}
+use Rattle.mmix.specs.Entries.{isImage, Decoded, Encoded, Initialized, Stepped, SteppedState, Raised, RaisedState}
 
 -- ---- on the parts of a state
 
@@ -24,55 +24,61 @@ pub stepped-state : (w : Window) (s : State) (op x y z : ℕ) (q : Reply) (t : S
     → (r : ℕ) → r ≡ numberOf q → SteppedState w s op x y z r t v
 stepped-state w s op x y z q t v g r e = record { reply-is = e ∙ ap numberOf (g .reply-is); state-is = g .state-is; window-is = g .window-is }
 
+pub raised-state : (s : State) (f op x y z u v : ℕ) (q : Reply) (t : State) → Told (exceptionOf s f op x y z u v) q t
+    → (r : ℕ) → r ≡ numberOf q → RaisedState s f op x y z u v r t
+raised-state s f op x y z u v q t g r e = record { reply-is = e ∙ ap numberOf (g .reply-is); state-is = g .state-is }
+
 -- ---- on an image of another length
 
 module _ (l : List ℕ) (h : length l ≡ imageLength → ⊥) where
-  other : {A : Type 0} (a b : A) → b ≡ cond (isImage l) a b
-  other a b = ap (λ (t : Bool). cond t a b) (sym (ne-eqb (length l) imageLength h))
+  pub if-other : {A : Type 0} (a b : A) → b ≡ cond (isImage l) a b
+  if-other a b = ap (λ (t : Bool). cond t a b) (sym (ne-eqb (length l) imageLength h))
 
-  pub initialized-else : Initialized l 1 l
-  initialized-else = record { reply-is = other _ _; image-is = other _ _ }
+  pub decoded-else : (s : State) → Decoded l s 1 s
+  decoded-else s = record { reply-is = if-other _ _; state-is = if-other _ _ }
+
+  pub encoded-else : (s : State) → Encoded s l 1 l
+  encoded-else s = record { reply-is = if-other _ _; image-is = if-other _ _ }
 
   pub stepped-else : (w : Window) (op x y z : ℕ) → Stepped l w op x y z 1 l w
-  stepped-else w op x y z = record { reply-is = other _ _; image-is = other _ _; window-is = other _ _ }
+  stepped-else w op x y z = record { reply-is = if-other _ _; image-is = if-other _ _; window-is = if-other _ _ }
 
   pub raised-else : (f op x y z u v : ℕ) → Raised l f op x y z u v 1 l
-  raised-else f op x y z u v = record { reply-is = other _ _; image-is = other _ _ }
+  raised-else f op x y z u v = record { reply-is = if-other _ _; image-is = if-other _ _ }
 
 -- ---- on an image
 
 module _ (l : List ℕ) (n : length l ≡ imageLength) where
-  pub image : {A : Type 0} (a b : A) → a ≡ cond (isImage l) a b
-  image a b = ap (λ (t : Bool). cond t a b) (sym (eq-eqb (length l) imageLength n))
+  pub if-image : {A : Type 0} (a b : A) → a ≡ cond (isImage l) a b
+  if-image a b = ap (λ (t : Bool). cond t a b) (sym (eq-eqb (length l) imageLength n))
 
-  decoded-is : decoded l ≡ stateOf l
-  unfolding decoded
-  decoded-is = sym (image _ _)
+  pub decoded : (s t : State) → t ≡ stateOf l → Decoded l s 0 t
+  decoded s t e = record { reply-is = if-image _ _; state-is = e ∙ if-image _ _ }
 
-  encoded-is : (s : State) → encoded l s ≡ imageOf s
-  unfolding encoded
-  encoded-is s = sym (image _ _)
+  pub encoded : (s : State) (m : List ℕ) → m ≡ imageOf s → Encoded s l 0 m
+  encoded s m e = record { reply-is = if-image _ _; image-is = e ∙ if-image _ _ }
 
-  pub initialized : (s : State) → s ≡ fresh → (m : List ℕ) → m ≡ encoded l s → Initialized l 0 m
-  initialized s e m k = record { reply-is = image _ _; image-is = k ∙ encoded-is s ∙ ap imageOf e ∙ image _ _ }
-
-  pub stepped : (w : Window) (op x y z : ℕ) (s : State) → s ≡ decoded l
+  pub stepped : (w : Window) (op x y z : ℕ) (s : State) → s ≡ stateOf l
       → (r : ℕ) (t : State) (v : Window) → SteppedState w s op x y z r t v
-      → (m : List ℕ) → m ≡ encoded l t → Stepped l w op x y z r m v
+      → (m : List ℕ) → m ≡ imageOf t → Stepped l w op x y z r m v
   stepped w op x y z s e r t v g m k =
-      let d : stepOf w s op x y z ≡ stepOf w (stateOf l) op x y z = ap (λ (a : State). stepOf w a op x y z) (e ∙ decoded-is) in
+      let d : stepOf w s op x y z ≡ stepOf w (stateOf l) op x y z = ap (λ (a : State). stepOf w a op x y z) e in
       record {
-        reply-is = g .reply-is ∙ ap (λ (o : Outcome State Window). numberOf (replyOf (o .reply))) d ∙ image _ _;
-        image-is = k ∙ encoded-is t ∙ ap imageOf (g .state-is) ∙ ap (λ (o : Outcome State Window). imageOf (o .state)) d ∙ image _ _;
-        window-is = g .window-is ∙ ap (λ (o : Outcome State Window). o .memory) d ∙ image _ _;
+        reply-is = g .reply-is ∙ ap (λ (o : Outcome State Window). numberOf (replyOf (o .reply))) d ∙ if-image _ _;
+        image-is = k ∙ ap imageOf (g .state-is) ∙ ap (λ (o : Outcome State Window). imageOf (o .state)) d ∙ if-image _ _;
+        window-is = g .window-is ∙ ap (λ (o : Outcome State Window). o .memory) d ∙ if-image _ _;
       }
 
-  pub raised : (c op x y z a b : ℕ) (s : State) → s ≡ decoded l
-      → (q : Reply) (t : State) → Told (exceptionOf s c op x y z a b) q t
-      → (m : List ℕ) → m ≡ encoded l t → (r : ℕ) → r ≡ numberOf q → Raised l c op x y z a b r m
-  raised c op x y z a b s e q t g m k r f =
-      let d : exceptionOf s c op x y z a b ≡ exceptionOf (stateOf l) c op x y z a b = ap (λ (u : State). exceptionOf u c op x y z a b) (e ∙ decoded-is) in
+  pub raised : (c op x y z a b : ℕ) (s : State) → s ≡ stateOf l
+      → (r : ℕ) (t : State) → RaisedState s c op x y z a b r t
+      → (m : List ℕ) → m ≡ imageOf t → Raised l c op x y z a b r m
+  raised c op x y z a b s e r t g m k =
+      let d : exceptionOf s c op x y z a b ≡ exceptionOf (stateOf l) c op x y z a b = ap (λ (u : State). exceptionOf u c op x y z a b) e in
       record {
-        reply-is = f ∙ ap numberOf (g .reply-is) ∙ ap (λ (o : Said). numberOf (replyOf (o .reply))) d ∙ image _ _;
-        image-is = k ∙ encoded-is t ∙ ap imageOf (g .state-is) ∙ ap (λ (o : Said). imageOf (o .state)) d ∙ image _ _;
+        reply-is = g .reply-is ∙ ap (λ (o : Said). numberOf (replyOf (o .reply))) d ∙ if-image _ _;
+        image-is = k ∙ ap imageOf (g .state-is) ∙ ap (λ (o : Said). imageOf (o .state)) d ∙ if-image _ _;
       }
+
+-- the image of the fresh state
+pub initialized : (s : State) → s ≡ fresh → (l : List ℕ) (r : ℕ) (m : List ℕ) → Encoded s l r m → Initialized l r m
+initialized s e l r m g = record { reply-is = g .reply-is; image-is = g .image-is ∙ ap (λ (t : State). cond (isImage l) (imageOf t) l) e }

@@ -3,4 +3,8 @@ pub mod Octabytes
 pub mod Codec
 pub mod RoundTrips
 pub mod Entries
+pub mod Lent
+pub mod Call
+pub mod Writes
+pub mod Leaves
 pub mod Calls

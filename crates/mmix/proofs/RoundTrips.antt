@@ -71,6 +71,10 @@ module _ (s : State) (z : Sized s) where
       let q : getD (numbers s) (256 + (32 + k)) 0 < 2 ^ 64 = rw (after-special k) b in
       value-flat (numbers s) (256 + (32 + k)) (8 * (288 + k)) (omega arith) (omega (arith, length-numbers s z)) q ∙ after-special k
 
+  pub halt-bytes : part (imageOf s) 2312 8 ≡ bytesOf (s .halt)
+  unfolding imageOf
+  halt-bytes = part-flat (numbers s) 289 (omega (arith, length-numbers s z)) ∙ ap bytesOf (after-special 1)
+
   state-image : Words s → stateOf (imageOf s) ≡ s
   unfolding stateOf imageOf
   state-image w =

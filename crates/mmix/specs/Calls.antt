@@ -1,97 +1,198 @@
--- Demand 3 as a host meets it: lists of calls of mmix_step and mmix_exceptions on one image and one window, each on what the one before left.
--- `Stepped` and `Raised` are the contracts of the two functions.
+-- Demand 3 as a host meets it: lists of calls of the C functions, in any mix, each on what the one before left. A host holds the machine as
+-- an image or as a struct, goes from one to the other by mmix_decode and mmix_encode, and lends one window. (mmix_initialize starts another
+-- run, and mmix_context changes nothing: neither is in a list.)
+-- `Stepped`, `Raised`, `SteppedState`, `RaisedState`, `Decoded` and `Encoded` are the functions' contracts.
 use Prim.Native.Nat.{ℕ, _+_, _<_}
 use mathlib.Core.Path.{_≡_}
-use mathlib.Core.List.{List, [], _∷_}
+use mathlib.Core.List.{List, [], _∷_, _++_}
 use lib.ListN.{length, getD}
 use Rattle.model.specs.Memory.{Window, one}
 use Rattle.model.specs.Plan.{All, Off}
 use Rattle.model.specs.Lists.{Ran, runs, runNeeds}
-use Rattle.model.specs.Registers.{rO, sp, reg}
+use Rattle.model.specs.Registers.{rO, sp, reg, Sized, Words}
 use Rattle.model.specs.Frames.{hole}
 use Rattle.model.specs.Step.{Item, step, exception, mmix}
 use Rattle.model.specs.Keeps.{InstructionFits, Fits, Bytes}
 use Rattle.model.specs.Demand.{Within, Call, opcodeOf, Alike, SameOutside, AtPop}
 use Rattle.model.specs.declared.State.{State}
 use Rattle.mmix.specs.Image.{imageLength, imageOf, stateOf}
-use Rattle.mmix.specs.Entries.{Stepped, Raised}
+use Rattle.mmix.specs.Entries.{Decoded, Encoded, Stepped, Raised, SteppedState, RaisedState}
+
+-- ---- what a host holds
+
+pub data Held : Type 0 where
+  image : List ℕ → Held
+  struct : State → Held
+
+unfoldable pub heldState : Held → State
+heldState (image l) = stateOf l
+heldState (struct s) = s
+
+-- it is this state
+unfoldable pub HeldIs : Held → State → Type 0
+HeldIs (image l) s = l ≡ imageOf s
+HeldIs (struct t) s = t ≡ s
 
 -- 2,328 bytes
 pub record ImageBytes (l : List ℕ) : Type 0 where
   pub long : length l ≡ imageLength
   pub byte : (i : ℕ) → getD l i 0 < 256
 
--- a call that was made: what it was given, its reply, and image and window after it
+-- what C's types give
+unfoldable pub HeldFits : Held → Type 0
+HeldFits (image l) = ImageBytes l
+HeldFits (struct s) = Sized s × Words s
+
+-- ---- one call
+
+-- which function is called, and with what beside what is held: mmix_step or mmix_exceptions; mmix_step_lent; mmix_step_parts or
+-- mmix_exceptions_parts; mmix_decode; mmix_encode
+pub data Entry : Type 0 where
+  on-image : Item → Entry
+  on-lent : ℕ → ℕ → ℕ → ℕ → Entry
+  on-parts : Item → Entry
+  decode : Entry
+  encode : Entry
+
+-- the step or the exception that it asks for; mmix_decode and mmix_encode ask for none
+unfoldable pub asked : Entry → List Item
+asked (on-image i) = i ∷ []
+asked (on-lent op x y z) = step op x y z ∷ []
+asked (on-parts i) = i ∷ []
+asked decode = []
+asked encode = []
+
+-- what a function's contract says of a call on an image, and of one on a struct; an exception is given no window
+unfoldable pub ImageCall : List ℕ → Window → Item → ℕ → List ℕ → Window → Type 0
+ImageCall l w (step op x y z) r m v = Stepped l w op x y z r m v
+ImageCall l w (exception f op x y z a b) r m v = Raised l f op x y z a b r m × (v ≡ w)
+
+unfoldable pub StateCall : State → Window → Item → ℕ → State → Window → Type 0
+StateCall s w (step op x y z) r t v = SteppedState w s op x y z r t v
+StateCall s w (exception f op x y z a b) r t v = RaisedState s f op x y z a b r t × (v ≡ w)
+
+-- mmix_decode into a struct, whatever it held; mmix_encode into an image, whatever its bytes were
+pub record DecodedInto (l : List ℕ) (r : ℕ) (t : State) : Type 0 where
+  pub before : State
+  pub contract : Decoded l before r t
+
+pub record EncodedInto (s : State) (r : ℕ) (m : List ℕ) : Type 0 where
+  pub before : List ℕ
+  pub long : length before ≡ imageLength
+  pub contract : Encoded s before r m
+
+-- what is held is an image of which P holds, or a struct
+unfoldable pub AsImage : Held → (List ℕ → Type 0) → Type 0
+AsImage (image l) P = P l
+AsImage (struct s) P = ⊥
+
+unfoldable pub AsStruct : Held → (State → Type 0) → Type 0
+AsStruct (image l) P = ⊥
+AsStruct (struct s) P = P s
+
+-- the contract of a call that found g and w, replied r and left k and v
+unfoldable pub Meets : Held → Window → Entry → ℕ → Held → Window → Type 0
+Meets g w (on-image i) r k v = AsImage g (λ l. AsImage k (λ m. ImageCall l w i r m v))
+Meets g w (on-lent op x y z) r k v = AsStruct g (λ s. AsStruct k (λ t. SteppedState w s op x y z r t v))
+Meets g w (on-parts i) r k v = AsStruct g (λ s. AsStruct k (λ t. StateCall s w i r t v))
+Meets g w decode r k v = AsImage g (λ l. AsStruct k (λ t. DecodedInto l r t)) × (v ≡ w)
+Meets g w encode r k v = AsStruct g (λ s. AsImage k (λ m. EncodedInto s r m)) × (v ≡ w)
+
+-- ---- a list of calls
+
+-- a call that was made: the function with its arguments, its reply, and what is held and the window after it
 pub record Made : Type 0 where
-  pub item : Item
+  pub entry : Entry
   pub reply : ℕ
-  pub image : List ℕ
+  pub held : Held
   pub window : Window
 
--- what the function's contract says of it; mmix_exceptions is given no window
-unfoldable pub Meets : List ℕ → Window → Item → ℕ → List ℕ → Window → Type 0
-Meets l w (step op x y z) r m v = Stepped l w op x y z r m v
-Meets l w (exception f op x y z a b) r m v = Raised l f op x y z a b r m × (v ≡ w)
+-- "each later one what the one before left, refused or not"
+unfoldable pub Chain : Held → Window → List Made → Type 0
+Chain g w [] = Unit {0}
+Chain g w (c ∷ cs) = Meets g w (c .entry) (c .reply) (c .held) (c .window) × Chain (c .held) (c .window) cs
 
--- a list of calls, each on what the one before left
-unfoldable pub Chain : List ℕ → Window → List Made → Type 0
-Chain l w [] = Unit {0}
-Chain l w (c ∷ cs) = Meets l w (c .item) (c .reply) (c .image) (c .window) × Chain (c .image) (c .window) cs
-
-unfoldable pub items : List Made → List Item
-items [] = []
-items (c ∷ cs) = c .item ∷ items cs
+unfoldable pub entries : List Made → List Entry
+entries [] = []
+entries (c ∷ cs) = c .entry ∷ entries cs
 
 unfoldable pub replies : List Made → List ℕ
 replies [] = []
 replies (c ∷ cs) = c .reply ∷ replies cs
 
-unfoldable pub lastImage : List ℕ → List Made → List ℕ
-lastImage l [] = l
-lastImage l (c ∷ cs) = lastImage (c .image) cs
+unfoldable pub lastHeld : Held → List Made → Held
+lastHeld g [] = g
+lastHeld g (c ∷ cs) = lastHeld (c .held) cs
 
 unfoldable pub lastWindow : Window → List Made → Window
 lastWindow w [] = w
 lastWindow w (c ∷ cs) = lastWindow (c .window) cs
+
+-- the steps and exceptions that are asked for, and the replies to these
+unfoldable pub items : List Entry → List Item
+items [] = []
+items (e ∷ es) = asked e ++ items es
+
+unfoldable pub answered : List Item → ℕ → List ℕ
+answered [] r = []
+answered (i ∷ is) r = r ∷ []
+
+unfoldable pub answers : List Made → List ℕ
+answers [] = []
+answers (c ∷ cs) = answered (asked (c .entry)) (c .reply) ++ answers cs
+
+-- each mmix_decode and mmix_encode replied 0
+unfoldable pub Moved : List Made → Type 0
+Moved [] = Unit {0}
+Moved (c ∷ cs) = (asked (c .entry) ≡ [] → c .reply ≡ 0) × Moved cs
 
 -- what is given fits C's types
 unfoldable pub AllFit : List Item → Type 0
 AllFit [] = Unit {0}
 AllFit (i ∷ is) = Fits i × AllFit is
 
--- THEOREM: a list of calls on an image is `runs` on its state
-pub record Carried (l : List ℕ) (w : Window) (cs : List Made) (r : Ran State Window) : Type 0 where
-  pub replies-are : replies cs ≡ r .answers
-  pub image-is : lastImage l cs ≡ imageOf (r .state)
-  pub state-is : stateOf (lastImage l cs) ≡ r .state
+-- THEOREM: a list of calls is `runs` on the state that is held: the same answers, state and window; mmix_decode and mmix_encode reply 0
+pub record Carried (g : Held) (w : Window) (cs : List Made) (r : Ran State Window) : Type 0 where
+  pub answers-are : answers cs ≡ r .answers
+  pub others-are : Moved cs
+  pub held-is : HeldIs (lastHeld g cs) (r .state)
+  pub state-is : heldState (lastHeld g cs) ≡ r .state
   pub window-is : lastWindow w cs ≡ r .memory
 
 abbrev pub ListsOfCalls : Type 0
-ListsOfCalls = (l : List ℕ) (w : Window) (cs : List Made) → ImageBytes l → Bytes w → AllFit (items cs) → Chain l w cs
-    → Carried l w cs (runs one mmix (stateOf l) w (items cs))
+ListsOfCalls = (g : Held) (w : Window) (cs : List Made) → HeldFits g → Bytes w → AllFit (items (entries cs)) → Chain g w cs
+    → Carried g w cs (runs one mmix (heldState g) w (items (entries cs)))
 
--- POP as the next call on image m and window v: it is done, and $0 to $(h − 1) are those of the image l
-abbrev pub Returns : ℕ → List ℕ → List ℕ → Window → Type 0
-Returns h l m v = (x y z r : ℕ) (n : List ℕ) (u : Window) → InstructionFits 0xF8 x y z → Stepped m v 0xF8 x y z r n u
-    → (r ≡ 0) × ((i : ℕ) → i < h → reg (stateOf n) i ≡ reg (stateOf l) i)
+-- ---- demand 3
 
--- what holds of two lists of calls after a call, a and b: on l and on k
-pub record PrivateCalls (h : ℕ) (l k : List ℕ) (a b : Made) (cs ds : List Made) : Type 0 where
+-- "a POP as the next step, whatever its X and YZ, succeeds, and those locals hold exactly what they held before the call": POP by any function
+-- as the next call on g and v is done, and $0 to $(h − 1) are those of s
+abbrev pub Returns : ℕ → State → Held → Window → Type 0
+Returns h s g v = (e : Entry) (x y z r : ℕ) (k : Held) (u : Window) → asked e ≡ step 0xF8 x y z ∷ [] → InstructionFits 0xF8 x y z → Meets g v e r k u
+    → (r ≡ 0) × ((i : ℕ) → i < h → reg (heldState k) i ≡ reg s i)
+
+-- what holds of two lists of calls after a call, a and b: on g and on k; "the same answers in the same order, the same registers, PC, halt
+-- code and marks, and the same memory outside those locals"; and the POP in each
+pub record PrivateCalls (h : ℕ) (g k : Held) (a b : Made) (cs ds : List Made) : Type 0 where
   pub call-same : b .reply ≡ a .reply
   pub replies-same : replies cs ≡ replies ds
-  pub image-same : lastImage (a .image) cs ≡ lastImage (b .image) ds
-  pub window-same : SameOutside (Within (sp (stateOf l) rO) h) (lastWindow (a .window) cs) (lastWindow (b .window) ds)
-  pub first-back : AtPop h (sp (stateOf (a .image)) rO) (stateOf (lastImage (a .image) cs)) → Returns h l (lastImage (a .image) cs) (lastWindow (a .window) cs)
-  pub second-back : AtPop h (sp (stateOf (a .image)) rO) (stateOf (lastImage (a .image) cs)) → Returns h k (lastImage (b .image) ds) (lastWindow (b .window) ds)
+  pub held-same : lastHeld (a .held) cs ≡ lastHeld (b .held) ds
+  pub window-same : SameOutside (Within (sp (heldState g) rO) h) (lastWindow (a .window) cs) (lastWindow (b .window) ds)
+  pub first-back : AtPop h (sp (heldState (a .held)) rO) (heldState (lastHeld (a .held) cs))
+      → Returns h (heldState g) (lastHeld (a .held) cs) (lastWindow (a .window) cs)
+  pub second-back : AtPop h (sp (heldState (a .held)) rO) (heldState (lastHeld (a .held) cs))
+      → Returns h (heldState k) (lastHeld (b .held) ds) (lastWindow (b .window) ds)
 
--- THEOREM: demand 3 of the two functions
+-- THEOREM: demand 3 of the C functions. "Before the call the two runs have equal windows and states equal outside $0 to $(H−1); call and list
+-- are the same in both. A call target is the PC after the call"; "It is enough that the first run's needs keep off the frame". The call is by
+-- any function that steps
 abbrev pub Demand3Calls : Type 0
-Demand3Calls = (w : Window) (l k : List ℕ) (c : Call) (x y z : ℕ) (a b : Made) (cs ds : List Made)
-    → ImageBytes l → ImageBytes k → Bytes w → InstructionFits (opcodeOf c) x y z → AllFit (items cs)
-    → Alike (hole (stateOf l) x) (stateOf l) (stateOf k)
-    → a .item ≡ step (opcodeOf c) x y z → b .item ≡ step (opcodeOf c) x y z → items ds ≡ items cs
-    → Chain l w (a ∷ cs) → Chain k w (b ∷ ds)
+Demand3Calls = (w : Window) (g k : Held) (c : Call) (x y z : ℕ) (a b : Made) (cs ds : List Made)
+    → HeldFits g → HeldFits k → Bytes w → InstructionFits (opcodeOf c) x y z → AllFit (items (entries cs))
+    → Alike (hole (heldState g) x) (heldState g) (heldState k)
+    → asked (a .entry) ≡ step (opcodeOf c) x y z ∷ [] → b .entry ≡ a .entry → entries ds ≡ entries cs
+    → Chain g w (a ∷ cs) → Chain k w (b ∷ ds)
     → a .reply ≡ 0
-    → stateOf (a .image) .pc ≡ stateOf (b .image) .pc
-    → All (Off (Within (sp (stateOf l) rO) (hole (stateOf l) x + 1))) (runNeeds one mmix (stateOf (a .image)) (a .window) (items cs))
-    → PrivateCalls (hole (stateOf l) x) l k a b cs ds
+    → heldState (a .held) .pc ≡ heldState (b .held) .pc
+    → All (Off (Within (sp (heldState g) rO) (hole (heldState g) x + 1))) (runNeeds one mmix (heldState (a .held)) (a .window) (items (entries cs)))
+    → PrivateCalls (hole (heldState g) x) g k a b cs ds

@@ -17,9 +17,17 @@ use Rattle.mmix.specs.Image.{imageLength, imageOf, stateOf}
 abbrev pub isImage : List ℕ → Bool
 isImage l = eqb (length l) imageLength
 
-pub record Initialized (l : List ℕ) (r : ℕ) (m : List ℕ) : Type 0 where
+-- the state of an image, and the image of a state
+pub record Decoded (l : List ℕ) (s : State) (r : ℕ) (t : State) : Type 0 where
   pub reply-is : r ≡ cond (isImage l) 0 1
-  pub image-is : m ≡ cond (isImage l) (imageOf fresh) l
+  pub state-is : t ≡ cond (isImage l) (stateOf l) s
+
+pub record Encoded (s : State) (l : List ℕ) (r : ℕ) (m : List ℕ) : Type 0 where
+  pub reply-is : r ≡ cond (isImage l) 0 1
+  pub image-is : m ≡ cond (isImage l) (imageOf s) l
+
+abbrev pub Initialized : List ℕ → ℕ → List ℕ → Type 0
+Initialized l r m = Encoded fresh l r m
 
 pub record Stepped (l : List ℕ) (w : Window) (op x y z r : ℕ) (m : List ℕ) (v : Window) : Type 0 where
   pub reply-is : r ≡ cond (isImage l) (numberOf (replyOf (stepOf w (stateOf l) op x y z .reply))) 1
@@ -35,6 +43,10 @@ pub record SteppedState (w : Window) (s : State) (op x y z r : ℕ) (t : State) 
   pub reply-is : r ≡ numberOf (replyOf (stepOf w s op x y z .reply))
   pub state-is : t ≡ stepOf w s op x y z .state
   pub window-is : v ≡ stepOf w s op x y z .memory
+
+pub record RaisedState (s : State) (f op x y z u v r : ℕ) (t : State) : Type 0 where
+  pub reply-is : r ≡ numberOf (replyOf (exceptionOf s f op x y z u v .reply))
+  pub state-is : t ≡ exceptionOf s f op x y z u v .state
 
 pub record ContextAt (w : Window) (p r start length : ℕ) : Type 0 where
   pub reply-is : r ≡ readContext w p .reply

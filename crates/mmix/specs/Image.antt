@@ -1,12 +1,10 @@
 -- 01, 'Host': "a state image of 291 octabytes (general, special, PC, halt code, marks)", high byte first.
 use Prim.Native.Nat.{ℕ, zero, suc, _+_, _<_}
 use mathlib.Core.Path.{_≡_}
-use mathlib.Core.Bool.{cond}
 use mathlib.Core.List.{List, [], _∷_, _++_}
-use lib.Dec.{eqb}
 use lib.ListN.{length, getD}
 use Rattle.model.specs.Octa.{part, valueOf, bytesOf}
-use Rattle.model.specs.Registers.{fresh, Sized, Words}
+use Rattle.model.specs.Registers.{Sized, Words}
 use Rattle.model.specs.declared.State.{State}
 
 abbrev pub imageLength : ℕ
@@ -35,13 +33,6 @@ stateOf l = record {
   halt = valueOf 0 (part l 2312 8);
   marks = valueOf 0 (part l 2320 8);
 }
-
--- an image of another length has no state: decoding gives the fresh one, encoding leaves it as it was
-unfoldable pub decoded : List ℕ → State
-decoded l = cond (eqb (length l) imageLength) (stateOf l) fresh
-
-unfoldable pub encoded : List ℕ → State → List ℕ
-encoded l s = cond (eqb (length l) imageLength) (imageOf s) l
 
 -- both round trips
 pub record RoundTrips : Type 0 where

@@ -4,11 +4,18 @@ ghost use Prim.Native.Nat.{_+_, _*_, _≤_, _<_};
 ghost use lib.ListN.{length, getD};
 ghost use Rattle.model.specs.Octa.{part, written, valueOf, bytesOf};
 ghost use Rattle.model.specs.Parts.{made};
-ghost use Rattle.mmix.specs.Image.{flat, octas, decoded, encoded};
+ghost use Rattle.mmix.specs.Image.{flat, octas, imageOf, stateOf};
+ghost use Rattle.mmix.specs.Entries.{Decoded, Encoded};
 use model::State;
 
 /// Bytes of an image.
 pub const IMAGE_LEN: usize = 2328;
+
+/// A reply's number, and the state that it leaves.
+pub struct Answer {
+    pub reply: u64,
+    pub state: State,
+}
 
 /// What a state has beside its registers.
 pub struct Rest {
@@ -91,7 +98,7 @@ fn store_all(image: &mut [u8], at: usize, values: &[u64])
 // The registers of an image go to the arrays; the rest is the answer.
 pub(crate) fn load_state(image: &[u8], general: &mut [u64; 256], special: &mut [u64; 32]) -> Rest
     requires { ⌜ length (now image) ≡ 2328 ⌝ }
-    ensures { λ r. ⌜ made (now (general .exit)) (now (special .exit)) (r .pc) (r .halt) (r .marks) ≡ decoded (now (image .entry)) ⌝ }
+    ensures { λ r. ⌜ made (now (general .exit)) (now (special .exit)) (r .pc) (r .halt) (r .marks) ≡ stateOf (now (image .entry)) ⌝ }
 {
     load_all(image, 0, general);
     load_all(image, 2048, special);
@@ -104,7 +111,7 @@ pub(crate) fn load_state(image: &[u8], general: &mut [u64; 256], special: &mut [
 // The image becomes that of a state in parts.
 pub(crate) fn store_state(image: &mut [u8], general: &[u64; 256], special: &[u64; 32], rest: Rest)
     requires { ⌜ length (now image) ≡ 2328 ⌝ }
-    ensures { λ _. ⌜ now (image .exit) ≡ encoded (now (image .entry)) (made (now (general .entry)) (now (special .entry)) (rest .pc) (rest .halt) (rest .marks)) ⌝ }
+    ensures { λ _. ⌜ now (image .exit) ≡ imageOf (made (now (general .entry)) (now (special .entry)) (rest .pc) (rest .halt) (rest .marks)) ⌝ }
 {
     store_all(&mut *image, 0, general);
     store_all(&mut *image, 2048, special);
@@ -112,31 +119,38 @@ pub(crate) fn store_state(image: &mut [u8], general: &[u64; 256], special: &[u64
     store_all(&mut *image, 2304, &numbers);
 }
 
-/// The state of an image; of one that is not 2,328 bytes long, the fresh state.
-pub fn decode(image: &[u8]) -> State
-    ensures { λ r. ⌜ r ≡ decoded (now (image .entry)) ⌝ }
+/// The state of an image, and 0; 1 where it is not 2,328 bytes long, and then the state that was given.
+pub fn decode(image: &[u8], state: State) -> Answer
+    ensures { λ r. ⌜ Decoded (now (image .entry)) state (r .reply) (r .state) ⌝ }
 {
     if image.len() != IMAGE_LEN {
-        return State::initialize();
+        return Answer {
+            reply: 1,
+            state: state,
+        };
     }
     let mut general = [0u64; 256];
     let mut special = [0u64; 32];
     let rest = load_state(image, &mut general, &mut special);
-    State {
+    let found = State {
         general: general,
         special: special,
         pc: rest.pc,
         halt: rest.halt,
         marks: rest.marks,
+    };
+    Answer {
+        reply: 0,
+        state: found,
     }
 }
 
-/// The image becomes that of the state; one that is not 2,328 bytes long is left as it was.
-pub fn encode(image: &mut [u8], state: State)
-    ensures { λ _. ⌜ now (image .exit) ≡ encoded (now (image .entry)) state ⌝ }
+/// The image becomes that of the state; 1 where it is not 2,328 bytes long, and then it is left as it was.
+pub fn encode(state: State, image: &mut [u8]) -> u64
+    ensures { λ r. ⌜ Encoded state (now (image .entry)) r (now (image .exit)) ⌝ }
 {
     if image.len() != IMAGE_LEN {
-        return;
+        return 1;
     }
     let general = state.general;
     let special = state.special;
@@ -146,4 +160,5 @@ pub fn encode(image: &mut [u8], state: State)
         marks: state.marks,
     };
     store_state(&mut *image, &general, &special, rest);
+    0
 }

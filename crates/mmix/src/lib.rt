@@ -1,30 +1,39 @@
 //! The C library: what a relay host calls, on numbers and byte slices. 0 is done; 1 to 20 are the refusals.
 
 ghost use Rattle.model.specs.Parts.{made, lent};
-ghost use Rattle.mmix.specs.Entries.{Initialized, Stepped, SteppedState, Raised, ContextAt};
+ghost use Rattle.mmix.specs.Entries.{Initialized, Decoded, Encoded, Stepped, SteppedState, Raised, RaisedState, ContextAt};
+use image::Answer;
 use image::IMAGE_LEN;
 use image::Rest;
 use model::State;
 
 pub mod image;
 
-/// A reply's number, and the state that it leaves.
-pub struct Answer {
-    pub reply: u64,
-    pub state: State,
-}
-
 /// The image becomes that of the fresh state; 1 where it is not 2,328 bytes long.
 #[no_mangle]
 pub extern "C" fn mmix_initialize(image: &mut [u8]) -> u64
     ensures { λ r. ⌜ Initialized (now (image .entry)) r (now (image .exit)) ⌝ }
 {
-    if image.len() != IMAGE_LEN {
-        return 1;
-    }
     let fresh = State::initialize();
-    image::encode(&mut *image, fresh);
-    0
+    image::encode(fresh, image)
+}
+
+/// The lent state becomes that of the image; 1 where the image is not 2,328 bytes long, and then the state is left as it was.
+#[no_mangle]
+pub extern "C" fn mmix_decode(image: &[u8], state: &mut State) -> u64
+    ensures { λ r. ⌜ Decoded (now (image .entry)) (now (state .entry)) r (now (state .exit)) ⌝ }
+{
+    let out = image::decode(image, *state);
+    *state = out.state;
+    out.reply
+}
+
+/// The image becomes that of the lent state; 1 where it is not 2,328 bytes long, and then it is left as it was.
+#[no_mangle]
+pub extern "C" fn mmix_encode(state: &State, image: &mut [u8]) -> u64
+    ensures { λ r. ⌜ Encoded (now (state .entry)) (now (image .entry)) r (now (image .exit)) ⌝ }
+{
+    image::encode(*state, image)
 }
 
 /// One step on an image and a window.
@@ -142,12 +151,7 @@ pub extern "C" fn mmix_exceptions(
     let mut pc = rest.pc;
     let mut halt = rest.halt;
     let marks = rest.marks;
-    let reply = instruction::exceptions::raise_exceptions(
-        &mut general,
-        &mut special,
-        &mut pc,
-        &mut halt,
-        marks,
+    let reply = mmix_exceptions_parts(
         flags,
         op,
         x,
@@ -155,9 +159,14 @@ pub extern "C" fn mmix_exceptions(
         z,
         y_val,
         z_val,
+        &mut general,
+        &mut special,
+        &mut pc,
+        &mut halt,
+        marks,
     );
     image::store_state(&mut *image, &general, &special, Rest { pc, halt, marks });
-    instruction::value::number_of(reply)
+    reply
 }
 
 /// One step in place on the parts of a state, for a host that steps millions of times.
@@ -175,7 +184,9 @@ pub extern "C" fn mmix_step_parts(
     marks: u64,
     window: &mut [u8],
 ) -> u64
-    ensures { λ r. ⌜ SteppedState (lent base (now (window .entry))) (made (now (general .entry)) (now (special .entry)) (now (pc .entry)) (now (halt .entry)) marks) op x y z r (made (now (general .exit)) (now (special .exit)) (now (pc .exit)) (now (halt .exit)) marks) (lent base (now (window .exit))) ⌝ }
+    ensures { λ r. ⌜ SteppedState (lent base (now (window .entry)))
+        (made (now (general .entry)) (now (special .entry)) (now (pc .entry)) (now (halt .entry)) marks) op x y z r
+        (made (now (general .exit)) (now (special .exit)) (now (pc .exit)) (now (halt .exit)) marks) (lent base (now (window .exit))) ⌝ }
 {
     let reply = instruction::step::step(
         general,
@@ -189,6 +200,43 @@ pub extern "C" fn mmix_step_parts(
         x,
         y,
         z,
+    );
+    instruction::value::number_of(reply)
+}
+
+/// One exception in place on the parts of a state.
+#[no_mangle]
+pub extern "C" fn mmix_exceptions_parts(
+    flags: u8,
+    op: u8,
+    x: u8,
+    y: u8,
+    z: u8,
+    y_val: u64,
+    z_val: u64,
+    general: &mut [u64; 256],
+    special: &mut [u64; 32],
+    pc: &mut u64,
+    halt: &mut u64,
+    marks: u64,
+) -> u64
+    ensures { λ r. ⌜ RaisedState
+        (made (now (general .entry)) (now (special .entry)) (now (pc .entry)) (now (halt .entry)) marks) flags op x y z «y_val» «z_val» r
+        (made (now (general .exit)) (now (special .exit)) (now (pc .exit)) (now (halt .exit)) marks) ⌝ }
+{
+    let reply = instruction::exceptions::raise_exceptions(
+        general,
+        special,
+        pc,
+        halt,
+        marks,
+        flags,
+        op,
+        x,
+        y,
+        z,
+        y_val,
+        z_val,
     );
     instruction::value::number_of(reply)
 }

@@ -114,12 +114,21 @@ impl Subject for Nothing {
     fn step_parts(&self, _: u64, _: Instruction, _: Parts, _: &mut [u8]) -> u64 {
         0
     }
+    fn exceptions_parts(&self, _: u8, _: Instruction, _: u64, _: u64, _: Parts) -> u64 {
+        0
+    }
+    fn decode(&self, _: &[u8], _: &mut State) -> u64 {
+        0
+    }
+    fn encode(&self, _: &State, _: &mut [u8]) -> u64 {
+        0
+    }
 }
 
 type Entry = fn(&dyn Subject, &mut Lent);
 
 /// The entries by name; each takes the cases that are its own.
-const ENTRIES: [(&str, Entry); 6] = [
+const ENTRIES: [(&str, Entry); 9] = [
     ("mmix_initialize", |subject, lent| {
         if let Call::Initialize = lent.case.call {
             subject.initialize(&mut lent.image);
@@ -152,6 +161,17 @@ const ENTRIES: [(&str, Entry); 6] = [
             subject.step_parts(lent.case.base, i, (&mut lent.state).into(), &mut lent.window);
         }
     }),
+    ("mmix_exceptions_parts", |subject, lent| {
+        if let Call::Exceptions { flags, of, y_val, z_val } = lent.case.call {
+            subject.exceptions_parts(flags, of, y_val, z_val, (&mut lent.state).into());
+        }
+    }),
+    ("mmix_decode", |subject, lent| {
+        subject.decode(&lent.image, &mut lent.state);
+    }),
+    ("mmix_encode", |subject, lent| {
+        subject.encode(&lent.state, &mut lent.image);
+    }),
 ];
 
 /// The depth of each entry over one batch of rounds, the harness's own taken off.
@@ -181,6 +201,6 @@ fn main() -> ExitCode {
         most.iter_mut().zip(depths).for_each(|(most, depth)| *most = depth.max(*most));
     }
     println!("bytes of stack, {} cases, seed {seed}; subject: {}", batches * BATCH * ROUND, chosen().name());
-    ENTRIES.iter().zip(&most).for_each(|((name, _), most)| println!("{name:<18}{most:>8}"));
+    ENTRIES.iter().zip(&most).for_each(|((name, _), most)| println!("{name:<22}{most:>8}"));
     if most.iter().all(|most| *most <= MOST) { ExitCode::SUCCESS } else { ExitCode::FAILURE }
 }

@@ -140,13 +140,10 @@ impl Subject for Model {
         if image.len() != IMAGE_LEN {
             return 1;
         }
-        let state = State::of_image(image);
-        if !state.admissible() {
-            return 1;
-        }
-        let outcome = arms::exceptions(&state, flags, of, y_val, z_val);
-        image.copy_from_slice(&outcome.state.image());
-        outcome.reply
+        let mut state = State::of_image(image);
+        let reply = self.exceptions_parts(flags, of, y_val, z_val, (&mut state).into());
+        image.copy_from_slice(&state.image());
+        reply
     }
 
     fn context(&self, base: u64, address: u64, window: &[u8], found: Found) -> u64 {
@@ -177,6 +174,33 @@ impl Subject for Model {
         let reply = self.step_lent(base, i, &mut state, window);
         (*general, *special, *pc, *halt) = (state.general, state.special, state.pc, state.halt);
         reply
+    }
+
+    fn exceptions_parts(&self, flags: u8, of: Instruction, y_val: u64, z_val: u64, parts: Parts) -> u64 {
+        let Parts { general, special, pc, halt, marks } = parts;
+        let state = State { general: *general, special: *special, pc: *pc, halt: *halt, marks };
+        if !state.admissible() {
+            return 1;
+        }
+        let Outcome { reply, state, .. } = arms::exceptions(&state, flags, of, y_val, z_val);
+        (*general, *special, *pc, *halt) = (state.general, state.special, state.pc, state.halt);
+        reply
+    }
+
+    fn decode(&self, image: &[u8], state: &mut State) -> u64 {
+        if image.len() != IMAGE_LEN {
+            return 1;
+        }
+        *state = State::of_image(image);
+        0
+    }
+
+    fn encode(&self, state: &State, image: &mut [u8]) -> u64 {
+        if image.len() != IMAGE_LEN {
+            return 1;
+        }
+        image.copy_from_slice(&state.image());
+        0
     }
 }
 

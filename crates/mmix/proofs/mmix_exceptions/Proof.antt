@@ -11,24 +11,21 @@ returns c = raised-else _ (λ e. omega arith) _ _ _ _ _ _ _
 load-state-requires : tie.Need-load-state-requires
 load-state-requires c κs = search needs
 
-raise-exceptions-requires : tie.Need-raise-exceptions-requires
-raise-exceptions-requires c κs = search needs
+mmix-exceptions-parts-requires : tie.Need-mmix-exceptions-parts-requires
+mmix-exceptions-parts-requires c κs = search needs
 
 store-state-requires : tie.Need-store-state-requires
 store-state-requires c κs = search needs
-
-number-of-requires : tie.Need-number-of-requires
-number-of-requires c κs = search needs
 
 same-length : tie.Need-same-length
 same-length c = search needs
 
 returns-2 : tie.Need-returns-2
 returns-2 c =
-    let storing = c .before .before .before in
+    let storing = c .before .before in
     let raising = storing .before .before .before .before in
     let loading = raising .before .before .before .before .before in
-    raised (loading .before .before .before .before .before .before .args .image .now) (omega arith) _ _ _ _ _ _ _ _ (loading .load-state .ensures) _ _ (raising .raise-exceptions .ensures) _ (storing .store-state .ensures) _ (c .number-of .ensures)
+    raised (loading .before .before .before .before .before .before .args .image .now) (omega arith) _ _ _ _ _ _ _ _ (loading .load-state .ensures) _ _ (raising .mmix-exceptions-parts .ensures) _ (storing .store-state .ensures)
 
 pub mmix-exceptions-spec : {M : Type 1} → statement M
 mmix-exceptions-spec =
@@ -36,8 +33,7 @@ mmix-exceptions-spec =
     (tie.spec
     returns
     load-state-requires
-    raise-exceptions-requires
+    mmix-exceptions-parts-requires
     store-state-requires
-    number-of-requires
     same-length
     returns-2)

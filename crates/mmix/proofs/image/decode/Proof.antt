@@ -1,22 +1,18 @@
 -- `decode` meets its contract: the parts that `load_state` loads.
-use mathlib.Core.Path.{sym, _∙_}
 use native.Mathlib.Omega.{arith}
-use Rattle.mmix.proofs.Codec.{decoded-else}
+use Rattle.mmix.proofs.Entries.{decoded-else, decoded}
 use borrow.Author.Needs.{needs}
 use Rattle.mmix.proofs.image.decode.Statement.{statement}
 use Rattle.mmix.proofs.image.decode.Tie as tie
 
-initialize-requires : tie.Need-initialize-requires
-initialize-requires c κs = search needs
-
 returns : tie.Need-returns
-returns c = c .initialize .ensures ∙ sym (decoded-else _ (λ e. omega arith))
+returns c = decoded-else _ (λ e. omega arith) _
 
 load-state-requires : tie.Need-load-state-requires
 load-state-requires c κs = search needs
 
 returns-2 : tie.Need-returns-2
-returns-2 c = search needs
+returns-2 c = decoded _ (omega arith) _ _ (c .load-state .ensures)
 
 pub decode-spec : {M : Type 1} → statement M
-decode-spec = tie.close (tie.spec initialize-requires returns load-state-requires returns-2)
+decode-spec = tie.close (tie.spec returns load-state-requires returns-2)

@@ -3,7 +3,7 @@ use mathlib.Core.Path.{_≡_, ap, _∙_}
 use native.Mathlib.Omega.{arith}
 use lib.ListN.{length}
 use Rattle.mmix.specs.Image.{octas}
-use Rattle.mmix.proofs.Codec.{decoded-state}
+use Rattle.mmix.proofs.Codec.{state-loaded}
 use borrow.Author.Needs.{needs}
 use Rattle.mmix.proofs.image.load_state.Statement.{statement}
 use Rattle.mmix.proofs.image.load_state.Tie as tie
@@ -30,7 +30,7 @@ returns c =
     let image = start .args .image .now in
     let n : length (start .args .general .now) ≡ 256 = omega arith in
     let m : length (start .args .special .now) ≡ 32 = omega arith in
-    decoded-state image _ _ _ _ _ (omega arith) (second .before .before .load-all .ensures ∙ ap (octas image 0) n) (second .load-all2 .ensures ∙ ap (octas image 2048) m) (c .before .before .load .ensures) (c .before .load2 .ensures) (c .load3 .ensures)
+    state-loaded image _ _ _ _ _ (second .before .before .load-all .ensures ∙ ap (octas image 0) n) (second .load-all2 .ensures ∙ ap (octas image 2048) m) (c .before .before .load .ensures) (c .before .load2 .ensures) (c .load3 .ensures)
 
 pub load-state-spec : {M : Type 1} → statement M
 load-state-spec =

@@ -1,6 +1,6 @@
 -- `store_state` meets its contract: each part of the state is stored at its place, and together they fill the image.
 use native.Mathlib.Omega.{arith}
-use Rattle.mmix.proofs.Codec.{encoded-image}
+use Rattle.mmix.proofs.Codec.{image-stored}
 use borrow.Author.Needs.{needs}
 use Rattle.mmix.proofs.image.store_state.Statement.{statement}
 use Rattle.mmix.proofs.image.store_state.Tie as tie
@@ -26,7 +26,7 @@ returns c =
     let second = third .before .before .before .before .before in
     let first = second .before .before .before .before .before in
     let start = first .before .before .before .before in
-    encoded-image (start .args .image .now) _ _ _ _ (omega arith) (record { generals = omega arith; specials = omega arith }) (first .store-all .ensures) (second .store-all2 .ensures) (third .store-all3 .ensures)
+    image-stored (start .args .image .now) _ _ _ _ (omega arith) (record { generals = omega arith; specials = omega arith }) (first .store-all .ensures) (second .store-all2 .ensures) (third .store-all3 .ensures)
 
 pub store-state-spec : {M : Type 1} → statement M
 store-state-spec =

@@ -1,0 +1,182 @@
+-- One call of a C function on what a host holds: it is no or one step or exception on the state that is held.
+use mathlib.Core.Path.{_≡_, refl, sym, ap, subst, _∙_}
+use mathlib.Core.Logic.{_⊎_, inl, inr}
+use mathlib.Core.List.{List, [], _∷_}
+use Prim.Native.Nat.{ℕ, _≤_}
+use native.Mathlib.Omega.{arith}
+use lib.ListN.{length}
+use Rattle.model.specs.Memory.{Window, one}
+use Rattle.model.specs.Plan.{perform, worst, puts}
+use Rattle.model.specs.Lists.{stepOn, runs}
+use Rattle.model.specs.Registers.{Sized, Words}
+use Rattle.model.specs.Said.{tell}
+use Rattle.model.specs.Step.{Item, step, exception, stepOf, itemPlan, mmix}
+use Rattle.model.specs.declared.State.{State}
+use Rattle.model.proofs.Numbers.{numbered}
+use Rattle.model.proofs.Leaves.{replies-leave}
+use Rattle.mmix.specs.Image.{imageLength, imageOf, stateOf}
+use Rattle.mmix.specs.Calls.{Held, image, struct, heldState, HeldIs, HeldFits, Entry, on-image, on-lent, on-parts, decode, encode, asked, ImageCall, StateCall, AsImage, AsStruct, Meets, answered}
+use Rattle.mmix.proofs.RoundTrips.{round-trips}
+use Rattle.mmix.proofs.Entries.{if-image}
+
+-- ---- what is held
+
+-- all of it is in its state, and that is in range
+pub record Intact (g : Held) : Type 0 where
+  pub sized : Sized (heldState g)
+  pub words : Words (heldState g)
+  pub back : HeldIs g (heldState g)
+
+pub intact : (g : Held) → HeldFits g → Intact g
+unfolding HeldFits HeldIs heldState
+intact (image l) h = record {
+  sized = round-trips .state-sized l;
+  words = round-trips .state-words l (h .byte);
+  back = sym (round-trips .image-state l (h .long) (h .byte));
+}
+intact (struct s) h = record { sized = h .0; words = h .1; back = refl }
+
+long-of : (l : List ℕ) → Intact (image l) → length l ≡ imageLength
+unfolding HeldIs heldState
+long-of l h = ap length (h .back) ∙ round-trips .image-length (stateOf l) (h .sized)
+
+pub held-state : (g : Held) (s : State) → HeldIs g s → Sized s → Words s → heldState g ≡ s
+unfolding HeldIs heldState
+held-state (image l) s e z w = ap stateOf e ∙ round-trips .state-image s z w
+held-state (struct t) s e z w = e
+
+pub intact-of : (g : Held) (s : State) → HeldIs g s → Sized s → Words s → Intact g
+intact-of g s e z w =
+    let t : s ≡ heldState g = sym (held-state g s e z w) in
+    record { sized = subst Sized t z; words = subst Words t w; back = subst (HeldIs g) t e }
+
+-- ---- one step or exception
+
+-- what it leaves, as a step on the state
+pub record Left (s : State) (w : Window) (i : Item) (r : ℕ) (k : Held) (v : Window) : Type 0 where
+  pub reply-is : r ≡ stepOn one mmix s w i .reply
+  pub held-is : HeldIs k (stepOn one mmix s w i .state)
+  pub window-is : v ≡ stepOn one mmix s w i .memory
+
+pub few : (n : ℕ) → (n ≡ 0) ⊎ ((n ≡ 1) ⊎ (n ≡ 19)) → n ≤ 20
+few n (inl e) = omega arith
+few n (inr (inl e)) = omega arith
+few n (inr (inr e)) = omega arith
+
+state-left : (s : State) (w : Window) (i : Item) (r : ℕ) (t : State) (v : Window) → Sized s → StateCall s w i r t v → Left s w i r (struct t) v
+unfolding StateCall HeldIs stepOn mmix itemPlan one stepOf tell perform worst puts
+state-left s w (step op x y z) r t v n g = record {
+  reply-is = g .reply-is ∙ numbered .number-reply _ (replies-leave .by-step w s op x y z n .most);
+  held-is = g .state-is;
+  window-is = g .window-is;
+}
+state-left s w (exception f op x y z a b) r t v n g = record {
+  reply-is = g .0 .reply-is ∙ numbered .number-reply _ (few _ (replies-leave .by-exception s f op x y z a b n .among));
+  held-is = g .0 .state-is;
+  window-is = g .1;
+}
+
+-- a call on an image is one on its state
+image-state : (l : List ℕ) (w : Window) (i : Item) (r : ℕ) (m : List ℕ) (v : Window) → length l ≡ imageLength → ImageCall l w i r m v
+    → StateCall (stateOf l) w i r (stepOn one mmix (stateOf l) w i .state) v × (m ≡ imageOf (stepOn one mmix (stateOf l) w i .state))
+unfolding ImageCall StateCall stepOn mmix itemPlan one stepOf tell perform worst puts
+image-state l w (step op x y z) r m v n g = (
+  record { reply-is = g .reply-is ∙ sym (if-image l n _ _); state-is = refl; window-is = g .window-is ∙ sym (if-image l n _ _) },
+  g .image-is ∙ sym (if-image l n _ _),
+)
+image-state l w (exception f op x y z a b) r m v n g = (
+  (record { reply-is = g .0 .reply-is ∙ sym (if-image l n _ _); state-is = refl }, g .1),
+  g .0 .image-is ∙ sym (if-image l n _ _),
+)
+
+pub image-left : (l : List ℕ) (w : Window) (i : Item) (r : ℕ) (m : List ℕ) (v : Window) → length l ≡ imageLength → ImageCall l w i r m v → Left (stateOf l) w i r (image m) v
+unfolding HeldIs
+image-left l w i r m v n g =
+    let e = image-state l w i r m v n g in
+    let h = state-left (stateOf l) w i r _ v (round-trips .state-sized l) (e .0) in
+    record { reply-is = h .reply-is; held-is = e .1; window-is = h .window-is }
+
+-- ---- one call
+
+-- what it leaves, as a list of no or one item
+pub record After (s : State) (w : Window) (is : List Item) (r : ℕ) (k : Held) (v : Window) : Type 0 where
+  pub answers-are : answered is r ≡ runs one mmix s w is .answers
+  pub moved : is ≡ [] → r ≡ 0
+  pub held-is : HeldIs k (runs one mmix s w is .state)
+  pub window-is : v ≡ runs one mmix s w is .memory
+
+after-item : (s : State) (w : Window) (i : Item) (r : ℕ) (k : Held) (v : Window) → Left s w i r k v → After s w (i ∷ []) r k v
+unfolding answered runs
+after-item s w i r k v h = record {
+  answers-are = ap (λ (n : ℕ). n ∷ []) (h .reply-is);
+  moved = λ e. absurd (omega (arith, ap length e));
+  held-is = h .held-is;
+  window-is = h .window-is;
+}
+
+after-move : (s : State) (w : Window) (r : ℕ) (k : Held) (v : Window) → r ≡ 0 → HeldIs k s → v ≡ w → After s w [] r k v
+unfolding answered runs
+after-move s w r k v e h f = record { answers-are = refl; moved = λ _. e; held-is = h; window-is = f }
+
+pub after-call : (g : Held) (w : Window) (e : Entry) (r : ℕ) (k : Held) (v : Window) → Intact g → Meets g w e r k v → After (heldState g) w (asked e) r k v
+unfolding Meets AsImage AsStruct asked heldState HeldIs StateCall
+after-call (image l) w (on-image i) r (image m) v h c = after-item _ w i r _ v (image-left l w i r m v (long-of l h) c)
+after-call (image l) w (on-image i) r (struct t) v h c = absurd c
+after-call (struct s) w (on-image i) r k v h c = absurd c
+after-call (image l) w (on-lent op x y z) r k v h c = absurd c
+after-call (struct s) w (on-lent op x y z) r (image m) v h c = absurd c
+after-call (struct s) w (on-lent op x y z) r (struct t) v h c = after-item s w (step op x y z) r _ v (state-left s w (step op x y z) r t v (h .sized) c)
+after-call (image l) w (on-parts i) r k v h c = absurd c
+after-call (struct s) w (on-parts i) r (image m) v h c = absurd c
+after-call (struct s) w (on-parts i) r (struct t) v h c = after-item s w i r _ v (state-left s w i r t v (h .sized) c)
+after-call (image l) w decode r (image m) v h c = absurd (c .0)
+after-call (image l) w decode r (struct t) v h c =
+    after-move (stateOf l) w r (struct t) v (c .0 .contract .reply-is ∙ sym (if-image l (long-of l h) _ _)) (c .0 .contract .state-is ∙ sym (if-image l (long-of l h) _ _)) (c .1)
+after-call (struct s) w decode r k v h c = absurd (c .0)
+after-call (image l) w encode r k v h c = absurd (c .0)
+after-call (struct s) w encode r (struct t) v h c = absurd (c .0)
+after-call (struct s) w encode r (image m) v h c =
+    let n : length (c .0 .before) ≡ imageLength = c .0 .long in
+    after-move s w r (image m) v (c .0 .contract .reply-is ∙ sym (if-image (c .0 .before) n _ _)) (c .0 .contract .image-is ∙ sym (if-image (c .0 .before) n _ _)) (c .1)
+
+-- what is held after it: 0 for an image, 1 for a struct
+unfoldable pub form : Held → ℕ
+form (image l) = 0
+form (struct s) = 1
+
+unfoldable pub formAfter : Entry → ℕ
+formAfter (on-image i) = 0
+formAfter (on-lent op x y z) = 1
+formAfter (on-parts i) = 1
+formAfter decode = 1
+formAfter encode = 0
+
+on-image-form : (k : Held) (P : List ℕ → Type 0) → AsImage k P → form k ≡ 0
+unfolding AsImage form
+on-image-form (image l) P h = refl
+on-image-form (struct s) P h = absurd h
+
+on-struct-form : (k : Held) (P : State → Type 0) → AsStruct k P → form k ≡ 1
+unfolding AsStruct form
+on-struct-form (image l) P h = absurd h
+on-struct-form (struct s) P h = refl
+
+pub form-after : (g : Held) (w : Window) (e : Entry) (r : ℕ) (k : Held) (v : Window) → Meets g w e r k v → form k ≡ formAfter e
+unfolding Meets AsImage AsStruct formAfter
+form-after (image l) w (on-image i) r k v c = on-image-form k _ c
+form-after (struct s) w (on-image i) r k v c = absurd c
+form-after (image l) w (on-lent op x y z) r k v c = absurd c
+form-after (struct s) w (on-lent op x y z) r k v c = on-struct-form k _ c
+form-after (image l) w (on-parts i) r k v c = absurd c
+form-after (struct s) w (on-parts i) r k v c = on-struct-form k _ c
+form-after (image l) w decode r k v c = on-struct-form k _ (c .0)
+form-after (struct s) w decode r k v c = absurd (c .0)
+form-after (image l) w encode r k v c = absurd (c .0)
+form-after (struct s) w encode r k v c = on-image-form k _ (c .0)
+
+pub same-held : (g k : Held) (s : State) → HeldIs g s → HeldIs k s → form g ≡ form k → g ≡ k
+unfolding HeldIs form
+same-held (image l) (image m) s e f h = ap image (e ∙ sym f)
+same-held (image l) (struct t) s e f h = absurd (omega arith)
+same-held (struct s) (image m) u e f h = absurd (omega arith)
+same-held (struct s) (struct t) u e f h = ap struct (e ∙ sym f)

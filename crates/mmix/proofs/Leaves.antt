@@ -1,0 +1,159 @@
+-- What each number leaves of an image's bytes, and of a struct.
+use mathlib.Core.Path.{_≡_, refl, sym, ap, subst, _∙_}
+use mathlib.Core.Logic.{_⊎_, inl, inr}
+use mathlib.Core.List.{List, [], _∷_}
+use Prim.Native.Nat.{ℕ, _*_, _<_}
+use native.Mathlib.Omega.{arith}
+use mathlib.Core.Bool.{Bool, true, false}
+use borrow.Author.Tests.{eqb-true, eqb-false}
+use lib.ListN.{length, getD}
+use Rattle.model.specs.Octa.{written, bytesOf}
+use Rattle.model.specs.Memory.{Window, one}
+use Rattle.model.specs.Plan.{Outcome, perform, worst, puts}
+use Rattle.model.specs.Lists.{stepOn}
+use Rattle.model.specs.Said.{Said, say, tell}
+use Rattle.model.specs.Step.{step, exception, stepOf, exceptionOf, itemPlan, mmix}
+use Rattle.model.specs.Registers.{rB, rBB, rA, rW, rX, rY, rZ, rWW, rXX, rYY, rZZ, sp, reg, Sized}
+use Rattle.model.specs.Trips.{withAdded, wordOf}
+use Rattle.model.specs.Leaves.{Interrupted, StepLeaves, ExceptionLeaves}
+use Rattle.model.proofs.Leaves.{replies-leave}
+use Rattle.model.proofs.Kept.{items-keep}
+use Rattle.model.proofs.Numbers.{numbered}
+use Rattle.model.specs.declared.State.{State}
+use Rattle.mmix.specs.Image.{imageLength, imageOf, stateOf}
+use Rattle.mmix.specs.Entries.{isImage, Stepped, Raised, SteppedState, RaisedState}
+use Rattle.mmix.specs.Leaves.{replaced, atSpecial, atHalt, haltBytes, tripOctas, trapOctas, StepCallLeaves, ExceptionCallLeaves, CallsLeave}
+use Rattle.mmix.specs.Calls.{image, HeldIs, ImageCall}
+use Rattle.mmix.proofs.RoundTrips.{halt-bytes, round-trips}
+use Rattle.mmix.proofs.Entries.{if-other}
+use Rattle.mmix.proofs.Call.{Left, image-left, few}
+use Rattle.mmix.proofs.Writes.{halted-image, special-sized, interrupt-image, after-special}
+
+-- ---- an image
+
+module _ (l : List ℕ) (n : length l ≡ imageLength) (b : (i : ℕ) → getD l i 0 < 256) where
+  abbrev s : State
+  s = stateOf l
+
+  abbrev zs : Sized s
+  zs = round-trips .state-sized l
+
+  back : imageOf s ≡ l
+  back = round-trips .image-state l n b
+
+  halt-same : (m : List ℕ) (t : State) → m ≡ imageOf t → Sized t → t .halt ≡ s .halt → haltBytes m ≡ haltBytes l
+  halt-same m t e zt h = ap haltBytes e ∙ halt-bytes t zt ∙ ap bytesOf h ∙ sym (halt-bytes s zs) ∙ ap haltBytes back
+
+  step-leaves : (w : Window) (op x y z r : ℕ) (m : List ℕ) (v : Window) → Left s w (step op x y z) r (image m) v → StepCallLeaves l w op x y z r m v
+  unfolding HeldIs stepOn mmix itemPlan one stepOf replaced
+  step-leaves w op x y z r m v g =
+      let o : Outcome State Window = stepOf w s op x y z in
+      let k : StepLeaves w s op x y z o = replies-leave .by-step w s op x y z zs in
+      let zt : Sized (o .state) = items-keep .sized w s (step op x y z) zs in
+      let e : r ≡ o .reply = g .reply-is in
+      record {
+        most = omega (arith, e, k .most);
+        one-to-six = λ p q. let h = k .one-to-six (omega (arith, e)) (omega (arith, e)) in (g .held-is ∙ ap imageOf (h .0) ∙ back, g .window-is ∙ h .1);
+        seven-to-eighteen = λ p q.
+            let h = k .seven-to-eighteen (omega (arith, e)) (omega (arith, e)) in
+            (g .held-is ∙ ap imageOf (h .0) ∙ halted-image s zs ∙ ap (λ (c : List ℕ). written c (8 * atHalt) (bytesOf 1)) back, g .window-is ∙ h .1);
+        nineteen = λ p.
+            let h = k .nineteen (sym e ∙ p) in (
+              g .held-is ∙ interrupt-image s zs rB rW rX rY rZ _ _ _ (o .state) zt (h .0) (omega arith) (omega arith) (omega arith) (omega arith) (omega arith)
+                  ∙ ap (λ (c : List ℕ). replaced c (tripOctas s (wordOf op x y z) (reg s y) (reg s z))) back,
+              g .window-is ∙ h .1,
+            );
+        twenty = λ p.
+            let h = k .twenty (sym e ∙ p) in (
+              g .held-is ∙ interrupt-image s zs rBB rWW rXX rYY rZZ _ _ _ (o .state) zt (h .0) (omega arith) (omega arith) (omega arith) (omega arith) (omega arith)
+                  ∙ ap (λ (c : List ℕ). replaced c (trapOctas s (wordOf op x y z) (reg s y) (reg s z))) back,
+              g .window-is ∙ h .1,
+            );
+        done = λ p. halt-same m (o .state) (g .held-is) zt (k .done (sym e ∙ p));
+      }
+
+  tripped-image : (f word u v : ℕ) (t : State) → Sized t → Interrupted (withAdded s f) t rB rW rX rY rZ word u v
+      → imageOf t ≡ replaced l ((atSpecial rA, sp (withAdded s f) rA) ∷ tripOctas s word u v)
+  unfolding withAdded
+  tripped-image f word u v t zt h =
+      interrupt-image (withAdded s f) (special-sized s zs rA _) rB rW rX rY rZ word u v t zt h (omega arith) (omega arith) (omega arith) (omega arith) (omega arith)
+      ∙ after-special s zs rA _ (omega arith) (λ e. omega arith) rB rW rX rY rZ word u v
+      ∙ ap (λ (c : List ℕ). replaced c ((atSpecial rA, sp (withAdded s f) rA) ∷ tripOctas s word u v)) back
+
+  exception-leaves : (w : Window) (f op x y z u v r : ℕ) (m : List ℕ) → Left s w (exception f op x y z u v) r (image m) w → ExceptionCallLeaves l f op x y z u v r m
+  unfolding HeldIs stepOn mmix itemPlan one tell perform worst puts
+  exception-leaves w f op x y z u v r m g =
+      let d : Said = exceptionOf s f op x y z u v in
+      let k : ExceptionLeaves s f op x y z u v d = replies-leave .by-exception s f op x y z u v zs in
+      let zt : Sized (d .state) = items-keep .sized w s (exception f op x y z u v) zs in
+      let e : r ≡ d .reply = g .reply-is in
+      record {
+        among = subst (λ (q : ℕ). (q ≡ 0) ⊎ ((q ≡ 1) ⊎ (q ≡ 19))) (sym e) (k .among);
+        refused = λ p. g .held-is ∙ ap imageOf (k .inadmissible (sym e ∙ p)) ∙ back;
+        nineteen = λ p. g .held-is ∙ tripped-image f (wordOf op x y z) u v (d .state) zt (k .not-loaded (sym e ∙ p));
+        done = λ p. halt-same m (d .state) (g .held-is) zt (k .done (sym e ∙ p));
+      }
+
+-- ---- the theorem
+
+other-step : (l : List ℕ) (w : Window) (op x y z r : ℕ) (m : List ℕ) (v : Window) → (length l ≡ imageLength → ⊥) → Stepped l w op x y z r m v → StepCallLeaves l w op x y z r m v
+other-step l w op x y z r m v h g =
+    let e : r ≡ 1 = g .reply-is ∙ sym (if-other l h _ _) in
+    record {
+      most = omega arith;
+      one-to-six = λ p q. (g .image-is ∙ sym (if-other l h _ _), g .window-is ∙ sym (if-other l h _ _));
+      seven-to-eighteen = λ p q. absurd (omega arith);
+      nineteen = λ p. absurd (omega arith);
+      twenty = λ p. absurd (omega arith);
+      done = λ p. absurd (omega arith);
+    }
+
+other-exception : (l : List ℕ) (f op x y z u v r : ℕ) (m : List ℕ) → (length l ≡ imageLength → ⊥) → Raised l f op x y z u v r m → ExceptionCallLeaves l f op x y z u v r m
+other-exception l f op x y z u v r m h g =
+    let e : r ≡ 1 = g .reply-is ∙ sym (if-other l h _ _) in
+    record {
+      among = inr (inl e);
+      refused = λ p. g .image-is ∙ sym (if-other l h _ _);
+      nineteen = λ p. absurd (omega arith);
+      done = λ p. absurd (omega arith);
+    }
+
+by-step : (l : List ℕ) (w : Window) (op x y z r : ℕ) (m : List ℕ) (v : Window) → ((i : ℕ) → getD l i 0 < 256)
+    → Stepped l w op x y z r m v → StepCallLeaves l w op x y z r m v
+unfolding ImageCall
+by-step l w op x y z r m v b g = go (isImage l) refl
+  where
+    go : (t : Bool) → isImage l ≡ t → StepCallLeaves l w op x y z r m v
+    go true e =
+        let n : length l ≡ imageLength = eqb-true (length l) imageLength e in
+        step-leaves l n b w op x y z r m v (image-left l w (step op x y z) r m v n g)
+    go false e = other-step l w op x y z r m v (eqb-false (length l) imageLength e) g
+
+by-exception : (l : List ℕ) (f op x y z u v r : ℕ) (m : List ℕ) → ((i : ℕ) → getD l i 0 < 256)
+    → Raised l f op x y z u v r m → ExceptionCallLeaves l f op x y z u v r m
+unfolding ImageCall
+by-exception l f op x y z u v r m b g = go (isImage l) refl
+  where
+    no-window : Window
+    no-window = record { base = 0; bytes = [] }
+
+    go : (t : Bool) → isImage l ≡ t → ExceptionCallLeaves l f op x y z u v r m
+    go true e =
+        let n : length l ≡ imageLength = eqb-true (length l) imageLength e in
+        exception-leaves l n b no-window f op x y z u v r m (image-left l no-window (exception f op x y z u v) r m no-window n (g, refl))
+    go false e = other-exception l f op x y z u v r m (eqb-false (length l) imageLength e) g
+
+by-state-step : (w : Window) (s : State) (op x y z r : ℕ) (t : State) (v : Window) → Sized s → SteppedState w s op x y z r t v
+    → StepLeaves w s op x y z (record { reply = r; state = t; memory = v })
+by-state-step w s op x y z r t v h g =
+    let k : StepLeaves w s op x y z (stepOf w s op x y z) = replies-leave .by-step w s op x y z h in
+    subst (StepLeaves w s op x y z) (sym (λ i. record { reply = (g .reply-is ∙ numbered .number-reply _ (k .most)) i; state = g .state-is i; memory = g .window-is i })) k
+
+by-state-exception : (s : State) (f op x y z u v r : ℕ) (t : State) → Sized s → RaisedState s f op x y z u v r t
+    → ExceptionLeaves s f op x y z u v (say r t)
+by-state-exception s f op x y z u v r t h g =
+    let k : ExceptionLeaves s f op x y z u v (exceptionOf s f op x y z u v) = replies-leave .by-exception s f op x y z u v h in
+    subst (ExceptionLeaves s f op x y z u v) (sym (λ i. record { reply = (g .reply-is ∙ numbered .number-reply _ (few _ (k .among))) i; state = g .state-is i })) k
+
+pub calls-leave : CallsLeave
+calls-leave = record { by-step = by-step; by-exception = by-exception; by-state-step = by-state-step; by-state-exception = by-state-exception }

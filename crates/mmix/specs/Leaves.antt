@@ -1,0 +1,71 @@
+-- Which numbers the functions that step return, and what each leaves, of an image every byte: 01, 'Replies', column 'left'. It is said of any
+-- call that meets its contract, on an image of any length.
+use Prim.Native.Nat.{ℕ, _+_, _*_, _≤_, _<_}
+use mathlib.Core.Path.{_≡_}
+use mathlib.Core.Logic.{_⊎_}
+use mathlib.Core.List.{List, [], _∷_}
+use lib.ListN.{getD}
+use Rattle.model.specs.Octa.{part, written, bytesOf}
+use Rattle.model.specs.Memory.{Window}
+use Rattle.model.specs.Registers.{rB, rJ, rBB, rA, rW, rX, rY, rZ, rWW, rXX, rYY, rZZ, sp, reg, following, Sized}
+use Rattle.model.specs.Said.{say}
+use Rattle.model.specs.Trips.{wordOf, withAdded}
+use Rattle.model.specs.Leaves.{StepLeaves, ExceptionLeaves}
+use Rattle.model.specs.declared.State.{State}
+use Rattle.mmix.specs.Image.{stateOf}
+use Rattle.mmix.specs.Entries.{Stepped, Raised, SteppedState, RaisedState}
+
+-- the image with octabytes replaced, one after another: by its number among the 291, and what it becomes
+unfoldable pub replaced : List ℕ → List (ℕ × ℕ) → List ℕ
+replaced l [] = l
+replaced l (p ∷ ps) = replaced (written l (8 * p .0) (bytesOf (p .1))) ps
+
+-- their numbers: $k is octabyte k
+abbrev pub atSpecial : ℕ → ℕ
+atSpecial k = 256 + k
+
+abbrev pub atHalt : ℕ
+atHalt = 289
+
+-- the eight bytes of the halt code
+abbrev pub haltBytes : List ℕ → List ℕ
+haltBytes l = part l 2312 8
+
+-- 19, 20: $255, the trip or trap registers under the numbers b, w, x, y, z, and halt code 1, from the state s
+abbrev pub interruptOctas : State → ℕ → ℕ → ℕ → ℕ → ℕ → ℕ → ℕ → ℕ → List (ℕ × ℕ)
+interruptOctas s b w x y z word u v =
+    (255, sp s rJ) ∷ (atSpecial b, reg s 255) ∷ (atSpecial w, following s) ∷ (atSpecial x, word) ∷ (atSpecial y, u) ∷ (atSpecial z, v) ∷ (atHalt, 1) ∷ []
+
+abbrev pub tripOctas : State → ℕ → ℕ → ℕ → List (ℕ × ℕ)
+tripOctas s word u v = interruptOctas s rB rW rX rY rZ word u v
+
+abbrev pub trapOctas : State → ℕ → ℕ → ℕ → List (ℕ × ℕ)
+trapOctas s word u v = interruptOctas s rBB rWW rXX rYY rZZ word u v
+
+-- what mmix_step leaves
+pub record StepCallLeaves (l : List ℕ) (w : Window) (op x y z r : ℕ) (m : List ℕ) (v : Window) : Type 0 where
+  pub most : r ≤ 20
+  pub one-to-six : 1 ≤ r → r ≤ 6 → (m ≡ l) × (v ≡ w)
+  pub seven-to-eighteen : 7 ≤ r → r ≤ 18 → (m ≡ replaced l ((atHalt, 1) ∷ [])) × (v ≡ w)
+  pub nineteen : r ≡ 19 → (m ≡ replaced l (tripOctas (stateOf l) (wordOf op x y z) (reg (stateOf l) y) (reg (stateOf l) z))) × (v ≡ w)
+  pub twenty : r ≡ 20 → (m ≡ replaced l (trapOctas (stateOf l) (wordOf op x y z) (reg (stateOf l) y) (reg (stateOf l) z))) × (v ≡ w)
+  pub done : r ≡ 0 → haltBytes m ≡ haltBytes l
+
+-- what mmix_exceptions leaves; with 19, rA's additions too
+pub record ExceptionCallLeaves (l : List ℕ) (f op x y z u v r : ℕ) (m : List ℕ) : Type 0 where
+  pub among : (r ≡ 0) ⊎ ((r ≡ 1) ⊎ (r ≡ 19))
+  pub refused : r ≡ 1 → m ≡ l
+  pub nineteen : r ≡ 19 → m ≡ replaced l ((atSpecial rA, sp (withAdded (stateOf l) f) rA) ∷ tripOctas (stateOf l) (wordOf op x y z) u v)
+  pub done : r ≡ 0 → haltBytes m ≡ haltBytes l
+
+-- THEOREM
+pub record CallsLeave : Type 0 where
+  pub by-step : (l : List ℕ) (w : Window) (op x y z r : ℕ) (m : List ℕ) (v : Window) → ((i : ℕ) → getD l i 0 < 256)
+      → Stepped l w op x y z r m v → StepCallLeaves l w op x y z r m v
+  pub by-exception : (l : List ℕ) (f op x y z u v r : ℕ) (m : List ℕ) → ((i : ℕ) → getD l i 0 < 256)
+      → Raised l f op x y z u v r m → ExceptionCallLeaves l f op x y z u v r m
+  -- on a struct or its parts: what model's `RepliesLeave` says
+  pub by-state-step : (w : Window) (s : State) (op x y z r : ℕ) (t : State) (v : Window) → Sized s
+      → SteppedState w s op x y z r t v → StepLeaves w s op x y z (record { reply = r; state = t; memory = v })
+  pub by-state-exception : (s : State) (f op x y z u v r : ℕ) (t : State) → Sized s
+      → RaisedState s f op x y z u v r t → ExceptionLeaves s f op x y z u v (say r t)
