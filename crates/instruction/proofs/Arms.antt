@@ -5,7 +5,7 @@ use Prim.Native.Nat.{ℕ, _+_, _*_, _%_, _^_, _≤_, _<_}
 use native.Mathlib.Omega.{arith}
 use native.Mathlib.Decide.{ℕ-discrete}
 use borrow.Author.Tests.{le-leb, eq-eqb, ne-eqb}
-use Rattle.model.specs.Memory.{Window, shapeOf, ruled}
+use Rattle.model.specs.Memory.{Windows, shapesOf, ruled}
 use Rattle.model.specs.Plan.{Plan}
 use Rattle.model.specs.Registers.{rJ, sp, reg, admissible, following, goes, next, setRegister}
 use Rattle.model.specs.Opcodes.{Arm, branch, jump, getAddress, go, pushJump, pushGo, pop, register, immediate, wayOf, conditionOf, armOf}
@@ -43,7 +43,7 @@ module _ (s : State) (op x y z n : ℕ) (b : Bool) (e : b ≡ holds (conditionOf
   branch-not h q = ap (goes s) q ∙ sym (ap (λ (t : Bool). cond t (goes s (near s (wayOf op) y z)) (next s)) (sym e ∙ h))
 
 -- a call of n is a call of what n is equal to
-pub push-at : (w : Window) (s : State) (x n m : ℕ) (k : Reply) (t : State) (v : Window) → n ≡ m
+pub push-at : (w : Windows) (s : State) (x n m : ℕ) (k : Reply) (t : State) (v : Windows) → n ≡ m
     → Whole (guardedOn w s (pushFrame s (hole s x) n)) k t v → Whole (guardedOn w s (pushFrame s (hole s x) m)) k t v
 push-at w s x n m k t v e h = rw e at h
 
@@ -87,7 +87,7 @@ module _ (op : ℕ) where
 
 -- ---- the step
 
-module _ (w : Window) (s : State) (a : admissible s ≡ true) (r : ruled (shapeOf w) ≡ true) (op x y z : ℕ) where
+module _ (w : Windows) (s : State) (a : admissible s ≡ true) (r : ruled (shapesOf w) ≡ true) (op x y z : ℕ) where
   -- an arm that touches no memory, and one that the stack works on
   module _ (m : Arm) (e : armOf op ≡ m) (f : refusalOf m x y z ≡ 0) where
     pub told-step : (t u : State) → planOf s m op x y z ≡ tell (say 0 u) → t ≡ u → Whole (stepOf w s op x y z) Done t w
@@ -96,7 +96,7 @@ module _ (w : Window) (s : State) (a : admissible s ≡ true) (r : ruled (shapeO
         rw (step-told w s a r op x y z (say 0 u) (ap (λ (n : Arm). refusalOf n x y z) e ∙ f) (ap (λ (n : Arm). planOf s n op x y z) e ∙ p))
         (record { reply-is = refl; state-is = q; window-is = refl })
 
-    pub stack-step : (p : Plan State) (k : Reply) (t : State) (v : Window) → planOf s m op x y z ≡ p → Whole (guardedOn w s p) k t v → Whole (stepOf w s op x y z) k t v
+    pub stack-step : (p : Plan State) (k : Reply) (t : State) (v : Windows) → planOf s m op x y z ≡ p → Whole (guardedOn w s p) k t v → Whole (stepOf w s op x y z) k t v
     stack-step p k t v g h =
         rw (step-open w s op x y z a r (ap (λ (n : Arm). refusalOf n x y z) e ∙ f) ∙ ap (λ (n : Arm). performOn w s (planOf s n op x y z)) e ∙ ap (performOn w s) g)
         (rw (guarded-open w s p a r) at h)
@@ -118,7 +118,7 @@ module _ (w : Window) (s : State) (a : admissible s ≡ true) (r : ruled (shapeO
     unfolding refusalOf planOf
     step-get-address t h l q = told-step (getAddress (wayOf op)) (get-address-arm op h l) refl t _ refl q
 
-    module _ (k : Reply) (t : State) (v : Window) where
+    module _ (k : Reply) (t : State) (v : Windows) where
       pub step-push-go : 0x9F < op → op ≤ 0xBF → Whole (guardedOn w s (pushFrame s (hole s x) (sumOf s (lastOf op) y z))) k t v → Whole (stepOf w s op x y z) k t v
       unfolding refusalOf planOf
       step-push-go h l q = stack-step (pushGo (lastOf op)) (push-go-arm op (c .after-go h) l) refl _ k t v refl q

@@ -11,10 +11,10 @@ use lib.Count.{leadingZeros, leading-le, leading-top, trailingZeros, trailing-le
 use mir.Syntax.{w64}
 use mir.Val.{Fits}
 use borrow.Author.Tests.{eq-eqb, ne-eqb}
-use Rattle.model.specs.Registers.{rA, reg, withSpecial, admissible}
+use Rattle.model.specs.Registers.{withParts, rA, reg, withSpecial, admissible}
 use Rattle.model.specs.Trips.{wordOf, interrupted, tripped, trapped, tripRule, isLoaded, tripTo, trapOf, enables, added, withAdded, raised}
 use Rattle.model.specs.Step.{isNamed, exceptionOf}
-use Rattle.model.specs.Parts.{made, withParts}
+use Rattle.model.specs.Parts.{made}
 use Rattle.model.specs.Numbers.{replyOf}
 use Rattle.model.specs.declared.State.{State}
 use Rattle.model.specs.declared.Reply.{Reply}

@@ -4,7 +4,7 @@ use mathlib.Core.Bool.{true, false}
 use Prim.Native.Nat.{ℕ}
 use native.Mathlib.Omega.{arith}
 use Rattle.model.specs.Registers.{admissible}
-use Rattle.model.specs.Memory.{Window, shapeOf, ruled}
+use Rattle.model.specs.Memory.{Windows, shapesOf, ruled}
 use Rattle.model.specs.Opcodes.{none, armOf}
 use Rattle.model.specs.Numbers.{replyOf}
 use Rattle.model.specs.Step.{refusalOf, stepOf}
@@ -13,16 +13,16 @@ use Rattle.model.specs.declared.Reply.the-variants.{NotAdmissible, WindowRule, 
 use Rattle.model.proofs.Sent.{step-refused, step-inadmissible, step-unruled}
 use Rattle.instruction.specs.Whole.{Whole}
 
-module _ (w : Window) (s : State) (op x y z : ℕ) where
+module _ (w : Windows) (s : State) (op x y z : ℕ) where
   pub inadmissible-step : admissible s ≡ false → Whole (stepOf w s op x y z) NotAdmissible s w
   unfolding replyOf
   inadmissible-step a = rw (step-inadmissible w s op x y z a) (record { reply-is = refl; state-is = refl; window-is = refl })
 
-  pub unruled-step : admissible s ≡ true → ruled (shapeOf w) ≡ false → Whole (stepOf w s op x y z) WindowRule s w
+  pub unruled-step : admissible s ≡ true → ruled (shapesOf w) ≡ false → Whole (stepOf w s op x y z) WindowRule s w
   unfolding replyOf
   unruled-step a r = rw (step-unruled w s op x y z a r) (record { reply-is = refl; state-is = refl; window-is = refl })
 
-  pub no-arm-step : admissible s ≡ true → ruled (shapeOf w) ≡ true → armOf op ≡ none → Whole (stepOf w s op x y z) NoArm s w
+  pub no-arm-step : admissible s ≡ true → ruled (shapesOf w) ≡ true → armOf op ≡ none → Whole (stepOf w s op x y z) NoArm s w
   unfolding replyOf
   no-arm-step a r e = rw (step-refused w s a r op x y z 3 three (omega arith)) (record { reply-is = refl; state-is = refl; window-is = refl })
     where

@@ -1,7 +1,7 @@
 -- SAVE and UNSAVE over plain variables: the whole outcome, from what the stack gives and PC sent on where that is done.
 use mathlib.Core.Path.{_≡_, sym, ap, _∙_}
 use mathlib.Core.Bool.{Bool, true, false, cond}
-use mathlib.Core.List.{List}
+use mathlib.Core.List.{List, []}
 use Prim.Native.Nat.{ℕ, _+_, _%_, _^_, _≤_}
 use native.Mathlib.Omega.{arith}
 use lib.Dec.{ltb, eqb}
@@ -9,9 +9,9 @@ use types.Run.{OneOf, miss}
 use denote.Enum.Declared.{tagOf}
 use borrow.Author.Tests.{eq-eqb, ne-eqb}
 use Rattle.model.specs.Registers.{rG, sp, following, goes, next, halted}
-use Rattle.model.specs.Memory.{Window, shapeOf, ruled}
-use Rattle.model.specs.Plan.{Plan, Outcome}
-use Rattle.model.specs.Said.{say, tell}
+use Rattle.model.specs.Memory.{Windows, shapesOf}
+use Rattle.model.specs.Plan.{Plan, answer, Outcome}
+use Rattle.model.specs.Said.{tell}
 use Rattle.model.specs.Contexts.{saveContext, unsaved, unsaveContext}
 use Rattle.model.specs.Parts.{made}
 use Rattle.model.specs.Registers.{admissible}
@@ -19,16 +19,18 @@ use Rattle.model.specs.declared.State.{State}
 use Rattle.model.specs.declared.Reply.{Reply}
 use Rattle.model.proofs.Reply.{the-type}
 use Rattle.model.proofs.Bools.{on}
-use Rattle.model.proofs.Entry.{performOn}
+use Rattle.model.proofs.Entry.{performOn, said}
 use Rattle.model.proofs.Meets.{Answers, context-meets, perform-meets}
 use Rattle.model.proofs.Keeps.{Any}
-use Rattle.model.proofs.Sent.{told, sent, backTo, save-sent, unsave-sent}
-use Rattle.stack.specs.Gives.{guarded, guardedOn, Gives}
+use Rattle.model.proofs.Sent.{sent, backTo, save-sent, unsave-sent}
+use Rattle.model.specs.Step.{unruledBy, guarded}
+use Rattle.stack.specs.Gives.{guardedOn, Gives}
 use Rattle.instruction.specs.Whole.{Whole}
+use Rattle.instruction.proofs.Sends.{unruled-most}
 use Rattle.instruction.proofs.Tells.{refusals, tag-is}
 
 -- an outcome with one of 01's replies, and PC at @ + 4 where it is done, else as it was
-pub record Onward (o : Outcome State Window) (s : State) : Type 0 where
+pub record Onward (o : Outcome State Windows) (s : State) : Type 0 where
   pub most : o .reply ≤ 20
   pub sent-on : o ≡ sent (backTo s o) (following s)
 
@@ -37,7 +39,7 @@ pub record Onward (o : Outcome State Window) (s : State) : Type 0 where
 Most : {S : Type 0} → ℕ → S → List ℕ → Type 0
 Most r t vs = r ≤ 20
 
-performs-most : (w : Window) (s : State) (p : Plan State) → Answers Any Most p → performOn w s p .reply ≤ 20
+performs-most : (w : Windows) (s : State) (p : Plan State) → Answers Any Most p → performOn w s p .reply ≤ 20
 performs-most w s p h = perform-meets w s Any Most (λ o. o .reply ≤ 20) (omega arith) (λ r t a vs k. unfold Most in k) (λ a n. tt) p h
 
 save-most : (s : State) (x : ℕ) → Answers Any Most (saveContext s x)
@@ -49,22 +51,19 @@ unfolding unsaveContext Most
 unsave-most s p = context-meets (halted s) (λ o g a l vs. next (unsaved s o g a l vs)) p Any Most (λ n a b. omega arith) (λ o g a l vs b c d e f i. omega arith)
 
 -- 1 and 2 change nothing
-module _ (w : Window) (s : State) where
-  unchanged : (n : ℕ) → 1 ≤ n → n ≤ 2 → Onward (performOn w s (tell (say n s))) s
-  unchanged n a b = rw (told w s (say n s)) (record { most = omega arith; sent-on = state })
+module _ (w : Windows) (s : State) where
+  unchanged : (n : ℕ) → eqb n 0 ≡ false → n ≤ 20 → Onward (performOn w s (answer n s 0 [])) s
+  unchanged n z b = rw (said w s s n) (record { most = b; sent-on = state })
     where
-      no : eqb n 0 ≡ false
-      no = ne-eqb n 0 (λ q. let z : n ≡ 0 = q in omega arith)
-
       state : record { reply = n; state = s; memory = w } ≡ sent (backTo s (record { reply = n; state = s; memory = w })) (following s)
-      state = unfold sent backTo goes in (rw no)
+      state = unfold sent backTo goes in (rw z)
 
   guarded-onward : (p : Plan State) → Onward (performOn w s p) s → Onward (guardedOn w s p) s
   unfolding guardedOn guarded
   guarded-onward p h =
       on (λ (q : Plan State). Onward (performOn w s q) s) (admissible s)
-      (λ e. on (λ (q : Plan State). Onward (performOn w s q) s) (ruled (shapeOf w)) (λ f. h) (λ f. unchanged 2 (omega arith) (omega arith)))
-      (λ e. unchanged 1 (omega arith) (omega arith))
+      (λ e. on (λ (q : Plan State). Onward (performOn w s q) s) (eqb (unruledBy (shapesOf w)) 0) (λ f. h) (λ f. unchanged (unruledBy (shapesOf w)) f (unruled-most (shapesOf w))))
+      (λ e. unchanged 1 refl (omega arith))
 
   pub save-onward : (x : ℕ) → Onward (guardedOn w s (saveContext s x)) s
   save-onward x = guarded-onward _ (record { most = performs-most w s _ (save-most s x); sent-on = save-sent w s x })
@@ -74,13 +73,13 @@ module _ (w : Window) (s : State) where
 
 -- ---- the two ways out
 
-module _ (o : Outcome State Window) (s : State) (h : Onward o s) (r : Reply) (g l : List ℕ) (k : ℕ) (v : Window)
+module _ (o : Outcome State Windows) (s : State) (h : Onward o s) (r : Reply) (g l : List ℕ) (k : ℕ) (v : Windows)
     (e : Gives o s r (made g l (s .pc) k (s .marks)) v) where
   number : tagOf the-type r ≡ o .reply
   number = tag-is (o .reply) r (h .most) (e .reply-is)
 
   state-at : (b : Bool) → eqb (o .reply) 0 ≡ b → o .state ≡ cond b (goes (goes (o .state) (s .pc)) (following s)) (goes (o .state) (s .pc))
-  state-at b q = ap (λ (p : Outcome State Window). p .state) (h .sent-on) ∙ (unfold sent backTo in ap (λ (t : Bool). cond t (goes (goes (o .state) (s .pc)) (following s)) (goes (o .state) (s .pc))) q)
+  state-at b q = ap (λ (p : Outcome State Windows). p .state) (h .sent-on) ∙ (unfold sent backTo in ap (λ (t : Bool). cond t (goes (goes (o .state) (s .pc)) (following s)) (goes (o .state) (s .pc))) q)
 
   pub onward-done : (n : ℕ) → tagOf the-type r ≡ 0 → n ≡ (s .pc + 4) % 2 ^ 64 → Whole o r (made g l n k (s .marks)) v
   onward-done n z q = record { reply-is = e .reply-is; state-is = state; window-is = e .window-is }

@@ -8,10 +8,10 @@ use lib.Dec.{eqb}
 use types.Run.{OneOf, miss}
 use denote.Enum.Declared.{tagOf}
 use borrow.Author.Tests.{ne-eqb}
-use Rattle.model.specs.Memory.{Window, shapeOf, ruled}
-use Rattle.model.specs.Plan.{Plan, Outcome, puts}
+use Rattle.model.specs.Memory.{Windows, Shapes, shapesOf, ruled}
+use Rattle.model.specs.Plan.{Plan, answer, Outcome, puts}
 use Rattle.model.specs.Registers.{admissible, goes, halted}
-use Rattle.model.specs.Said.{say, tell}
+use Rattle.model.specs.Said.{tell}
 use Rattle.model.specs.Frames.{hole, pushFrame, popTo, popRule, noFrame, misplaced, popFrame}
 use Rattle.model.specs.Numbers.{replyOf}
 use Rattle.model.specs.declared.State.{State}
@@ -19,11 +19,12 @@ use Rattle.model.specs.declared.Reply.{Reply}
 use Rattle.model.specs.declared.Reply.the-variants as reply
 use Rattle.model.proofs.Reply.{the-type}
 use Rattle.model.proofs.Bools.{on, on-both}
-use Rattle.model.proofs.Entry.{performOn}
+use Rattle.model.specs.Step.{unruledBy, guarded}
+use Rattle.model.proofs.Entry.{performOn, said}
 use Rattle.model.proofs.Keeps.{Any}
 use Rattle.model.proofs.Meets.{Answers, perform-meets}
-use Rattle.model.proofs.Sent.{told, sent, push-sent, pop-sent}
-use Rattle.stack.specs.Gives.{guarded, guardedOn, Gives}
+use Rattle.model.proofs.Sent.{sent, push-sent, pop-sent}
+use Rattle.stack.specs.Gives.{guardedOn, Gives}
 use Rattle.stack.specs.Frame.{pushOf, popOf, returnTo, popNumber, popAnswer, PopGives}
 use Rattle.stack.specs.declared.frame.PopFrame.{PopFrame}
 use Rattle.stack.specs.declared.frame.PopFrame.the-variants.{Frame, NoFrame, Rejected, Missing, NotAdmissible, WindowRule}
@@ -32,12 +33,19 @@ use Rattle.instruction.proofs.Tells.{tag-is}
 
 -- ---- the stack's outcome, PC sent on
 
-guarded-sent : (w : Window) (s : State) (p q : Plan State) (t : ℕ) → performOn w s p ≡ sent (performOn w s q) t → guardedOn w s p ≡ sent (guardedOn w s q) t
+guarded-sent : (w : Windows) (s : State) (p q : Plan State) (t : ℕ) → performOn w s p ≡ sent (performOn w s q) t → guardedOn w s p ≡ sent (guardedOn w s q) t
 unfolding guardedOn guarded
 guarded-sent w s p q t h =
     on-both (λ (a b : Plan State). performOn w s a ≡ sent (performOn w s b) t) (admissible s)
-    (λ e. on-both (λ (a b : Plan State). performOn w s a ≡ sent (performOn w s b) t) (ruled (shapeOf w)) (λ f. h) (λ f. rw (told w s (say 2 s)) (unfold sent in refl)))
-    (λ e. rw (told w s (say 1 s)) (unfold sent in refl))
+    (λ e. on-both (λ (a b : Plan State). performOn w s a ≡ sent (performOn w s b) t) (eqb (unruledBy (shapesOf w)) 0) (λ f. h) (λ f. unruled f))
+    (λ e. rw (said w s s 1) (unfold sent in refl))
+  where
+    unruled : eqb (unruledBy (shapesOf w)) 0 ≡ false → performOn w s (answer (unruledBy (shapesOf w)) s 0 []) ≡ sent (performOn w s (answer (unruledBy (shapesOf w)) s 0 [])) t
+    unruled f = rw (said w s s (unruledBy (shapesOf w))) (unfold sent in rw f)
+
+pub unruled-most : (w : Shapes) → unruledBy w ≤ 20
+unfolding unruledBy
+unruled-most w = on (λ (n : ℕ). n ≤ 20) (ruled w) (λ e. omega arith) (λ e. omega arith)
 
 -- a number of 0 to 20; PC as it was
 Stays : State → ℕ → State → List ℕ → Type 0
@@ -47,33 +55,33 @@ Stays s r t vs = (r ≤ 20) × (t .pc ≡ s .pc)
 Reads : State → ℕ → State → List ℕ → Type 0
 Reads s r t vs = (vs ≡ []) × (t .pc ≡ s .pc)
 
-push-answers : (s : State) (w : Window) (h : ℕ) → Answers Any (Stays s) (guarded s (shapeOf w) (pushFrame s h (s .pc)))
+push-answers : (s : State) (w : Windows) (h : ℕ) → Answers Any (Stays s) (guarded s s (shapesOf w) (pushFrame s h (s .pc)))
 unfolding guarded pushFrame tell Answers Stays goes
 push-answers s w h =
-    on (Answers Any (Stays s)) (admissible s) (λ e. on (Answers Any (Stays s)) (ruled (shapeOf w)) (λ f. (omega arith, refl)) (λ f. (omega arith, refl))) (λ e. (omega arith, refl))
+    on (Answers Any (Stays s)) (admissible s) (λ e. on (Answers Any (Stays s)) (eqb (unruledBy (shapesOf w)) 0) (λ f. (omega arith, refl)) (λ f. (unruled-most (shapesOf w), refl))) (λ e. (omega arith, refl))
 
-push-stays : (w : Window) (s : State) (h : ℕ) → Stays s (guardedOn w s (pushFrame s h (s .pc)) .reply) (guardedOn w s (pushFrame s h (s .pc)) .state) []
+push-stays : (w : Windows) (s : State) (h : ℕ) → Stays s (guardedOn w s (pushFrame s h (s .pc)) .reply) (guardedOn w s (pushFrame s h (s .pc)) .state) []
 unfolding guardedOn Stays
 push-stays w s h =
     perform-meets w s Any (Stays s) (λ o. Stays s (o .reply) (o .state) []) (omega arith, refl) (λ r t a vs k. k) (λ a n. tt) _ (push-answers s w h)
 
-pop-answers : (s : State) (w : Window) (x : ℕ) → Answers Any (Reads s) (guarded s (shapeOf w) (popFrame s x (s .pc)))
+pop-answers : (s : State) (w : Windows) (x : ℕ) → Answers Any (Reads s) (guarded s s (shapesOf w) (popFrame s x (s .pc)))
 unfolding guarded popFrame popRule popTo tell Answers Reads goes halted
 pop-answers s w x =
     on (Answers Any (Reads s)) (admissible s)
-    (λ e. on (Answers Any (Reads s)) (ruled (shapeOf w))
+    (λ e. on (Answers Any (Reads s)) (eqb (unruledBy (shapesOf w)) 0)
     (λ f. on (Answers Any (Reads s)) (noFrame s) (λ n. (refl, refl)) (λ n. on (Answers Any (Reads s)) (misplaced s) (λ m. (refl, refl)) (λ m. (refl, λ v i. (refl, λ ls j. (refl, refl))))))
     (λ f. (refl, refl)))
     (λ e. (refl, refl))
 
-pop-stays : (w : Window) (s : State) (x : ℕ) → (guardedOn w s (popFrame s x (s .pc)) .memory ≡ w) × (guardedOn w s (popFrame s x (s .pc)) .state .pc ≡ s .pc)
+pop-stays : (w : Windows) (s : State) (x : ℕ) → (guardedOn w s (popFrame s x (s .pc)) .memory ≡ w) × (guardedOn w s (popFrame s x (s .pc)) .state .pc ≡ s .pc)
 unfolding guardedOn Reads puts
 pop-stays w s x =
     perform-meets w s Any (Reads s) (λ o. (o .memory ≡ w) × (o .state .pc ≡ s .pc)) (refl, refl) (λ r t a vs k. (rw (k .0), k .1)) (λ a n. tt) _ (pop-answers s w x)
 
 -- ---- a reply and a state with it
 
-module _ (s : State) (o p : Outcome State Window) (target : ℕ) (r : Reply) (t : State) (v : Window)
+module _ (s : State) (o p : Outcome State Windows) (target : ℕ) (r : Reply) (t : State) (v : Windows)
     (e : p ≡ sent o target) (er : r ≡ replyOf (o .reply)) (et : t ≡ goes (o .state) (s .pc)) (ev : v ≡ o .memory) where
   sent-done : o .reply ≡ 0 → Whole p r (goes t target) v
   unfolding sent
@@ -89,7 +97,7 @@ module _ (s : State) (o p : Outcome State Window) (target : ℕ) (r : Reply) (t 
 
 -- ---- PUSH
 
-module _ (w : Window) (s : State) (x target : ℕ) (r : Reply) (t : State) (v : Window) (g : Gives (pushOf w s x) s r t v) where
+module _ (w : Windows) (s : State) (x target : ℕ) (r : Reply) (t : State) (v : Windows) (g : Gives (pushOf w s x) s r t v) where
   push-open : guardedOn w s (pushFrame s (hole s x) target) ≡ sent (pushOf w s x) target
   unfolding pushOf
   push-open = guarded-sent w s _ _ target (push-sent w s (hole s x) target (s .pc))
@@ -122,7 +130,7 @@ goal n Missing = n
 goal n NotAdmissible = n
 goal n WindowRule = n
 
-module _ (w : Window) (s : State) (x yz : ℕ) (q : PopFrame) (t : State) (g : PopGives w s x yz q t) where
+module _ (w : Windows) (s : State) (x yz : ℕ) (q : PopFrame) (t : State) (g : PopGives w s x yz q t) where
   pop-open : guardedOn w s (popFrame s x (returnTo s yz)) ≡ sent (popOf w s x) (returnTo s yz)
   unfolding popOf
   pop-open = guarded-sent w s _ _ (returnTo s yz) (pop-sent w s x (returnTo s yz) (s .pc))

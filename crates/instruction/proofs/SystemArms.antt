@@ -6,7 +6,7 @@ use native.Mathlib.Omega.{arith}
 use lib.Dec.{ltb, eqb}
 use borrow.Author.Tests.{ne-eqb}
 use Rattle.model.specs.Registers.{reg, next, admissible}
-use Rattle.model.specs.Memory.{Window, shapeOf, ruled}
+use Rattle.model.specs.Memory.{Windows, shapesOf, ruled}
 use Rattle.model.specs.Plan.{Outcome}
 use Rattle.model.specs.Opcodes.{armOf}
 use Rattle.model.specs.Said.{Said, say}
@@ -27,10 +27,10 @@ use Rattle.instruction.specs.Whole.{Whole}
 use Rattle.instruction.specs.Groups.{isSystem}
 
 -- what is said, with the window as it was
-abbrev telling : Window → Said → Outcome State Window
+abbrev telling : Windows → Said → Outcome State Windows
 telling w d = record { reply = d .reply; state = d .state; memory = w }
 
-module _ (w : Window) (s : State) (a : admissible s ≡ true) (v : ruled (shapeOf w) ≡ true) (x y z : ℕ) where
+module _ (w : Windows) (s : State) (a : admissible s ≡ true) (v : ruled (shapesOf w) ≡ true) (x y z : ℕ) where
   get-told : stepOf w s 0xFE x y z ≡ telling w (getOf s x z)
   unfolding getOf planOf armOf refusalOf
   get-told =
@@ -53,7 +53,7 @@ module _ (w : Window) (s : State) (a : admissible s ≡ true) (v : ruled (shapeO
   unfolding planOf armOf refusalOf
   unsave-open = step-open w s 0xFB x y z a v refl ∙ sym (guarded-open w s (unsaveContext s (reg s z)) a v)
 
-module _ (w : Window) (s : State) (a : admissible s ≡ true) (v : ruled (shapeOf w) ≡ true) (op x y z : ℕ) (r : Reply) (t : State) where
+module _ (w : Windows) (s : State) (a : admissible s ≡ true) (v : ruled (shapesOf w) ≡ true) (op x y z : ℕ) (r : Reply) (t : State) where
   -- arms that touch no memory
   tells : (n : ℕ) (d : Said) → op ≡ n → stepOf w s n x y z ≡ telling w d → Told d r t → Whole (stepOf w s op x y z) r t w
   tells n d e f h = rw (e, f) (record { reply-is = h .reply-is; state-is = h .state-is; window-is = refl })
@@ -87,7 +87,7 @@ module _ (w : Window) (s : State) (a : admissible s ≡ true) (v : ruled (shapeO
   trap-step e h = tells 0x00 (trapStep s 0x00 x y z) e (trap-told w s a v x y z) (rw e at h)
 
   -- arms that do
-  pub save-step : (u : Window) → op ≡ 0xFA → Whole (guardedOn w s (saveContext s x)) r t u → Whole (stepOf w s op x y z) r t u
+  pub save-step : (u : Windows) → op ≡ 0xFA → Whole (guardedOn w s (saveContext s x)) r t u → Whole (stepOf w s op x y z) r t u
   save-step u e h = rw (e, save-open w s a v x y z) h
 
   pub unsave-step : op ≡ 0xFB → Whole (guardedOn w s (unsaveContext s (reg s z))) r t w → Whole (stepOf w s op x y z) r t w

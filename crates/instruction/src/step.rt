@@ -3,7 +3,7 @@ ghost use mathlib.Core.Path.{_≡_};
 ghost use mathlib.Core.Bool.{true};
 ghost use mathlib.Core.List.{List};
 ghost use Prim.Native.Nat.{ℕ};
-ghost use Rattle.model.specs.Memory.{shapeOf, ruled};
+ghost use Rattle.model.specs.Memory.{shapesOf, ruled};
 ghost use Rattle.model.specs.Registers.{setRegister, admissible, goes, following};
 ghost use Rattle.model.specs.Opcodes.{wayOf};
 ghost use Rattle.model.specs.Control.{near, sumOf};
@@ -108,7 +108,7 @@ fn control(
     y: u8,
     z: u8,
 ) -> Reply
-    requires { ⌜ (admissible (made (now general) (now special) (now pc) (now halt) marks) ≡ true) × (ruled (shapeOf (lent base (now window))) ≡ true) × Controls op ⌝ }
+    requires { ⌜ (admissible (made (now general) (now special) (now pc) (now halt) marks) ≡ true) × (ruled (shapesOf (lent base (now window))) ≡ true) × Controls op ⌝ }
     ensures { λ r. ⌜ Whole (stepOf (lent base (now (window .entry))) (made (now (general .entry)) (now (special .entry)) (now (pc .entry)) (now (halt .entry)) marks) op x y z) r (made (now (general .exit)) (now (special .exit)) (now (pc .exit)) (now (halt .exit)) marks) (lent base (now (window .exit))) ⌝ }
 {
     if op <= 0x5F {
@@ -150,7 +150,7 @@ fn dispatch(
     y: u8,
     z: u8,
 ) -> Reply
-    requires { ⌜ (admissible (made (now general) (now special) (now pc) (now halt) marks) ≡ true) × (ruled (shapeOf (lent base (now window))) ≡ true) ⌝ }
+    requires { ⌜ (admissible (made (now general) (now special) (now pc) (now halt) marks) ≡ true) × (ruled (shapesOf (lent base (now window))) ≡ true) ⌝ }
     ensures { λ r. ⌜ Whole (stepOf (lent base (now (window .entry))) (made (now (general .entry)) (now (special .entry)) (now (pc .entry)) (now (halt .entry)) marks) op x y z) r (made (now (general .exit)) (now (special .exit)) (now (pc .exit)) (now (halt .exit)) marks) (lent base (now (window .exit))) ⌝ }
 {
     let group = super::group::group_of(op);

@@ -3,7 +3,7 @@ ghost use mathlib.Core.Path.{_≡_};
 ghost use mathlib.Core.Bool.{true};
 ghost use mathlib.Core.List.{List};
 ghost use Prim.Native.Nat.{ℕ};
-ghost use Rattle.model.specs.Memory.{shapeOf, ruled};
+ghost use Rattle.model.specs.Memory.{shapesOf, ruled};
 ghost use Rattle.model.specs.Registers.{reg, next, admissible};
 ghost use Rattle.model.specs.Said.{say};
 ghost use Rattle.model.specs.System.{putSpecial};
@@ -70,7 +70,7 @@ pub(crate) fn system(
     y: u8,
     z: u8,
 ) -> Reply
-    requires { ⌜ (admissible (made (now general) (now special) (now pc) (now halt) marks) ≡ true) × (ruled (shapeOf (lent base (now window))) ≡ true) × (isSystem op ≡ true) ⌝ }
+    requires { ⌜ (admissible (made (now general) (now special) (now pc) (now halt) marks) ≡ true) × (ruled (shapesOf (lent base (now window))) ≡ true) × (isSystem op ≡ true) ⌝ }
     ensures { λ r. ⌜ Whole (stepOf (lent base (now (window .entry))) (made (now (general .entry)) (now (special .entry)) (now (pc .entry)) (now (halt .entry)) marks) op x y z) r (made (now (general .exit)) (now (special .exit)) (now (pc .exit)) (now (halt .exit)) marks) (lent base (now (window .exit))) ⌝ }
 {
     match op {

@@ -16,6 +16,7 @@ use Rattle.model.specs.Plan.{worst, look, looks, puts}
 use Rattle.model.specs.Step.{refusing}
 use Rattle.model.specs.Parts.{lent}
 use Rattle.model.proofs.Memory.{write-shape, has-octa, one-lawful}
+use Rattle.model.proofs.Plan.{puts-more}
 use Rattle.model.proofs.Runs.{octa-mod, worst-of, length-tab, getD-looks, look-mod}
 use Rattle.machine.specs.Octas.{readOcta, writtenOcta}
 use Rattle.machine.proofs.Spans.{run-one}
@@ -156,16 +157,6 @@ puts-mod w a b (v ∷ vs) e =
     let next : (a + 8) % 2 ^ 64 ≡ (b + 8) % 2 ^ 64 = omega arith in
     ap (λ (u : Window). puts one u (a + 8) vs) (write-mod w a b e v) ∙ puts-mod (writeOcta w b v) (a + 8) (b + 8) vs next
 
--- two lists, one after the other
-pub puts-append : (w : Window) (a : ℕ) (us vs : List ℕ) → puts one w a (us ++ vs) ≡ puts one (puts one w a us) (a + 8 * length us) vs
-unfolding puts one
-puts-append w a [] vs = ap (λ (k : ℕ). puts one w k vs) (omega arith)
-puts-append w a (u ∷ us) vs = puts-append (writeOcta w a u) (a + 8) us vs ∙ ap (λ (k : ℕ). puts one (puts one (writeOcta w a u) (a + 8) us) k vs) (omega arith)
-
--- one octabyte more
-pub puts-more : (w : Window) (a : ℕ) (vs : List ℕ) (v : ℕ) → puts one w a (vs ++ (v ∷ [])) ≡ writeOcta (puts one w a vs) (a + 8 * length vs) v
-puts-more w a vs v = puts-append w a vs (v ∷ []) ∙ (unfold puts in unfold one in refl)
-
 tab-more : (n i : ℕ) (f : ℕ → ℕ) → tab i (suc n) f ≡ tab i n f ++ (f (i + n) ∷ [])
 unfolding tab
 tab-more zero i f = ap (λ (k : ℕ). f k ∷ []) (omega arith)
@@ -178,7 +169,7 @@ module _ (w : Window) (a n : ℕ) (pass : worst (refusing (shapeOf w)) a n ≡ 0
       let h : worst (refusing (shapeOf (puts one w a vs))) a n ≡ 0 = rw (puts-shape w a vs) pass in
       run-written (puts one w a vs) a n h i at l (omega arith) v
       ∙ ap (λ (k : ℕ). writeOcta (puts one w a vs) (a + 8 * k) v) (sym d)
-      ∙ sym (puts-more w a vs v)
+      ∙ sym (puts-more one w a vs v ∙ (unfold one in refl))
 
   -- a turn of the loop that stores a list
   pub puts-turn : (vs : List ℕ) → i < length vs → writtenOcta (puts one w a (take i vs)) at (getD vs i 0) ≡ puts one w a (take (i + 1) vs)

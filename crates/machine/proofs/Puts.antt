@@ -9,8 +9,7 @@ use lib.Dec.{leb, ltb, eqb}
 use lib.ListN.{getD, set}
 use borrow.Author.Tests.{lt-ltb, le-ltb, le-leb, lt-leb, ne-eqb}
 use Rattle.model.specs.Fill.{over}
-use Rattle.model.specs.Registers.{rG, rL, sp, withSpecial, cleared, putLocals, putGlobals}
-use Rattle.model.specs.Parts.{withParts}
+use Rattle.model.specs.Registers.{withParts, rG, rL, sp, withSpecial, cleared, putLocals, putGlobals}
 use Rattle.model.specs.System.{isPrivileged, isIllegal, putRefusal, putState}
 use Rattle.model.specs.Numbers.{replyOf}
 use Rattle.model.specs.declared.State.{State}

@@ -5,7 +5,7 @@ use mathlib.Core.List.{List, [], _∷_}
 use Prim.Native.Nat.{ℕ, _≤_}
 use native.Mathlib.Omega.{arith}
 use lib.ListN.{length}
-use Rattle.model.specs.Memory.{Window, one}
+use Rattle.model.specs.Memory.{Windows, both, one}
 use Rattle.model.specs.Plan.{perform, worst, puts}
 use Rattle.model.specs.Lists.{stepOn, runs}
 use Rattle.model.specs.Registers.{Sized, Words}
@@ -53,17 +53,17 @@ intact-of g s e z w =
 -- ---- one step or exception
 
 -- what it leaves, as a step on the state
-pub record Left (s : State) (w : Window) (i : Item) (r : ℕ) (k : Held) (v : Window) : Type 0 where
-  pub reply-is : r ≡ stepOn one mmix s w i .reply
-  pub held-is : HeldIs k (stepOn one mmix s w i .state)
-  pub window-is : v ≡ stepOn one mmix s w i .memory
+pub record Left (s : State) (w : Windows) (i : Item) (r : ℕ) (k : Held) (v : Windows) : Type 0 where
+  pub reply-is : r ≡ stepOn both mmix s w i .reply
+  pub held-is : HeldIs k (stepOn both mmix s w i .state)
+  pub window-is : v ≡ stepOn both mmix s w i .memory
 
 pub few : (n : ℕ) → (n ≡ 0) ⊎ ((n ≡ 1) ⊎ (n ≡ 19)) → n ≤ 20
 few n (inl e) = omega arith
 few n (inr (inl e)) = omega arith
 few n (inr (inr e)) = omega arith
 
-state-left : (s : State) (w : Window) (i : Item) (r : ℕ) (t : State) (v : Window) → Sized s → StateCall s w i r t v → Left s w i r (struct t) v
+state-left : (s : State) (w : Windows) (i : Item) (r : ℕ) (t : State) (v : Windows) → Sized s → StateCall s w i r t v → Left s w i r (struct t) v
 unfolding StateCall HeldIs stepOn mmix itemPlan one stepOf tell perform worst puts
 state-left s w (step op x y z) r t v n g = record {
   reply-is = g .reply-is ∙ numbered .number-reply _ (replies-leave .by-step w s op x y z n .most);
@@ -77,8 +77,8 @@ state-left s w (exception f op x y z a b) r t v n g = record {
 }
 
 -- a call on an image is one on its state
-image-state : (l : List ℕ) (w : Window) (i : Item) (r : ℕ) (m : List ℕ) (v : Window) → length l ≡ imageLength → ImageCall l w i r m v
-    → StateCall (stateOf l) w i r (stepOn one mmix (stateOf l) w i .state) v × (m ≡ imageOf (stepOn one mmix (stateOf l) w i .state))
+image-state : (l : List ℕ) (w : Windows) (i : Item) (r : ℕ) (m : List ℕ) (v : Windows) → length l ≡ imageLength → ImageCall l w i r m v
+    → StateCall (stateOf l) w i r (stepOn both mmix (stateOf l) w i .state) v × (m ≡ imageOf (stepOn both mmix (stateOf l) w i .state))
 unfolding ImageCall StateCall stepOn mmix itemPlan one stepOf tell perform worst puts
 image-state l w (step op x y z) r m v n g = (
   record { reply-is = g .reply-is ∙ sym (if-image l n _ _); state-is = refl; window-is = g .window-is ∙ sym (if-image l n _ _) },
@@ -89,7 +89,7 @@ image-state l w (exception f op x y z a b) r m v n g = (
   g .0 .image-is ∙ sym (if-image l n _ _),
 )
 
-pub image-left : (l : List ℕ) (w : Window) (i : Item) (r : ℕ) (m : List ℕ) (v : Window) → length l ≡ imageLength → ImageCall l w i r m v → Left (stateOf l) w i r (image m) v
+pub image-left : (l : List ℕ) (w : Windows) (i : Item) (r : ℕ) (m : List ℕ) (v : Windows) → length l ≡ imageLength → ImageCall l w i r m v → Left (stateOf l) w i r (image m) v
 unfolding HeldIs
 image-left l w i r m v n g =
     let e = image-state l w i r m v n g in
@@ -99,13 +99,13 @@ image-left l w i r m v n g =
 -- ---- one call
 
 -- what it leaves, as a list of no or one item
-pub record After (s : State) (w : Window) (is : List Item) (r : ℕ) (k : Held) (v : Window) : Type 0 where
-  pub answers-are : answered is r ≡ runs one mmix s w is .answers
+pub record After (s : State) (w : Windows) (is : List Item) (r : ℕ) (k : Held) (v : Windows) : Type 0 where
+  pub answers-are : answered is r ≡ runs both mmix s w is .answers
   pub moved : is ≡ [] → r ≡ 0
-  pub held-is : HeldIs k (runs one mmix s w is .state)
-  pub window-is : v ≡ runs one mmix s w is .memory
+  pub held-is : HeldIs k (runs both mmix s w is .state)
+  pub window-is : v ≡ runs both mmix s w is .memory
 
-after-item : (s : State) (w : Window) (i : Item) (r : ℕ) (k : Held) (v : Window) → Left s w i r k v → After s w (i ∷ []) r k v
+after-item : (s : State) (w : Windows) (i : Item) (r : ℕ) (k : Held) (v : Windows) → Left s w i r k v → After s w (i ∷ []) r k v
 unfolding answered runs
 after-item s w i r k v h = record {
   answers-are = ap (λ (n : ℕ). n ∷ []) (h .reply-is);
@@ -114,11 +114,11 @@ after-item s w i r k v h = record {
   window-is = h .window-is;
 }
 
-after-move : (s : State) (w : Window) (r : ℕ) (k : Held) (v : Window) → r ≡ 0 → HeldIs k s → v ≡ w → After s w [] r k v
+after-move : (s : State) (w : Windows) (r : ℕ) (k : Held) (v : Windows) → r ≡ 0 → HeldIs k s → v ≡ w → After s w [] r k v
 unfolding answered runs
 after-move s w r k v e h f = record { answers-are = refl; moved = λ _. e; held-is = h; window-is = f }
 
-pub after-call : (g : Held) (w : Window) (e : Entry) (r : ℕ) (k : Held) (v : Window) → Intact g → Meets g w e r k v → After (heldState g) w (asked e) r k v
+pub after-call : (g : Held) (w : Windows) (e : Entry) (r : ℕ) (k : Held) (v : Windows) → Intact g → Meets g w e r k v → After (heldState g) w (asked e) r k v
 unfolding Meets AsImage AsStruct asked heldState HeldIs StateCall
 after-call (image l) w (on-image i) r (image m) v h c = after-item _ w i r _ v (image-left l w i r m v (long-of l h) c)
 after-call (image l) w (on-image i) r (struct t) v h c = absurd c
@@ -161,7 +161,7 @@ unfolding AsStruct form
 on-struct-form (image l) P h = absurd h
 on-struct-form (struct s) P h = refl
 
-pub form-after : (g : Held) (w : Window) (e : Entry) (r : ℕ) (k : Held) (v : Window) → Meets g w e r k v → form k ≡ formAfter e
+pub form-after : (g : Held) (w : Windows) (e : Entry) (r : ℕ) (k : Held) (v : Windows) → Meets g w e r k v → form k ≡ formAfter e
 unfolding Meets AsImage AsStruct formAfter
 form-after (image l) w (on-image i) r k v c = on-image-form k _ c
 form-after (struct s) w (on-image i) r k v c = absurd c

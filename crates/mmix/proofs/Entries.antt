@@ -6,7 +6,7 @@ use Prim.Native.Nat.{ℕ}
 use lib.ListN.{length}
 use borrow.Author.Tests.{eq-eqb, ne-eqb}
 use Rattle.model.specs.Registers.{fresh}
-use Rattle.model.specs.Memory.{Window}
+use Rattle.model.specs.Memory.{Windows}
 use Rattle.model.specs.Said.{Said}
 use Rattle.model.specs.Plan.{Outcome}
 use Rattle.model.specs.Step.{stepOf, exceptionOf}
@@ -20,7 +20,7 @@ use Rattle.mmix.specs.Entries.{isImage, Decoded, Encoded, Initialized, S
 
 -- ---- on the parts of a state
 
-pub stepped-state : (w : Window) (s : State) (op x y z : ℕ) (q : Reply) (t : State) (v : Window) → Whole (stepOf w s op x y z) q t v
+pub stepped-state : (w : Windows) (s : State) (op x y z : ℕ) (q : Reply) (t : State) (v : Windows) → Whole (stepOf w s op x y z) q t v
     → (r : ℕ) → r ≡ numberOf q → SteppedState w s op x y z r t v
 stepped-state w s op x y z q t v g r e = record { reply-is = e ∙ ap numberOf (g .reply-is); state-is = g .state-is; window-is = g .window-is }
 
@@ -40,7 +40,7 @@ module _ (l : List ℕ) (h : length l ≡ imageLength → ⊥) where
   pub encoded-else : (s : State) → Encoded s l 1 l
   encoded-else s = record { reply-is = if-other _ _; image-is = if-other _ _ }
 
-  pub stepped-else : (w : Window) (op x y z : ℕ) → Stepped l w op x y z 1 l w
+  pub stepped-else : (w : Windows) (op x y z : ℕ) → Stepped l w op x y z 1 l w
   stepped-else w op x y z = record { reply-is = if-other _ _; image-is = if-other _ _; window-is = if-other _ _ }
 
   pub raised-else : (f op x y z u v : ℕ) → Raised l f op x y z u v 1 l
@@ -58,15 +58,15 @@ module _ (l : List ℕ) (n : length l ≡ imageLength) where
   pub encoded : (s : State) (m : List ℕ) → m ≡ imageOf s → Encoded s l 0 m
   encoded s m e = record { reply-is = if-image _ _; image-is = e ∙ if-image _ _ }
 
-  pub stepped : (w : Window) (op x y z : ℕ) (s : State) → s ≡ stateOf l
-      → (r : ℕ) (t : State) (v : Window) → SteppedState w s op x y z r t v
+  pub stepped : (w : Windows) (op x y z : ℕ) (s : State) → s ≡ stateOf l
+      → (r : ℕ) (t : State) (v : Windows) → SteppedState w s op x y z r t v
       → (m : List ℕ) → m ≡ imageOf t → Stepped l w op x y z r m v
   stepped w op x y z s e r t v g m k =
       let d : stepOf w s op x y z ≡ stepOf w (stateOf l) op x y z = ap (λ (a : State). stepOf w a op x y z) e in
       record {
-        reply-is = g .reply-is ∙ ap (λ (o : Outcome State Window). numberOf (replyOf (o .reply))) d ∙ if-image _ _;
-        image-is = k ∙ ap imageOf (g .state-is) ∙ ap (λ (o : Outcome State Window). imageOf (o .state)) d ∙ if-image _ _;
-        window-is = g .window-is ∙ ap (λ (o : Outcome State Window). o .memory) d ∙ if-image _ _;
+        reply-is = g .reply-is ∙ ap (λ (o : Outcome State Windows). numberOf (replyOf (o .reply))) d ∙ if-image _ _;
+        image-is = k ∙ ap imageOf (g .state-is) ∙ ap (λ (o : Outcome State Windows). imageOf (o .state)) d ∙ if-image _ _;
+        window-is = g .window-is ∙ ap (λ (o : Outcome State Windows). o .memory) d ∙ if-image _ _;
       }
 
   pub raised : (c op x y z a b : ℕ) (s : State) → s ≡ stateOf l

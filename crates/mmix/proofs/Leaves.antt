@@ -8,7 +8,7 @@ use mathlib.Core.Bool.{Bool, true, false}
 use borrow.Author.Tests.{eqb-true, eqb-false}
 use lib.ListN.{length, getD}
 use Rattle.model.specs.Octa.{written, bytesOf}
-use Rattle.model.specs.Memory.{Window, one}
+use Rattle.model.specs.Memory.{Windows, one}
 use Rattle.model.specs.Plan.{Outcome, perform, worst, puts}
 use Rattle.model.specs.Lists.{stepOn}
 use Rattle.model.specs.Said.{Said, say, tell}
@@ -44,18 +44,19 @@ module _ (l : List ℕ) (n : length l ≡ imageLength) (b : (i : ℕ) → getD l
   halt-same : (m : List ℕ) (t : State) → m ≡ imageOf t → Sized t → t .halt ≡ s .halt → haltBytes m ≡ haltBytes l
   halt-same m t e zt h = ap haltBytes e ∙ halt-bytes t zt ∙ ap bytesOf h ∙ sym (halt-bytes s zs) ∙ ap haltBytes back
 
-  step-leaves : (w : Window) (op x y z r : ℕ) (m : List ℕ) (v : Window) → Left s w (step op x y z) r (image m) v → StepCallLeaves l w op x y z r m v
+  step-leaves : (w : Windows) (op x y z r : ℕ) (m : List ℕ) (v : Windows) → Left s w (step op x y z) r (image m) v → StepCallLeaves l w op x y z r m v
   unfolding HeldIs stepOn mmix itemPlan one stepOf replaced
   step-leaves w op x y z r m v g =
-      let o : Outcome State Window = stepOf w s op x y z in
+      let o : Outcome State Windows = stepOf w s op x y z in
       let k : StepLeaves w s op x y z o = replies-leave .by-step w s op x y z zs in
       let zt : Sized (o .state) = items-keep .sized w s (step op x y z) zs in
       let e : r ≡ o .reply = g .reply-is in
       record {
         most = omega (arith, e, k .most);
-        one-to-six = λ p q. let h = k .one-to-six (omega (arith, e)) (omega (arith, e)) in (g .held-is ∙ ap imageOf (h .0) ∙ back, g .window-is ∙ h .1);
-        seven-to-eighteen = λ p q.
-            let h = k .seven-to-eighteen (omega (arith, e)) (omega (arith, e)) in
+        early = λ p. let h = k .early (omega (arith, e), omega (arith, e)) in (g .held-is ∙ ap imageOf (h .0) ∙ back, g .window-is ∙ h .1);
+        lost = λ p. let h = k .lost (omega (arith, e)) in (g .held-is ∙ ap imageOf (h .0) ∙ back, g .window-is ∙ h .1);
+        halting = λ p.
+            let h = k .halting (omega (arith, e), omega (arith, e)) in
             (g .held-is ∙ ap imageOf (h .0) ∙ halted-image s zs ∙ ap (λ (c : List ℕ). written c (8 * atHalt) (bytesOf 1)) back, g .window-is ∙ h .1);
         nineteen = λ p.
             let h = k .nineteen (sym e ∙ p) in (
@@ -80,7 +81,7 @@ module _ (l : List ℕ) (n : length l ≡ imageLength) (b : (i : ℕ) → getD l
       ∙ after-special s zs rA _ (omega arith) (λ e. omega arith) rB rW rX rY rZ word u v
       ∙ ap (λ (c : List ℕ). replaced c ((atSpecial rA, sp (withAdded s f) rA) ∷ tripOctas s word u v)) back
 
-  exception-leaves : (w : Window) (f op x y z u v r : ℕ) (m : List ℕ) → Left s w (exception f op x y z u v) r (image m) w → ExceptionCallLeaves l f op x y z u v r m
+  exception-leaves : (w : Windows) (f op x y z u v r : ℕ) (m : List ℕ) → Left s w (exception f op x y z u v) r (image m) w → ExceptionCallLeaves l f op x y z u v r m
   unfolding HeldIs stepOn mmix itemPlan one tell perform worst puts
   exception-leaves w f op x y z u v r m g =
       let d : Said = exceptionOf s f op x y z u v in
@@ -96,13 +97,14 @@ module _ (l : List ℕ) (n : length l ≡ imageLength) (b : (i : ℕ) → getD l
 
 -- ---- the theorem
 
-other-step : (l : List ℕ) (w : Window) (op x y z r : ℕ) (m : List ℕ) (v : Window) → (length l ≡ imageLength → ⊥) → Stepped l w op x y z r m v → StepCallLeaves l w op x y z r m v
+other-step : (l : List ℕ) (w : Windows) (op x y z r : ℕ) (m : List ℕ) (v : Windows) → (length l ≡ imageLength → ⊥) → Stepped l w op x y z r m v → StepCallLeaves l w op x y z r m v
 other-step l w op x y z r m v h g =
     let e : r ≡ 1 = g .reply-is ∙ sym (if-other l h _ _) in
     record {
       most = omega arith;
-      one-to-six = λ p q. (g .image-is ∙ sym (if-other l h _ _), g .window-is ∙ sym (if-other l h _ _));
-      seven-to-eighteen = λ p q. absurd (omega arith);
+      early = λ p. (g .image-is ∙ sym (if-other l h _ _), g .window-is ∙ sym (if-other l h _ _));
+      lost = λ p. absurd (omega arith);
+      halting = λ p. absurd (omega arith);
       nineteen = λ p. absurd (omega arith);
       twenty = λ p. absurd (omega arith);
       done = λ p. absurd (omega arith);
@@ -118,7 +120,7 @@ other-exception l f op x y z u v r m h g =
       done = λ p. absurd (omega arith);
     }
 
-by-step : (l : List ℕ) (w : Window) (op x y z r : ℕ) (m : List ℕ) (v : Window) → ((i : ℕ) → getD l i 0 < 256)
+by-step : (l : List ℕ) (w : Windows) (op x y z r : ℕ) (m : List ℕ) (v : Windows) → ((i : ℕ) → getD l i 0 < 256)
     → Stepped l w op x y z r m v → StepCallLeaves l w op x y z r m v
 unfolding ImageCall
 by-step l w op x y z r m v b g = go (isImage l) refl
@@ -134,7 +136,7 @@ by-exception : (l : List ℕ) (f op x y z u v r : ℕ) (m : List ℕ) → ((i : 
 unfolding ImageCall
 by-exception l f op x y z u v r m b g = go (isImage l) refl
   where
-    no-window : Window
+    no-window : Windows
     no-window = record { base = 0; bytes = [] }
 
     go : (t : Bool) → isImage l ≡ t → ExceptionCallLeaves l f op x y z u v r m
@@ -143,7 +145,7 @@ by-exception l f op x y z u v r m b g = go (isImage l) refl
         exception-leaves l n b no-window f op x y z u v r m (image-left l no-window (exception f op x y z u v) r m no-window n (g, refl))
     go false e = other-exception l f op x y z u v r m (eqb-false (length l) imageLength e) g
 
-by-state-step : (w : Window) (s : State) (op x y z r : ℕ) (t : State) (v : Window) → Sized s → SteppedState w s op x y z r t v
+by-state-step : (w : Windows) (s : State) (op x y z r : ℕ) (t : State) (v : Windows) → Sized s → SteppedState w s op x y z r t v
     → StepLeaves w s op x y z (record { reply = r; state = t; memory = v })
 by-state-step w s op x y z r t v h g =
     let k : StepLeaves w s op x y z (stepOf w s op x y z) = replies-leave .by-step w s op x y z h in

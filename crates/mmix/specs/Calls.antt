@@ -6,7 +6,7 @@ use Prim.Native.Nat.{ℕ, _+_, _<_}
 use mathlib.Core.Path.{_≡_}
 use mathlib.Core.List.{List, [], _∷_, _++_}
 use lib.ListN.{length, getD}
-use Rattle.model.specs.Memory.{Window, one}
+use Rattle.model.specs.Memory.{Windows, both}
 use Rattle.model.specs.Plan.{All, Off}
 use Rattle.model.specs.Lists.{Ran, runs, runNeeds}
 use Rattle.model.specs.Registers.{rO, sp, reg, Sized, Words}
@@ -63,11 +63,11 @@ asked decode = []
 asked encode = []
 
 -- what a function's contract says of a call on an image, and of one on a struct; an exception is given no window
-unfoldable pub ImageCall : List ℕ → Window → Item → ℕ → List ℕ → Window → Type 0
+unfoldable pub ImageCall : List ℕ → Windows → Item → ℕ → List ℕ → Windows → Type 0
 ImageCall l w (step op x y z) r m v = Stepped l w op x y z r m v
 ImageCall l w (exception f op x y z a b) r m v = Raised l f op x y z a b r m × (v ≡ w)
 
-unfoldable pub StateCall : State → Window → Item → ℕ → State → Window → Type 0
+unfoldable pub StateCall : State → Windows → Item → ℕ → State → Windows → Type 0
 StateCall s w (step op x y z) r t v = SteppedState w s op x y z r t v
 StateCall s w (exception f op x y z a b) r t v = RaisedState s f op x y z a b r t × (v ≡ w)
 
@@ -91,7 +91,7 @@ AsStruct (image l) P = ⊥
 AsStruct (struct s) P = P s
 
 -- the contract of a call that found g and w, replied r and left k and v
-unfoldable pub Meets : Held → Window → Entry → ℕ → Held → Window → Type 0
+unfoldable pub Meets : Held → Windows → Entry → ℕ → Held → Windows → Type 0
 Meets g w (on-image i) r k v = AsImage g (λ l. AsImage k (λ m. ImageCall l w i r m v))
 Meets g w (on-lent op x y z) r k v = AsStruct g (λ s. AsStruct k (λ t. SteppedState w s op x y z r t v))
 Meets g w (on-parts i) r k v = AsStruct g (λ s. AsStruct k (λ t. StateCall s w i r t v))
@@ -105,10 +105,10 @@ pub record Made : Type 0 where
   pub entry : Entry
   pub reply : ℕ
   pub held : Held
-  pub window : Window
+  pub window : Windows
 
 -- "each later one what the one before left, refused or not"
-unfoldable pub Chain : Held → Window → List Made → Type 0
+unfoldable pub Chain : Held → Windows → List Made → Type 0
 Chain g w [] = Unit {0}
 Chain g w (c ∷ cs) = Meets g w (c .entry) (c .reply) (c .held) (c .window) × Chain (c .held) (c .window) cs
 
@@ -124,7 +124,7 @@ unfoldable pub lastHeld : Held → List Made → Held
 lastHeld g [] = g
 lastHeld g (c ∷ cs) = lastHeld (c .held) cs
 
-unfoldable pub lastWindow : Window → List Made → Window
+unfoldable pub lastWindow : Windows → List Made → Windows
 lastWindow w [] = w
 lastWindow w (c ∷ cs) = lastWindow (c .window) cs
 
@@ -152,7 +152,7 @@ AllFit [] = Unit {0}
 AllFit (i ∷ is) = Fits i × AllFit is
 
 -- THEOREM: a list of calls is `runs` on the state that is held: the same answers, state and window; mmix_decode and mmix_encode reply 0
-pub record Carried (g : Held) (w : Window) (cs : List Made) (r : Ran State Window) : Type 0 where
+pub record Carried (g : Held) (w : Windows) (cs : List Made) (r : Ran State Windows) : Type 0 where
   pub answers-are : answers cs ≡ r .answers
   pub others-are : Moved cs
   pub held-is : HeldIs (lastHeld g cs) (r .state)
@@ -160,15 +160,15 @@ pub record Carried (g : Held) (w : Window) (cs : List Made) (r : Ran State Windo
   pub window-is : lastWindow w cs ≡ r .memory
 
 abbrev pub ListsOfCalls : Type 0
-ListsOfCalls = (g : Held) (w : Window) (cs : List Made) → HeldFits g → Bytes w → AllFit (items (entries cs)) → Chain g w cs
-    → Carried g w cs (runs one mmix (heldState g) w (items (entries cs)))
+ListsOfCalls = (g : Held) (w : Windows) (cs : List Made) → HeldFits g → Bytes w → AllFit (items (entries cs)) → Chain g w cs
+    → Carried g w cs (runs both mmix (heldState g) w (items (entries cs)))
 
 -- ---- demand 3
 
 -- "a POP as the next step, whatever its X and YZ, succeeds, and those locals hold exactly what they held before the call": POP by any function
 -- as the next call on g and v is done, and $0 to $(h − 1) are those of s
-abbrev pub Returns : ℕ → State → Held → Window → Type 0
-Returns h s g v = (e : Entry) (x y z r : ℕ) (k : Held) (u : Window) → asked e ≡ step 0xF8 x y z ∷ [] → InstructionFits 0xF8 x y z → Meets g v e r k u
+abbrev pub Returns : ℕ → State → Held → Windows → Type 0
+Returns h s g v = (e : Entry) (x y z r : ℕ) (k : Held) (u : Windows) → asked e ≡ step 0xF8 x y z ∷ [] → InstructionFits 0xF8 x y z → Meets g v e r k u
     → (r ≡ 0) × ((i : ℕ) → i < h → reg (heldState k) i ≡ reg s i)
 
 -- what holds of two lists of calls after a call, a and b: on g and on k; "the same answers in the same order, the same registers, PC, halt
@@ -187,12 +187,12 @@ pub record PrivateCalls (h : ℕ) (g k : Held) (a b : Made) (cs ds : List Made) 
 -- are the same in both. A call target is the PC after the call"; "It is enough that the first run's needs keep off the frame". The call is by
 -- any function that steps
 abbrev pub Demand3Calls : Type 0
-Demand3Calls = (w : Window) (g k : Held) (c : Call) (x y z : ℕ) (a b : Made) (cs ds : List Made)
+Demand3Calls = (w : Windows) (g k : Held) (c : Call) (x y z : ℕ) (a b : Made) (cs ds : List Made)
     → HeldFits g → HeldFits k → Bytes w → InstructionFits (opcodeOf c) x y z → AllFit (items (entries cs))
     → Alike (hole (heldState g) x) (heldState g) (heldState k)
     → asked (a .entry) ≡ step (opcodeOf c) x y z ∷ [] → b .entry ≡ a .entry → entries ds ≡ entries cs
     → Chain g w (a ∷ cs) → Chain k w (b ∷ ds)
     → a .reply ≡ 0
     → heldState (a .held) .pc ≡ heldState (b .held) .pc
-    → All (Off (Within (sp (heldState g) rO) (hole (heldState g) x + 1))) (runNeeds one mmix (heldState (a .held)) (a .window) (items (entries cs)))
+    → All (Off (Within (sp (heldState g) rO) (hole (heldState g) x + 1))) (runNeeds both mmix (heldState (a .held)) (a .window) (items (entries cs)))
     → PrivateCalls (hole (heldState g) x) g k a b cs ds

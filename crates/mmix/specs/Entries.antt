@@ -7,7 +7,7 @@ use mathlib.Core.List.{List}
 use lib.Dec.{eqb}
 use lib.ListN.{length}
 use Rattle.model.specs.Registers.{fresh}
-use Rattle.model.specs.Memory.{Window}
+use Rattle.model.specs.Memory.{Windows}
 use Rattle.model.specs.Step.{stepOf, exceptionOf}
 use Rattle.model.specs.Reader.{readContext}
 use Rattle.model.specs.Numbers.{numberOf, replyOf}
@@ -29,7 +29,7 @@ pub record Encoded (s : State) (l : List ℕ) (r : ℕ) (m : List ℕ) : Type 0 
 abbrev pub Initialized : List ℕ → ℕ → List ℕ → Type 0
 Initialized l r m = Encoded fresh l r m
 
-pub record Stepped (l : List ℕ) (w : Window) (op x y z r : ℕ) (m : List ℕ) (v : Window) : Type 0 where
+pub record Stepped (l : List ℕ) (w : Windows) (op x y z r : ℕ) (m : List ℕ) (v : Windows) : Type 0 where
   pub reply-is : r ≡ cond (isImage l) (numberOf (replyOf (stepOf w (stateOf l) op x y z .reply))) 1
   pub image-is : m ≡ cond (isImage l) (imageOf (stepOf w (stateOf l) op x y z .state)) l
   pub window-is : v ≡ cond (isImage l) (stepOf w (stateOf l) op x y z .memory) w
@@ -39,7 +39,7 @@ pub record Raised (l : List ℕ) (f op x y z u v r : ℕ) (m : List ℕ) : Type 
   pub image-is : m ≡ cond (isImage l) (imageOf (exceptionOf (stateOf l) f op x y z u v .state)) l
 
 -- a state lent whole or in parts
-pub record SteppedState (w : Window) (s : State) (op x y z r : ℕ) (t : State) (v : Window) : Type 0 where
+pub record SteppedState (w : Windows) (s : State) (op x y z r : ℕ) (t : State) (v : Windows) : Type 0 where
   pub reply-is : r ≡ numberOf (replyOf (stepOf w s op x y z .reply))
   pub state-is : t ≡ stepOf w s op x y z .state
   pub window-is : v ≡ stepOf w s op x y z .memory
@@ -48,7 +48,7 @@ pub record RaisedState (s : State) (f op x y z u v r : ℕ) (t : State) : Type 0
   pub reply-is : r ≡ numberOf (replyOf (exceptionOf s f op x y z u v .reply))
   pub state-is : t ≡ exceptionOf s f op x y z u v .state
 
-pub record ContextAt (w : Window) (p r start length : ℕ) : Type 0 where
+pub record ContextAt (w : Windows) (p r start length : ℕ) : Type 0 where
   pub reply-is : r ≡ readContext w p .reply
   pub start-is : start ≡ readContext w p .state .start
   pub length-is : length ≡ readContext w p .state .size

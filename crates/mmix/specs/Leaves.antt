@@ -6,10 +6,11 @@ use mathlib.Core.Logic.{_⊎_}
 use mathlib.Core.List.{List, [], _∷_}
 use lib.ListN.{getD}
 use Rattle.model.specs.Octa.{part, written, bytesOf}
-use Rattle.model.specs.Memory.{Window}
+use Rattle.model.specs.Memory.{Windows}
 use Rattle.model.specs.Registers.{rB, rJ, rBB, rA, rW, rX, rY, rZ, rWW, rXX, rYY, rZZ, sp, reg, following, Sized}
 use Rattle.model.specs.Said.{say}
 use Rattle.model.specs.Trips.{wordOf, withAdded}
+use Rattle.model.specs.Numbers.{Early, Lost, Halting}
 use Rattle.model.specs.Leaves.{StepLeaves, ExceptionLeaves}
 use Rattle.model.specs.declared.State.{State}
 use Rattle.mmix.specs.Image.{stateOf}
@@ -43,10 +44,13 @@ abbrev pub trapOctas : State → ℕ → ℕ → ℕ → List (ℕ × ℕ)
 trapOctas s word u v = interruptOctas s rBB rWW rXX rYY rZZ word u v
 
 -- what mmix_step leaves
-pub record StepCallLeaves (l : List ℕ) (w : Window) (op x y z r : ℕ) (m : List ℕ) (v : Window) : Type 0 where
+pub record StepCallLeaves (l : List ℕ) (w : Windows) (op x y z r : ℕ) (m : List ℕ) (v : Windows) : Type 0 where
   pub most : r ≤ 20
-  pub one-to-six : 1 ≤ r → r ≤ 6 → (m ≡ l) × (v ≡ w)
-  pub seven-to-eighteen : 7 ≤ r → r ≤ 18 → (m ≡ replaced l ((atHalt, 1) ∷ [])) × (v ≡ w)
+  -- 1 to 6
+  pub early : Early r → (m ≡ l) × (v ≡ w)
+  pub lost : Lost r → (m ≡ l) × (v ≡ w)
+  -- 7 to 18
+  pub halting : Halting r → (m ≡ replaced l ((atHalt, 1) ∷ [])) × (v ≡ w)
   pub nineteen : r ≡ 19 → (m ≡ replaced l (tripOctas (stateOf l) (wordOf op x y z) (reg (stateOf l) y) (reg (stateOf l) z))) × (v ≡ w)
   pub twenty : r ≡ 20 → (m ≡ replaced l (trapOctas (stateOf l) (wordOf op x y z) (reg (stateOf l) y) (reg (stateOf l) z))) × (v ≡ w)
   pub done : r ≡ 0 → haltBytes m ≡ haltBytes l
@@ -60,12 +64,12 @@ pub record ExceptionCallLeaves (l : List ℕ) (f op x y z u v r : ℕ) (m : List
 
 -- THEOREM
 pub record CallsLeave : Type 0 where
-  pub by-step : (l : List ℕ) (w : Window) (op x y z r : ℕ) (m : List ℕ) (v : Window) → ((i : ℕ) → getD l i 0 < 256)
+  pub by-step : (l : List ℕ) (w : Windows) (op x y z r : ℕ) (m : List ℕ) (v : Windows) → ((i : ℕ) → getD l i 0 < 256)
       → Stepped l w op x y z r m v → StepCallLeaves l w op x y z r m v
   pub by-exception : (l : List ℕ) (f op x y z u v r : ℕ) (m : List ℕ) → ((i : ℕ) → getD l i 0 < 256)
       → Raised l f op x y z u v r m → ExceptionCallLeaves l f op x y z u v r m
   -- on a struct or its parts: what model's `RepliesLeave` says
-  pub by-state-step : (w : Window) (s : State) (op x y z r : ℕ) (t : State) (v : Window) → Sized s
+  pub by-state-step : (w : Windows) (s : State) (op x y z r : ℕ) (t : State) (v : Windows) → Sized s
       → SteppedState w s op x y z r t v → StepLeaves w s op x y z (record { reply = r; state = t; memory = v })
   pub by-state-exception : (s : State) (f op x y z u v r : ℕ) (t : State) → Sized s
       → RaisedState s f op x y z u v r t → ExceptionLeaves s f op x y z u v (say r t)

@@ -10,7 +10,7 @@ use lib.ListN.{length, getD, List·getD-eq-default}
 use lib.Dec.{leb, ltb, eqb}
 use borrow.Author.Tests.{eqb-true, ltb-true, leb-true}
 use Rattle.model.specs.Octa.{octa, part}
-use Rattle.model.specs.Memory.{Windows, Shapes, shapesOf, shapeOf, ruled, offset, inside, octaAt, octaBytes, both, one}
+use Rattle.model.specs.Memory.{windowMax, Windows, Shapes, shapesOf, shapeOf, ruled, offset, inside, octaAt, octaBytes, both, one}
 use Rattle.model.specs.Plan.{Plan, answer, Outcome, perform, worst, clear, puts, Off, Agree}
 use Rattle.model.specs.Registers.{admissible}
 use Rattle.model.specs.Opcodes.{Arm, armOf}
@@ -45,11 +45,25 @@ unfolding perform
 answered j s t r a vs w =
     on {A = Outcome State Windows} (λ o. o .reply ≡ 0 → worst j a (length vs) ≡ 0) (clear j a (length vs)) (λ e h. eqb-true _ _ e) (λ e h. h)
 
+-- 1, 2, or the plan
+module _ {S : Type 0} (w : Windows) (bad : S) (s : State) (p : Plan S) where
+  pub guarded-one : admissible s ≡ false → performOn w bad (guarded bad s (shapesOf w) p) ≡ record { reply = 1; state = bad; memory = w }
+  unfolding guarded
+  guarded-one a = rw a (said w bad bad 1)
+
+  pub guarded-two : admissible s ≡ true → ruled (shapesOf w) ≡ false → performOn w bad (guarded bad s (shapesOf w) p) ≡ record { reply = 2; state = bad; memory = w }
+  unfolding guarded unruledBy
+  guarded-two a r = rw (a, r) (said w bad bad 2)
+
+  pub guarded-open : admissible s ≡ true → ruled (shapesOf w) ≡ true → performOn w bad (guarded bad s (shapesOf w) p) ≡ performOn w bad p
+  unfolding guarded unruledBy
+  guarded-open a r = rw (a, r)
+
 -- the step is its arm's plan
 pub step-open : (w : Windows) (s : State) (op x y z : ℕ) → admissible s ≡ true → ruled (shapesOf w) ≡ true → refusalOf (armOf op) x y z ≡ 0
     → stepOf w s op x y z ≡ performOn w s (planOf s (armOf op) op x y z)
-unfolding stepOf stepPlan guarded unruledBy fromThree
-step-open w s op x y z a r e = rw (a, r, e)
+unfolding stepOf stepPlan fromThree
+step-open w s op x y z a r e = guarded-open w s s (fromThree s (armOf op) op x y z) a r ∙ rw e
 
 -- a step that is done met neither 1 nor 2
 pub step-done : (w : Windows) (s : State) (op x y z : ℕ) → stepOf w s op x y z .reply ≡ 0 → (admissible s ≡ true) × (ruled (shapesOf w) ≡ true)
@@ -90,18 +104,18 @@ pub record Ruled (w : Shapes) : Type 0 where
   pub base-aligned : w .from % 8 ≡ 0
   pub base-word : w .from < 2 ^ 64
   pub size-octas : w .size % 8 ≡ 0
-  pub size-most : w .size ≤ 65536
+  pub size-most : w .size < 2 ^ 60
 
 pub ruled-facts : (w : Shapes) → ruled w ≡ true → Ruled w
 unfolding ruled
 ruled-facts w e =
-    let e1 : (ltb (w .from) (2 ^ 64) && (eqb (w .size % 8) 0 && leb (w .size) 65536)) ≡ true = and-right (eqb (w .from % 8) 0) _ e in
-    let e2 : (eqb (w .size % 8) 0 && leb (w .size) 65536) ≡ true = and-right (ltb (w .from) (2 ^ 64)) _ e1 in
+    let e1 : (ltb (w .from) (2 ^ 64) && (eqb (w .size % 8) 0 && leb (w .size) windowMax)) ≡ true = and-right (eqb (w .from % 8) 0) _ e in
+    let e2 : (eqb (w .size % 8) 0 && leb (w .size) windowMax) ≡ true = and-right (ltb (w .from) (2 ^ 64)) _ e1 in
     record {
       base-aligned = eqb-true _ _ (and-left (eqb (w .from % 8) 0) _ e);
       base-word = ltb-true _ _ (and-left (ltb (w .from) (2 ^ 64)) _ e1);
       size-octas = eqb-true _ _ (and-left (eqb (w .size % 8) 0) _ e2);
-      size-most = leb-true _ _ (and-right (eqb (w .size % 8) 0) _ e2);
+      size-most = let m : w .size ≤ windowMax = leb-true _ _ (and-right (eqb (w .size % 8) 0) _ e2) in omega arith;
     }
 
 getD-part : (n : ℕ) (l : List ℕ) (o k : ℕ) → k < n → getD (part l o n) k 0 ≡ getD l (o + k) 0
@@ -111,11 +125,11 @@ getD-part (suc n) l o zero h = ap (λ (i : ℕ). getD l i 0) (omega arith)
 getD-part (suc n) l o (suc k) h = getD-part n l (suc o) k (omega arith) ∙ ap (λ (i : ℕ). getD l i 0) (omega arith)
 
 -- the distance back from an octabyte d places past the base, in octabytes; the sum may pass 2^61
-distance : (c d : ℕ) → c < 2 ^ 61 → d < 8192 → Dec (c + d < 2 ^ 61) → (8 * ((c + d) % 2 ^ 61) + (2 ^ 64 - 8 * c)) % 2 ^ 64 ≡ 8 * d
+distance : (c d : ℕ) → c < 2 ^ 61 → d < 2 ^ 57 → Dec (c + d < 2 ^ 61) → (8 * ((c + d) % 2 ^ 61) + (2 ^ 64 - 8 * c)) % 2 ^ 64 ≡ 8 * d
 distance c d p q (yes l) = let e : (c + d) % 2 ^ 61 ≡ c + d = omega arith in rw e (omega arith)
 distance c d p q (no l) = let e : (c + d) % 2 ^ 61 ≡ c + d - 2 ^ 61 = omega arith in rw e (omega arith)
 
-offset-byte : (b i : ℕ) → b % 8 ≡ 0 → b < 2 ^ 64 → i < 65536 → offset b (b + i) ≡ 8 * (i / 8)
+offset-byte : (b i : ℕ) → b % 8 ≡ 0 → b < 2 ^ 64 → i < 2 ^ 60 → offset b (b + i) ≡ 8 * (i / 8)
 unfolding offset octa
 offset-byte b i al wo l =
     let e : (b + i) / 8 ≡ b / 8 + i / 8 = omega arith in
@@ -126,7 +140,7 @@ offset-byte b i al wo l =
 pub byte-of : (w : Windows) (i : ℕ) → Ruled (shapesOf w) → i < length (w .bytes) → getD (w .bytes) i 0 ≡ getD (octaAt w (w .base + i)) (i % 8) 0
 unfolding octaBytes shapeOf
 byte-of w i r l =
-    let n : length (w .bytes) ≤ 65536 = r .size-most in
+    let n : length (w .bytes) < 2 ^ 60 = r .size-most in
     let e : offset (w .base) (w .base + i) ≡ 8 * (i / 8) = offset-byte (w .base) i (r .base-aligned) (r .base-word) (omega arith) in
     ap (λ (k : ℕ). getD (w .bytes) k 0) (omega arith) ∙ sym (getD-part 8 (w .bytes) (offset (w .base) (w .base + i)) (i % 8) (omega arith))
 

@@ -4,6 +4,7 @@ use mathlib.Core.Logic.{_≢_}
 use mathlib.Core.Bool.{Bool, true, false}
 use mathlib.Core.List.{List}
 use Prim.Native.Nat.{ℕ, _+_, _-_, _*_, _%_, _^_, _<_, _≤_}
+use native.Mathlib.Omega.{arith}
 use lib.Count.{leadingZeros}
 use lib.ListN.{length, getD}
 use borrow.Author.Tests.{le-ltb, lt-ltb, le-leb, lt-leb, ne-eqb}
@@ -23,21 +24,22 @@ use Rattle.model.specs.declared.State.{State}
 use Rattle.model.proofs.Runs.{length-tab}
 use Rattle.model.proofs.Meets.{worst-six}
 use Rattle.model.proofs.Entry.{performOn, said, step-open}
+use Rattle.model.proofs.Sent.{step-refused, step-inadmissible, step-unruled}
 use Rattle.model.proofs.Rules.{has-clear}
 
 -- ---- 1 to 5
 
 one-first : (w : Windows) (s : State) (op x y z : ℕ) → admissible s ≡ false → stepOf w s op x y z ≡ refusedBy 1 w s
-unfolding stepOf stepPlan guarded unruledBy fromThree tell
-one-first w s op x y z e = rw e (said w s s 1)
+one-first = step-inadmissible
 
 two-next : (w : Windows) (s : State) (op x y z : ℕ) → admissible s ≡ true → ruled (shapesOf w) ≡ false → stepOf w s op x y z ≡ refusedBy 2 w s
-unfolding stepOf stepPlan guarded unruledBy fromThree tell
-two-next w s op x y z a e = rw (a, e) (said w s s 2)
+two-next = step-unruled
 
 three-to-five : (w : Windows) (s : State) (op x y z : ℕ) → Passes w s → refusalOf (armOf op) x y z ≢ 0 → stepOf w s op x y z ≡ refusedBy (refusalOf (armOf op) x y z) w s
-unfolding stepOf stepPlan guarded unruledBy fromThree tell
-three-to-five w s op x y z h n = rw (h .admitted, h .windowed, ne-eqb (refusalOf (armOf op) x y z) 0 n) (said w s s (refusalOf (armOf op) x y z))
+three-to-five w s op x y z h n = step-refused w s (h .admitted) (h .windowed) op x y z (refusalOf (armOf op) x y z) refl (nonzero (refusalOf (armOf op) x y z) n)
+  where
+    nonzero : (r : ℕ) → r ≢ 0 → 1 ≤ r
+    nonzero r f = omega arith
 
 -- ---- runs
 

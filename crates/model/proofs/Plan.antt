@@ -1,9 +1,9 @@
 -- Laws of plans, by induction over plans: for every step that will ever be added, over any lawful store.
--- In order: lists of addresses; properties of answers; what a plan touches; equal memories; kept octabytes; the needs; plans under a map.
+-- In order: lists of addresses; properties of answers; what a plan touches; equal memories; kept octabytes; the needs; runs of stores; plans under a map.
 use mathlib.Core.Path.{_≡_, refl, sym, ap, _∙_, subst}
 use mathlib.Core.Bool.{Bool, true, false, cond}
 use mathlib.Core.List.{List, [], _∷_, _++_}
-use Prim.Native.Nat.{ℕ, zero, suc, _+_, _-_, _≤_}
+use Prim.Native.Nat.{ℕ, zero, suc, _+_, _-_, _*_, _≤_}
 use native.Mathlib.Omega.{arith}
 use native.Mathlib.Decide.{ℕ-discrete}
 use lib.ListN.{length}
@@ -217,6 +217,17 @@ module _ {M Sh : Type 0} (st : Store M Sh) (law : Lawful st) where
 
   pub perform-shape : {S : Type 0} (j : ℕ → ℕ) (s : S) (p : Plan S) (v : M) → st .shape (perform st j s p v .memory) ≡ st .shape v
   perform-shape j s p v = perform-kept (λ o. ⊥) j s p v (All-of _ (touches st j p v) (λ b x. x)) .shape-kept
+
+-- ---- runs of stores
+
+module _ {M Sh : Type 0} (st : Store M Sh) where
+  pub puts-append : (m : M) (a : ℕ) (us vs : List ℕ) → puts st m a (us ++ vs) ≡ puts st (puts st m a us) (a + 8 * length us) vs
+  unfolding puts
+  puts-append m a [] vs = ap (λ (k : ℕ). puts st m k vs) (omega arith)
+  puts-append m a (u ∷ us) vs = puts-append (st .put m a u) (a + 8) us vs ∙ ap (λ (k : ℕ). puts st (puts st (st .put m a u) (a + 8) us) k vs) (omega arith)
+
+  pub puts-more : (m : M) (a : ℕ) (vs : List ℕ) (v : ℕ) → puts st m a (vs ++ (v ∷ [])) ≡ st .put (puts st m a vs) (a + 8 * length vs) v
+  puts-more m a vs v = puts-append m a vs (v ∷ []) ∙ (unfold puts in refl)
 
 -- ---- plans under a map
 

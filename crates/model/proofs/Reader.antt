@@ -127,7 +127,7 @@ pub offset-next : (base a : ℕ) → offset base a + 8 < 2 ^ 64 → offset base 
 unfolding offset octa
 offset-next base a h = omega arith
 
-offset-run : (base a n : ℕ) → ((i : ℕ) → i < n → offset base (a + 8 * i) + 8 ≤ 65536) → offset base (a + 8 * n) ≡ offset base a + 8 * n
+offset-run : (base a n : ℕ) → ((i : ℕ) → i < n → offset base (a + 8 * i) + 8 < 2 ^ 60) → offset base (a + 8 * n) ≡ offset base a + 8 * n
 offset-run base a zero h = let z : a + 8 * 0 ≡ a = omega arith in rw z (omega arith)
 offset-run base a (suc n) h =
     let z : a + 8 * suc n ≡ a + 8 * n + 8 = omega arith in
@@ -139,10 +139,10 @@ unfolding offset
 offset-mod base a b e = rw (octa-mod a b e)
 
 -- an octabyte of a window that obeys the rules
-offset-small : (w : Windows) (a : ℕ) → ruled (shapesOf w) ≡ true → refusing (shapesOf w) a ≡ 0 → offset (w .base) a + 8 ≤ 65536
+offset-small : (w : Windows) (a : ℕ) → ruled (shapesOf w) ≡ true → refusing (shapesOf w) a ≡ 0 → offset (w .base) a + 8 < 2 ^ 60
 unfolding shapeOf has one
 offset-small w a r h =
-    let m : length (w .bytes) ≤ 65536 = ruled-facts (shapesOf w) r .size-most in
+    let m : length (w .bytes) < 2 ^ 60 = ruled-facts (shapesOf w) r .size-most in
     let i : offset (w .base) a + 8 ≤ length (w .bytes) = leb-true _ _ (sound (shapesOf w) a h) in
     omega arith
 

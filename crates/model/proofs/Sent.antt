@@ -20,7 +20,7 @@ use Rattle.model.specs.Step.{refusalOf, unruledBy, refusing, planOf, gua
 use Rattle.model.specs.Numbers.{Lost}
 use Rattle.model.specs.declared.State.{State}
 use Rattle.model.proofs.Bools.{on, on-both}
-use Rattle.model.proofs.Entry.{performOn, said, step-open}
+use Rattle.model.proofs.Entry.{guarded-one, guarded-two, guarded-open, performOn, said, step-open}
 use Rattle.model.proofs.Meets.{Answers, worst-six, context-meets, perform-meets}
 use Rattle.model.proofs.Keeps.{Any}
 
@@ -36,17 +36,17 @@ module _ (w : Windows) (s : State) (a : admissible s ≡ true) (r : ruled (shape
 
   -- 3, 4, 5
   pub step-refused : (op x y z n : ℕ) → refusalOf (armOf op) x y z ≡ n → 1 ≤ n → stepOf w s op x y z ≡ record { reply = n; state = s; memory = w }
-  unfolding stepOf stepPlan guarded unruledBy fromThree
-  step-refused op x y z n e l = rw (a, r, e, ne-eqb n 0 (λ q. let z : n ≡ 0 = q in omega arith)) (told w s (say n s))
+  unfolding stepOf stepPlan fromThree
+  step-refused op x y z n e l = guarded-open w s s (fromThree s (armOf op) op x y z) a r ∙ rw (e, ne-eqb n 0 (λ q. let z : n ≡ 0 = q in omega arith)) (told w s (say n s))
 
 -- 1, 2
 pub step-inadmissible : (w : Windows) (s : State) (op x y z : ℕ) → admissible s ≡ false → stepOf w s op x y z ≡ record { reply = 1; state = s; memory = w }
-unfolding stepOf stepPlan guarded tell
-step-inadmissible w s op x y z a = rw a (told w s (say 1 s))
+unfolding stepOf stepPlan
+step-inadmissible w s op x y z a = guarded-one w s s (fromThree s (armOf op) op x y z) a
 
 pub step-unruled : (w : Windows) (s : State) (op x y z : ℕ) → admissible s ≡ true → ruled (shapesOf w) ≡ false → stepOf w s op x y z ≡ record { reply = 2; state = s; memory = w }
-unfolding stepOf stepPlan guarded unruledBy tell
-step-unruled w s op x y z a r = rw (a, r) (told w s (say 2 s))
+unfolding stepOf stepPlan
+step-unruled w s op x y z a r = guarded-two w s s (fromThree s (armOf op) op x y z) a r
 
 -- ---- PC sent on to t where the step is done
 

@@ -11,7 +11,7 @@ use native.Mathlib.Omega.{arith}
 use borrow.Author.Tests.{le-leb}
 use lib.ListN.{length}
 use Rattle.model.specs.Octa.{octa, part, written, valueOf, bytesOf}
-use Rattle.model.specs.Memory.{Window, shapeOf, offset, has, writeOcta, one}
+use Rattle.model.specs.Memory.{Windows, shapesOf, shapeOf, offset, inside, has, putOcta, writeOcta, both}
 use Rattle.model.specs.Plan.{look}
 use Rattle.model.specs.Parts.{lent}
 use Rattle.model.proofs.Octa.{length-written, part-cong, part-written, written-below, written-above, value-bytes}
@@ -28,7 +28,7 @@ module _ (l : List ℕ) (i : ℕ) (fits : 8 * i + 8 ≤ length l) (small : 8 * i
   unfolding offset octa
   at-offset = omega arith
 
-  inside : has (shapeOf (lent 0 l)) (8 * i) ≡ true
+  inside : inside (shapesOf (lent 0 l)) (8 * i) ≡ true
   unfolding has shapeOf
   inside =
       let h : offset 0 (8 * i) + 8 ≤ length l = omega (arith, at-offset) in
@@ -37,14 +37,14 @@ module _ (l : List ℕ) (i : ℕ) (fits : 8 * i + 8 ≤ length l) (small : 8 * i
   pub read-octabyte : readOcta (lent 0 l) (8 * i) ≡ octabyteOf l i
   unfolding readOcta octabyteOf
   read-octabyte =
-      ap (λ (t : Bool). cond t (look one (lent 0 l) (8 * i)) 0) inside
+      ap (λ (t : Bool). cond t (look both (lent 0 l) (8 * i)) 0) inside
       ∙ look-is (lent 0 l) (8 * i)
       ∙ ap (λ (n : ℕ). valueOf 0 (part l n 8)) at-offset
 
   pub write-octabyte : (m : List ℕ) (v : ℕ) → lent 0 m ≡ writtenOcta (lent 0 l) (8 * i) v → m ≡ written l (8 * i) (bytesOf v)
   unfolding writtenOcta writeOcta
   write-octabyte m v e =
-      ap (λ (w : Window). w .bytes) (e ∙ ap (λ (t : Bool). cond t (writeOcta (lent 0 l) (8 * i) v) (lent 0 l)) inside)
+      ap (λ (w : Windows). w .bytes) (e ∙ ap (λ (t : Bool). cond t (putOcta (lent 0 l) (8 * i) v) (lent 0 l)) inside)
       ∙ ap (λ (n : ℕ). written l n (bytesOf v)) at-offset
 
 -- ---- a write

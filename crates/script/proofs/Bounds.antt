@@ -9,7 +9,7 @@ use lib.Dec.{ltb, leb, eqb}
 use lib.ListN.{length, drop, getD, length-append, length-drop}
 use borrow.Author.Tests.{ltb-true, leb-true}
 use Rattle.model.specs.Registers.{rG, rL, rO, sp}
-use Rattle.model.specs.Memory.{Window}
+use Rattle.model.specs.Memory.{Windows}
 use Rattle.model.specs.Plan.{Outcome}
 use Rattle.model.specs.Step.{stepOf}
 use Rattle.model.specs.Bench.{start}
@@ -103,8 +103,8 @@ enough l =
     tt))
 
 -- what a line prints is little for its length, but for the bad one at the end
-module _ (n : ℕ) (s : State) (w : Window) (l : List ℕ) where
-  abbrev stepped : Instruction → Outcome State Window
+module _ (n : ℕ) (s : State) (w : Windows) (l : List ℕ) where
+  abbrev stepped : Instruction → Outcome State Windows
   stepped i = stepOf w s (i .op) (i .x) (i .y) (i .z)
 
   most-if-on : (f : Form) → Enough l f → turnOf n s w f .goesOn ≡ true → length (turnOf n s w f .text) ≤ 12 * suc (length l)
@@ -139,7 +139,7 @@ joined-pieces (b ∷ l) =
     first [] h = absurd (omega arith)
     first (p ∷ ps) h = omega arith
 
-most-carried : (n : ℕ) (s : State) (w : Window) (p : List ℕ) (ps : List (List ℕ)) → length (carried n s w (p ∷ ps)) + 12 ≤ 12 * joined (p ∷ ps) + 27
+most-carried : (n : ℕ) (s : State) (w : Windows) (p : List ℕ) (ps : List (List ℕ)) → length (carried n s w (p ∷ ps)) + 12 ≤ 12 * joined (p ∷ ps) + 27
 unfolding carried joined
 most-carried n s w p [] = on (λ (t : List ℕ). length t + 12 ≤ 12 * (suc (length p) + 0) + 27) (eqb (length p) 0) (λ e. omega arith) (λ e. omega (arith, bad-most n))
 most-carried n s w p (q ∷ ps) =
@@ -152,7 +152,7 @@ most-carried n s w p (q ∷ ps) =
     go t true u h k r = omega (arith, length-append t u, h refl)
     go t false u h k r = omega (arith, length-append t [])
 
-pub carried-most : (n : ℕ) (s : State) (w : Window) (l : List ℕ) → length (carried n s w (pieces l)) ≤ 12 * length l + 27
+pub carried-most : (n : ℕ) (s : State) (w : Windows) (l : List ℕ) → length (carried n s w (pieces l)) ≤ 12 * length l + 27
 unfolding carried joined
 carried-most n s w l = go (pieces l) (joined-pieces l)
   where

@@ -11,7 +11,7 @@ use lib.Seq.{drop-cons, drop-drop, set-out}
 use borrow.Author.Tests.{le-leb, lt-leb, eq-eqb, ne-eqb}
 use Rattle.model.specs.Octa.{written}
 use Rattle.model.specs.Registers.{Sized, rG, rL, rO, sp, fresh, setRegister, withSpecial}
-use Rattle.model.specs.Memory.{Window}
+use Rattle.model.specs.Memory.{Windows}
 use Rattle.model.specs.Numbers.{numberOf}
 use Rattle.model.specs.Step.{stepOf}
 use Rattle.model.specs.Parts.{made}
@@ -100,7 +100,7 @@ pub special-out : (s : State) (k v : ℕ) → length (s .special) ≤ k → s �
 unfolding withSpecial
 special-out s k v h = λ i. record { general = s .general; special = sym (set-out (s .special) k v h) i; pc = s .pc; halt = s .halt; marks = s .marks }
 
-module _ (n : ℕ) (s : State) (w : Window) (f : Form) (b : List ℕ) (at : ℕ) where
+module _ (n : ℕ) (s : State) (w : Windows) (f : Form) (b : List ℕ) (at : ℕ) where
   pub leaves-register : (a : Setting) → f ≡ Register a → (t : State) → t ≡ setRegister s (a .index) (a .value) → Leaves (turnOf n s w f) b at b at true t w
   unfolding turnOf
   leaves-register a e t h = rw e (record { text-is = wrote-nothing b at; goes-on-is = refl; state-is = h; window-is = refl })
@@ -113,12 +113,12 @@ module _ (n : ℕ) (s : State) (w : Window) (f : Form) (b : List ℕ) (at : ℕ)
   unfolding turnOf
   leaves-bad e c end h = rw e (record { text-is = h; goes-on-is = refl; state-is = refl; window-is = refl })
 
-  pub leaves-same : (g : Form) → f ≡ g → (c : List ℕ) (end : ℕ) (going : Bool) (t : State) (v : Window)
+  pub leaves-same : (g : Form) → f ≡ g → (c : List ℕ) (end : ℕ) (going : Bool) (t : State) (v : Windows)
       → Leaves (turnOf n s w g) b at c end going t v → Leaves (turnOf n s w f) b at c end going t v
   leaves-same g e c end going t v h = rw e h
 
 -- a step's reply is one of 0 to 20, so that its number says all
-pub leaves-step : (n : ℕ) (s : State) (w : Window) (i : Instruction) (b : List ℕ) (at : ℕ) → Sized s → (q : Reply) (t : State) (v : Window)
+pub leaves-step : (n : ℕ) (s : State) (w : Windows) (i : Instruction) (b : List ℕ) (at : ℕ) → Sized s → (q : Reply) (t : State) (v : Windows)
     → Whole (stepOf w s (i .op) (i .x) (i .y) (i .z)) q t v → (number : ℕ) → number ≡ numberOf q
     → (c : List ℕ) (end : ℕ) → Wrote b at (stepText i number t) c end → Leaves (turnOf n s w (Step i)) b at c end (eqb number 0) t v
 unfolding turnOf
@@ -136,7 +136,7 @@ leaves-step n s w i b at z q t v g number e c end p =
 
 -- ---- what is left of a script
 
-module _ (n : ℕ) (s : State) (w : Window) where
+module _ (n : ℕ) (s : State) (w : Windows) where
   carried-more : (p : List ℕ) (ps : List (List ℕ)) → 0 < length ps
       → carried n s w (p ∷ ps)
       ≡ turnOf n s w (lineOf p) .text
@@ -173,7 +173,7 @@ module _ (n : ℕ) (s : State) (w : Window) where
       (carried-more (take (lineLength (drop at l)) (drop at l)) (pieces (drop (suc (lineLength (drop at l))) (drop at l))) (pieces-some _))
 
 -- how the loop over lines goes on, and how it ends
-module _ (l b t : List ℕ) (n : ℕ) (s : State) (w : Window) (c : List ℕ) (next at end : ℕ) (f : Form) (d : List ℕ) (m : ℕ) (going : Bool) (u : State) (v : Window)
+module _ (l b t : List ℕ) (n : ℕ) (s : State) (w : Windows) (c : List ℕ) (next at end : ℕ) (f : Form) (d : List ℕ) (m : ℕ) (going : Bool) (u : State) (v : Windows)
     (h : at < length l) (e : end ≡ at + lineLength (drop at l)) (z : end ≡ length l → ⊥) (g : f ≡ lineOf (take (end - at) (drop at l)))
     (p : Leads c next (carried n s w (pieces (drop at l))) b 0 t) (q : Leaves (turnOf n s w f) c next d m going u v) where
   left : (k : Bool) → going ≡ k
@@ -200,9 +200,9 @@ module _ (l b c : List ℕ) (r : ℕ) where
   unfolding printed
   prints-long h p = rw (lt-leb (length l) scriptMost h) (p .bytes-are, omega (arith, p .end-is))
 
-  pub prints-carried : length l ≤ scriptMost → (s : State) (w : Window) → s ≡ start → w ≡ window → Wrote b 0 (carried 1 s w (pieces l)) c r
+  pub prints-carried : length l ≤ scriptMost → (s : State) (w : Windows) → s ≡ start → w ≡ window → Wrote b 0 (carried 1 s w (pieces l)) c r
       → (c ≡ written b 0 (printed l)) × (r ≡ length (printed l))
   unfolding printed
   prints-carried h s w e f p =
-      let k : carried 1 s w (pieces l) ≡ carried 1 start window (pieces l) = ap (λ (u : State). carried 1 u w (pieces l)) e ∙ ap (λ (v : Window). carried 1 start v (pieces l)) f in
+      let k : carried 1 s w (pieces l) ≡ carried 1 start window (pieces l) = ap (λ (u : State). carried 1 u w (pieces l)) e ∙ ap (λ (v : Windows). carried 1 start v (pieces l)) f in
       rw (le-leb (length l) scriptMost h) (p .bytes-are ∙ ap (written b 0) k, omega (arith, p .end-is, ap length k))

@@ -7,7 +7,7 @@ use mathlib.Core.List.{List, [], _∷_, _++_}
 use lib.Dec.{leb, eqb}
 use lib.ListN.{length, replicate, take}
 use Rattle.model.specs.Registers.{rG, rL, rO, sp, stackStart, setRegister, withSpecial}
-use Rattle.model.specs.Memory.{Window}
+use Rattle.model.specs.Memory.{Windows}
 use Rattle.model.specs.Plan.{Outcome}
 use Rattle.model.specs.Step.{stepOf}
 use Rattle.model.specs.Bench.{start}
@@ -47,16 +47,16 @@ pub record Turn : Type 0 where
   pub text : List ℕ
   pub goesOn : Bool
   pub state : State
-  pub window : Window
+  pub window : Windows
 
-abbrev turn : List ℕ → Bool → State → Window → Turn
+abbrev turn : List ℕ → Bool → State → Windows → Turn
 turn t b s w = record { text = t; goesOn = b; state = s; window = w }
 
-abbrev stepTurn : Instruction → Outcome State Window → Turn
+abbrev stepTurn : Instruction → Outcome State Windows → Turn
 stepTurn i o = turn (stepText i (o .reply) (o .state)) (eqb (o .reply) 0) (o .state) (o .memory)
 
 -- "`reg` is written as by `set_register`, `special` (up to 1f) directly"; n is the line's number
-unfoldable pub turnOf : ℕ → State → Window → Form → Turn
+unfoldable pub turnOf : ℕ → State → Windows → Form → Turn
 turnOf n s w (Register a) = turn [] true (setRegister s (a .index) (a .value)) w
 turnOf n s w (Special a) = turn [] true (withSpecial s (a .index) (a .value)) w
 turnOf n s w (Step i) = stepTurn i (stepOf w s (i .op) (i .x) (i .y) (i .z))
@@ -74,7 +74,7 @@ pieces [] = [] ∷ []
 pieces (b ∷ l) = cond (eqb b 10) ([] ∷ pieces l) (atFirst b (pieces l))
 
 -- from line n on; "a newline ends each line", so what follows the last one is bad unless it is nothing
-unfoldable pub carried : ℕ → State → Window → List (List ℕ) → List ℕ
+unfoldable pub carried : ℕ → State → Windows → List (List ℕ) → List ℕ
 carried n s w [] = []
 carried n s w (p ∷ []) = cond (eqb (length p) 0) [] (badText n)
 carried n s w (p ∷ q ∷ ps) =
@@ -82,7 +82,7 @@ carried n s w (p ∷ q ∷ ps) =
     ++ cond (turnOf n s w (lineOf p) .goesOn) (carried (suc n) (turnOf n s w (lineOf p) .state) (turnOf n s w (lineOf p) .window) (q ∷ ps)) []
 
 -- "window base 0x6000000000000000 and 2,048 bytes, all 0"; the start is that of the bench points
-unfoldable pub window : Window
+unfoldable pub window : Windows
 window = record { base = stackStart; bytes = replicate 2048 0 }
 
 -- "at most 65,536 bytes of script"

@@ -6,7 +6,7 @@ use mathlib.Core.List.{List, [], _∷_}
 use lib.Dec.{eqb}
 use lib.ListN.{length}
 use Rattle.model.specs.Octa.{written}
-use Rattle.model.specs.Memory.{Window}
+use Rattle.model.specs.Memory.{Windows}
 use Rattle.model.specs.declared.State.{State}
 use Rattle.script.specs.Text.{hexadecimal, decimal, hexMark, decimalMark}
 use Rattle.script.specs.Script.{Turn}
@@ -30,7 +30,7 @@ lineLength [] = 0
 lineLength (b ∷ l) = cond (eqb b 10) 0 (suc (lineLength l))
 
 -- a turn's text stands in the buffer, and the rest of it is what is handed on
-pub record Leaves (t : Turn) (b : List ℕ) (at : ℕ) (c : List ℕ) (end : ℕ) (goesOn : Bool) (s : State) (w : Window) : Type 0 where
+pub record Leaves (t : Turn) (b : List ℕ) (at : ℕ) (c : List ℕ) (end : ℕ) (goesOn : Bool) (s : State) (w : Windows) : Type 0 where
   pub text-is : Wrote b at (t .text) c end
   pub goes-on-is : goesOn ≡ t .goesOn
   pub state-is : s ≡ t .state

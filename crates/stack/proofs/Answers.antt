@@ -6,8 +6,8 @@ use Prim.Native.Nat.{ℕ, _+_, _-_, _≤_, _<_}
 use lib.Dec.{eqb}
 use borrow.Author.Tests.{lt-ltb, le-ltb, eq-eqb, ne-eqb}
 use Rattle.model.specs.Fill.{tab}
-use Rattle.model.specs.Memory.{Window, shapeOf, ruled, one}
-use Rattle.model.specs.Plan.{Plan, Outcome, perform, worst, puts}
+use Rattle.model.specs.Memory.{Windows, shapesOf, ruled, both}
+use Rattle.model.specs.Plan.{Outcome, perform, worst, puts}
 use Rattle.model.specs.Registers.{rO, rG, sp, admissible, goes, next, halted, stored, spilled, withSpecial}
 use Rattle.model.specs.Contexts.{extent, saved, savedUnspilled, savedState, saveContext, unsavedUnspilled, unsaved, contextAt, unsaveContext}
 use Rattle.model.specs.Said.{tell}
@@ -21,10 +21,11 @@ use Rattle.model.proofs.Good.{Adm, adm}
 use Rattle.model.proofs.Meets.{worst-six}
 use Rattle.model.proofs.Runs.{length-tab}
 use Rattle.model.proofs.Entry.{performOn, Inside, said}
-use Rattle.stack.specs.Gives.{guarded, guardedOn, Gives}
+use Rattle.stack.specs.Gives.{Gives}
 use Rattle.stack.specs.Context.{saveOf, unsaveOf, LocatedIs}
 use Rattle.stack.specs.Work.{Ranged, StoresContext, octasFrom}
 use Rattle.stack.specs.declared.layout.Located.{Located}
+use Rattle.stack.proofs.Judged.{guarded-one, guarded-two, guarded-open}
 use Rattle.stack.proofs.Turns.{comes}
 
 -- the bounds of an admissible state
@@ -35,7 +36,7 @@ ranged general special pc halt marks e =
 
 -- ---- outcomes as what is given back
 
-module _ (w : Window) (s : State) (o : Outcome State Window) (n : ℕ) (r : Reply) (q : r ≡ replyOf n) where
+module _ (w : Windows) (s : State) (o : Outcome State Windows) (n : ℕ) (r : Reply) (q : r ≡ replyOf n) where
   kept : o ≡ record { reply = n; state = s; memory = w } → Gives o s r s w
   unfolding goes
   kept e = rw e (record { reply-is = q; state-is = refl; window-is = refl })
@@ -48,84 +49,69 @@ module _ (w : Window) (s : State) (o : Outcome State Window) (n : ℕ) (r : Repl
   unfolding goes
   moves t u d f e = rw (e, d) (record { reply-is = q; state-is = ap (λ (a : ℕ). made (u .general) (u .special) a (u .halt) (u .marks)) f; window-is = refl })
 
--- ---- 1, 2, then the plan
-
-module _ (w : Window) (s : State) (q : Plan State) where
-  guard-state : admissible s ≡ false → guardedOn w s q ≡ record { reply = 1; state = s; memory = w }
-  unfolding guardedOn guarded tell
-  guard-state a = rw a (said w s s 1)
-
-  guard-window : admissible s ≡ true → ruled (shapeOf w) ≡ false → guardedOn w s q ≡ record { reply = 2; state = s; memory = w }
-  unfolding guardedOn guarded tell
-  guard-window a r = rw (a, r) (said w s s 2)
-
-  guard-open : admissible s ≡ true → ruled (shapeOf w) ≡ true → guardedOn w s q ≡ performOn w s q
-  unfolding guardedOn guarded
-  guard-open a r = rw (a, r)
-
 -- ---- SAVE
 
-module _ (w : Window) (s : State) (x : ℕ) where
+module _ (w : Windows) (s : State) (x : ℕ) where
   pub save-state : admissible s ≡ false → Gives (saveOf w s x) s NotAdmissible s w
   unfolding saveOf replyOf
-  save-state a = kept w s _ 1 NotAdmissible refl (guard-state w s (saveContext s x) a)
+  save-state a = kept w s _ 1 NotAdmissible refl (guarded-one w s (saveContext s x) a)
 
   module _ (a : admissible s ≡ true) where
-    pub save-window : ruled (shapeOf w) ≡ false → Gives (saveOf w s x) s WindowRule s w
+    pub save-window : ruled (shapesOf w) ≡ false → Gives (saveOf w s x) s WindowRule s w
     unfolding saveOf replyOf
-    save-window r = kept w s _ 2 WindowRule refl (guard-window w s (saveContext s x) a r)
+    save-window r = kept w s _ 2 WindowRule refl (guarded-two w s (saveContext s x) a r)
 
-    module _ (r : ruled (shapeOf w) ≡ true) where
+    module _ (r : ruled (shapesOf w) ≡ true) where
       pub save-local : x < sp s rG → Gives (saveOf w s x) s SaveLocal (halted s) w
       unfolding saveOf replyOf
-      save-local l = halts w s _ 13 SaveLocal refl (guard-open w s (saveContext s x) a r ∙ plan)
+      save-local l = halts w s _ 13 SaveLocal refl (guarded-open w s (saveContext s x) a r ∙ plan)
         where
           plan : performOn w s (saveContext s x) ≡ record { reply = 13; state = halted s; memory = w }
           plan = unfold saveContext tell in rw (lt-ltb x (sp s rG) l) (said w s (halted s) 13)
 
       pub save-missing : sp s rG ≤ x → (Inside w (sp s rO) (extent s) → ⊥) → Gives (saveOf w s x) s Missing s w
       unfolding saveOf replyOf
-      save-missing l f = kept w s _ 6 Missing refl (guard-open w s (saveContext s x) a r ∙ plan)
+      save-missing l f = kept w s _ 6 Missing refl (guarded-open w s (saveContext s x) a r ∙ plan)
         where
-          short : eqb (worst (refusing (shapeOf w)) (sp s rO) (extent s)) 0 ≡ false
+          short : eqb (worst (refusing (shapesOf w)) (sp s rO) (extent s)) 0 ≡ false
           short = ne-eqb _ _ f
 
           plan : performOn w s (saveContext s x) ≡ record { reply = 6; state = s; memory = w }
           plan = unfold saveContext perform in
-              rw (le-ltb x (sp s rG) l, length-tab (extent s) 0 (saved s), short, worst-six (shapeOf w) (extent s) (sp s rO) short)
+              rw (le-ltb x (sp s rG) l, length-tab (extent s) 0 (saved s), short, worst-six (shapesOf w) (extent s) (sp s rO) short)
 
-      pub save-done : sp s rG ≤ x → Inside w (sp s rO) (extent s) → (t : State) (v : Window) → t ≡ savedState s x
+      pub save-done : sp s rG ≤ x → Inside w (sp s rO) (extent s) → (t : State) (v : Windows) → t ≡ savedState s x
           → StoresContext (s .general) (s .special) w v → Gives (saveOf w s x) s Done t v
       unfolding saveOf replyOf
       save-done l f t v et c =
-          let ev : v ≡ puts one w (sp s rO) (tab 0 (extent s) (saved s)) = c .stores (s .pc) (s .halt) (s .marks) (adm s a .marks-high) f in
-          rw ev (moves (puts one w (sp s rO) (tab 0 (extent s) (saved s))) s _ 0 Done refl t (savedState s x) et same (guard-open w s (saveContext s x) a r ∙ plan))
+          let ev : v ≡ puts both w (sp s rO) (tab 0 (extent s) (saved s)) = c .stores (s .pc) (s .halt) (s .marks) (adm s a .marks-high) f in
+          rw ev (moves (puts both w (sp s rO) (tab 0 (extent s) (saved s))) s _ 0 Done refl t (savedState s x) et same (guarded-open w s (saveContext s x) a r ∙ plan))
         where
           same : savedState s x .pc ≡ s .pc
           same = unfold savedState spilled withSpecial savedUnspilled stored in refl
 
-          plan : performOn w s (saveContext s x) ≡ record { reply = 0; state = next (savedState s x); memory = puts one w (sp s rO) (tab 0 (extent s) (saved s)) }
+          plan : performOn w s (saveContext s x) ≡ record { reply = 0; state = next (savedState s x); memory = puts both w (sp s rO) (tab 0 (extent s) (saved s)) }
           plan = unfold saveContext perform in rw (le-ltb x (sp s rG) l, length-tab (extent s) 0 (saved s), eq-eqb _ _ f)
 
 -- ---- UNSAVE
 
-module _ (w : Window) (s : State) (p : ℕ) where
+module _ (w : Windows) (s : State) (p : ℕ) where
   pub unsave-state : admissible s ≡ false → Gives (unsaveOf w s p) s NotAdmissible s w
   unfolding unsaveOf replyOf
-  unsave-state a = kept w s _ 1 NotAdmissible refl (guard-state w s (unsaveContext s p) a)
+  unsave-state a = kept w s _ 1 NotAdmissible refl (guarded-one w s (unsaveContext s p) a)
 
   module _ (a : admissible s ≡ true) where
-    pub unsave-window : ruled (shapeOf w) ≡ false → Gives (unsaveOf w s p) s WindowRule s w
+    pub unsave-window : ruled (shapesOf w) ≡ false → Gives (unsaveOf w s p) s WindowRule s w
     unfolding unsaveOf replyOf
-    unsave-window r = kept w s _ 2 WindowRule refl (guard-window w s (unsaveContext s p) a r)
+    unsave-window r = kept w s _ 2 WindowRule refl (guarded-two w s (unsaveContext s p) a r)
 
-    module _ (r : ruled (shapeOf w) ≡ true) (at : Located) (h : LocatedIs w p at) where
+    module _ (r : ruled (shapesOf w) ≡ true) (at : Located) (h : LocatedIs w p at) where
       abbrev found : ℕ → ℕ → ℕ → ℕ → List ℕ → State
       found o g a l vs = next (unsaved s o g a l vs)
 
       opened : unsaveOf w s p ≡ performOn w s (contextAt (halted s) found p)
       unfolding unsaveOf unsaveContext
-      opened = guard-open w s (unsaveContext s p) a r
+      opened = guarded-open w s (unsaveContext s p) a r
 
       pub unsave-done : at .reply ≡ 0 → (t : State)
           → t ≡ unsaved s (at .first) (at .rg) (at .ra) (at .count) (octasFrom w (at .first) (at .count + 270 - at .rg)) → Gives (unsaveOf w s p) s Done t w

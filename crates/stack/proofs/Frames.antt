@@ -12,7 +12,7 @@ use lib.Seq.{ext-getD, getD-set-same, getD-set-other}
 use borrow.Author.Tests.{lt-ltb, le-ltb, lt-leb, le-leb, eq-eqb, ne-eqb, ltb-true}
 use Rattle.model.specs.Fill.{over, tab}
 use Rattle.model.specs.Registers.{rJ, rO, rS, rG, rL, stackStart, sp, reg, admissible, withSpecial, spilled}
-use Rattle.model.specs.Memory.{Window, Shape, shapeOf, one}
+use Rattle.model.specs.Memory.{Windows, Shapes, shapesOf, shapeOf, both}
 use Rattle.model.specs.Plan.{worst, looks, puts}
 use Rattle.model.specs.Frames.{framed, slid, slide, pushedRule, pushed, countOf, lastOutput, restored, unslide, popped, misplaced}
 use Rattle.model.specs.Parts.{made}
@@ -87,13 +87,13 @@ pub framed-hole : (s : State) (h : ℕ) → framed s h h ≡ h
 unfolding framed
 framed-hole s h = rw (le-ltb h h (omega arith))
 
-pub puts-length : (w : Window) (a : ℕ) (vs : List ℕ) → length (puts one w a vs .bytes) ≡ length (w .bytes)
+pub puts-length : (w : Windows) (a : ℕ) (vs : List ℕ) → length (puts both w a vs .bytes) ≡ length (w .bytes)
 unfolding shapeOf
-puts-length w a vs = ap (λ (z : Shape). z .size) (puts-shape w a vs)
+puts-length w a vs = ap (λ (z : Shapes). z .size) (puts-shape w a vs)
 
 -- one octabyte more of a list that is stored
-pub store-next : (w : Window) (a n i at : ℕ) → worst (refusing (shapeOf w)) a n ≡ 0 → i < n → at ≡ (a + 8 * i) % 2 ^ 64
-    → (f : ℕ → ℕ) (v : ℕ) (u z : Window) → z ≡ writtenOcta u at v → u ≡ puts one w a (tab 0 i f) → v ≡ f i → z ≡ puts one w a (tab 0 (i + 1) f)
+pub store-next : (w : Windows) (a n i at : ℕ) → worst (refusing (shapesOf w)) a n ≡ 0 → i < n → at ≡ (a + 8 * i) % 2 ^ 64
+    → (f : ℕ → ℕ) (v : ℕ) (u z : Windows) → z ≡ writtenOcta u at v → u ≡ puts both w a (tab 0 i f) → v ≡ f i → z ≡ puts both w a (tab 0 (i + 1) f)
 store-next w a n i at pass l e f v u z ez eu ev = ez ∙ rw eu (puts-tab w a n pass i at l e f v ev)
 
 -- what code has done is what PUSH does
@@ -121,7 +121,7 @@ unfolding misplaced
 misplaced-odd s ro e a = rw (e, ne-eqb _ _ a)
 
 -- the caller's registers, part by part: those above the outputs cleared, the outputs moved above the hole, the last one in it, the locals
-module _ (w : Window) (bottom last h count rg : ℕ) (g : List ℕ) where
+module _ (w : Windows) (bottom last h count rg : ℕ) (g : List ℕ) where
   abbrev by-rule : ℕ → ℕ
   by-rule = restoredBy w bottom last h count g
 
@@ -216,26 +216,26 @@ pub below : (ro d : ℕ) → stackStart < ro → ro < 0x8000000000000000 → d �
 below ro d a b l = omega arith
 
 -- what code asks of the window below rO
-module _ (w : Window) (l : List ℕ) (placed : Placed l) where
+module _ (w : Windows) (l : List ℕ) (placed : Placed l) where
   module _ (b : ℕ) (e : b ≡ (getD l rO 0 + (2 ^ 64 - 8)) % 2 ^ 64) where
     at-hole : b ≡ getD l rO 0 - 8
     at-hole = e ∙ below (getD l rO 0) 8 (placed .above) (placed .beneath) (omega arith)
 
-    pub hole-run : (n : ℕ) → n ≡ worst (refusing (shapeOf w)) b 1 → n ≡ worst (refusing (shapeOf w)) (getD l rO 0 - 8) 1
-    hole-run n q = q ∙ ap (λ (a : ℕ). worst (refusing (shapeOf w)) a 1) at-hole
+    pub hole-run : (n : ℕ) → n ≡ worst (refusing (shapesOf w)) b 1 → n ≡ worst (refusing (shapesOf w)) (getD l rO 0 - 8) 1
+    hole-run n q = q ∙ ap (λ (a : ℕ). worst (refusing (shapesOf w)) a 1) at-hole
 
     pub hole-is : (v : ℕ) → v ≡ readOcta w b → v % 256 ≡ readOcta w (getD l rO 0 - 8) % 256
     hole-is v q = ap (λ (n : ℕ). n % 256) (q ∙ ap (readOcta w) at-hole)
 
-  pub frame-run : (h b k n : ℕ) → h ≤ 255 → b ≡ (getD l rO 0 + (2 ^ 64 - 8 * (h + 1))) % 2 ^ 64 → k ≡ min h (getD l rG 0) → n ≡ worst (refusing (shapeOf w)) b k
-      → n ≡ worst (refusing (shapeOf w)) (bottomOf l h) (min h (getD l rG 0))
+  pub frame-run : (h b k n : ℕ) → h ≤ 255 → b ≡ (getD l rO 0 + (2 ^ 64 - 8 * (h + 1))) % 2 ^ 64 → k ≡ min h (getD l rG 0) → n ≡ worst (refusing (shapesOf w)) b k
+      → n ≡ worst (refusing (shapesOf w)) (bottomOf l h) (min h (getD l rG 0))
   frame-run h b k n small e f q =
       let z : b ≡ bottomOf l h = e ∙ below (getD l rO 0) (8 * (h + 1)) (placed .above) (placed .beneath) (omega arith) in
       q ∙ rw (z, f)
 
 -- what code has done is what POP does
-module _ (w : Window) (g l g′ : List ℕ) (x h bottom count last low : ℕ) (held : Held l) (placed : Placed l) (small : h ≤ 255)
-    (pass : worst (refusing (shapeOf w)) (bottomOf l h) (min h (getD l rG 0)) ≡ 0)
+module _ (w : Windows) (g l g′ : List ℕ) (x h bottom count last low : ℕ) (held : Held l) (placed : Placed l) (small : h ≤ 255)
+    (pass : worst (refusing (shapesOf w)) (bottomOf l h) (min h (getD l rG 0)) ≡ 0)
     (eb : bottom ≡ (getD l rO 0 + (2 ^ 64 - 8 * (h + 1))) % 2 ^ 64) (ec : (s : State) → sp s rL ≡ getD l rL 0 → count ≡ countOf s x)
     (el : (special : List ℕ) (pc halt marks : ℕ) → getD special rL 0 ≡ getD l rL 0 → last ≡ lastOutput (made g special pc halt marks) x)
     (ew : low ≡ min (h + count) (getD l rG 0)) (eg : g′ ≡ over (restoredBy w bottom last h count g) 0 (getD l rG 0) g) where
@@ -249,19 +249,19 @@ module _ (w : Window) (g l g′ : List ℕ) (x h bottom count last low : ℕ) (h
     counts : count ≡ countOf s x
     counts = ec s refl
 
-    same : (k : ℕ) → k < getD l rG 0 → restoredBy w bottom last h count g k ≡ restored s x h (looks one w (bottomOf l h) (min h (getD l rG 0))) k
+    same : (k : ℕ) → k < getD l rG 0 → restoredBy w bottom last h count g k ≡ restored s x h (looks both w (bottomOf l h) (min h (getD l rG 0))) k
     unfolding restored
     same k m =
         rw at-bottom (⊎-elim
         (λ lo. let n : k < min h (getD l rG 0) = omega arith in
-        rw (lt-ltb k h lo) (run-read w (bottomOf l h) (min h (getD l rG 0)) pass k (bottomOf l h + 8 * k) n refl ∙ sym (getD-looks one one-lawful (min h (getD l rG 0)) w (bottomOf l h) k n)))
+        rw (lt-ltb k h lo) (run-read w (bottomOf l h) (min h (getD l rG 0)) pass k (bottomOf l h + 8 * k) n refl ∙ sym (getD-looks both one-lawful (min h (getD l rG 0)) w (bottomOf l h) k n)))
         (λ hi. rw (le-ltb k h hi, counts, el l pc halt marks refl))
         (lt-or-le k h))
 
-    pub left : made g′ (set (set (set l rL low) rO bottom) rS bottom) pc halt marks ≡ popped s x h (looks one w (bottomOf l h) (min h (getD l rG 0)))
+    pub left : made g′ (set (set (set l rL low) rO bottom) rS bottom) pc halt marks ≡ popped s x h (looks both w (bottomOf l h) (min h (getD l rG 0)))
     unfolding popped unslide spilled withSpecial
     left =
-        let gs : g′ ≡ over (restored s x h (looks one w (bottomOf l h) (min h (getD l rG 0)))) 0 (getD l rG 0) g = eg ∙ over-alike _ _ (getD l rG 0) g same in
+        let gs : g′ ≡ over (restored s x h (looks both w (bottomOf l h) (min h (getD l rG 0)))) 0 (getD l rG 0) g = eg ∙ over-alike _ _ (getD l rG 0) g same in
         let at : getD (set (set l rL low) rO bottom) rO 0 ≡ bottom = getD-set-same (set l rL low) rO bottom 0 (simp length-set (held .long)) in
         let top : set (set (set l rL low) rO bottom) rS bottom ≡ set (set (set l rL low) rO bottom) rS (getD (set (set l rL low) rO bottom) rO 0) = ap (set (set (set l rL low) rO bottom) rS) (sym at) in
         rw (gs, top, ew, counts, at-bottom)

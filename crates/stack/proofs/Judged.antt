@@ -7,48 +7,48 @@ use native.Mathlib.Omega.{arith}
 use lib.Dec.{eqb}
 use lib.ListN.{length}
 use borrow.Author.Tests.{ne-eqb}
-use Rattle.model.specs.Memory.{Window, shapeOf, ruled}
+use Rattle.model.specs.Memory.{Windows, shapesOf, ruled}
 use Rattle.model.specs.Plan.{Plan, answer, read, Outcome, perform, worst, named}
 use Rattle.model.specs.Registers.{admissible}
-use Rattle.model.specs.Said.{tell}
 use Rattle.model.specs.Step.{refusing}
 use Rattle.model.specs.declared.State.{State}
 use Rattle.model.proofs.Runs.{worst-of, of-worst}
-use Rattle.model.proofs.Entry.{performOn, Inside, said}
+use Rattle.model.proofs.Entry.{performOn, Inside}
+use Rattle.model.proofs.Entry as entry
 use Rattle.model.proofs.Meets.{worst-six}
-use Rattle.stack.specs.Gives.{guarded, guardedOn}
+use Rattle.stack.specs.Gives.{guardedOn}
 
-abbrev pub ended : {S : Type 0} → ℕ → S → Window → Outcome S Window
+abbrev pub ended : {S : Type 0} → ℕ → S → Windows → Outcome S Windows
 ended n t v = record { reply = n; state = t; memory = v }
 
-module _ (w : Window) (s : State) where
+module _ (w : Windows) (s : State) where
   pub guarded-one : (p : Plan State) → admissible s ≡ false → guardedOn w s p ≡ ended 1 s w
-  unfolding guardedOn guarded tell
-  guarded-one p a = rw a (said w s s 1)
+  unfolding guardedOn
+  guarded-one p a = entry.guarded-one w s s p a
 
-  pub guarded-two : (p : Plan State) → admissible s ≡ true → ruled (shapeOf w) ≡ false → guardedOn w s p ≡ ended 2 s w
-  unfolding guardedOn guarded tell
-  guarded-two p a r = rw (a, r) (said w s s 2)
+  pub guarded-two : (p : Plan State) → admissible s ≡ true → ruled (shapesOf w) ≡ false → guardedOn w s p ≡ ended 2 s w
+  unfolding guardedOn
+  guarded-two p a r = entry.guarded-two w s s p a r
 
-  pub guarded-open : (p : Plan State) → admissible s ≡ true → ruled (shapeOf w) ≡ true → guardedOn w s p ≡ performOn w s p
-  unfolding guardedOn guarded
-  guarded-open p a r = rw (a, r)
+  pub guarded-open : (p : Plan State) → admissible s ≡ true → ruled (shapesOf w) ≡ true → guardedOn w s p ≡ performOn w s p
+  unfolding guardedOn
+  guarded-open p a r = entry.guarded-open w s s p a r
 
-  lacking : (a n : ℕ) → (Inside w a n → ⊥) → eqb (worst (refusing (shapeOf w)) a n) 0 ≡ false
+  lacking : (a n : ℕ) → (Inside w a n → ⊥) → eqb (worst (refusing (shapesOf w)) a n) 0 ≡ false
   lacking a n f = ne-eqb _ _ f
 
   pub read-lacks : (a n : ℕ) (k : List ℕ → Plan State) → (Inside w a n → ⊥) → performOn w s (read 6 a n k) ≡ ended 6 s w
   unfolding perform named
-  read-lacks a n k f = rw (lacking a n f, worst-six (shapeOf w) n a (lacking a n f))
+  read-lacks a n k f = rw (lacking a n f, worst-six (shapesOf w) n a (lacking a n f))
 
   pub store-lacks : (r : ℕ) (t : State) (a : ℕ) (vs : List ℕ) → (Inside w a (length vs) → ⊥) → performOn w s (answer r t a vs) ≡ ended 6 s w
   unfolding perform
-  store-lacks r t a vs f = rw (lacking a (length vs) f, worst-six (shapeOf w) (length vs) a (lacking a (length vs) f))
+  store-lacks r t a vs f = rw (lacking a (length vs) f, worst-six (shapesOf w) (length vs) a (lacking a (length vs) f))
 
 -- the run that code judges against the one that is needed: where the longer passes the shorter does, where the shorter fails the longer does
-module _ (w : Window) (a m n r : ℕ) where
-  pub passed : r ≡ worst (refusing (shapeOf w)) a n → r ≡ 0 → m ≤ n → Inside w a m
-  passed e z l = of-worst (refusing (shapeOf w)) m a (λ i k. worst-of (refusing (shapeOf w)) n a i (sym e ∙ z) (omega arith))
+module _ (w : Windows) (a m n r : ℕ) where
+  pub passed : r ≡ worst (refusing (shapesOf w)) a n → r ≡ 0 → m ≤ n → Inside w a m
+  passed e z l = of-worst (refusing (shapesOf w)) m a (λ i k. worst-of (refusing (shapesOf w)) n a i (sym e ∙ z) (omega arith))
 
-  pub failed : r ≡ worst (refusing (shapeOf w)) a n → (r ≡ 0 → ⊥) → n ≤ m → Inside w a m → ⊥
-  failed e f l i = f (e ∙ of-worst (refusing (shapeOf w)) n a (λ j k. worst-of (refusing (shapeOf w)) m a j i (omega arith)))
+  pub failed : r ≡ worst (refusing (shapesOf w)) a n → (r ≡ 0 → ⊥) → n ≤ m → Inside w a m → ⊥
+  failed e f l i = f (e ∙ of-worst (refusing (shapesOf w)) n a (λ j k. worst-of (refusing (shapesOf w)) m a j i (omega arith)))

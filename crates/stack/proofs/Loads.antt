@@ -11,7 +11,7 @@ use lib.ListN.{length, getD, set, length-set}
 use lib.Seq.{ext-getD, getD-set-same, getD-set-other}
 use borrow.Author.Tests.{leb-true, leb-false, le-leb, lt-leb, lt-ltb, le-ltb, eqb-true, eqb-false}
 use Rattle.model.specs.Fill.{over}
-use Rattle.model.specs.Memory.{Window, shapeOf, one}
+use Rattle.model.specs.Memory.{Windows, shapesOf, both}
 use Rattle.model.specs.Plan.{worst, looks}
 use Rattle.model.specs.Registers.{rO, rS, rG, rL, rA, rR, rP, rZ, spilled, withSpecial}
 use Rattle.model.specs.Contexts.{savedSpecial, unsavedGeneral, unsavedSpecial, unsavedUnspilled, unsaved}
@@ -29,30 +29,30 @@ use Rattle.stack.specs.Work.{octasFrom, loaded}
 
 -- ---- octabytes as code reads them
 
-pub octa-at : (w : Window) (a n i : ℕ) → i < n → getD (octasFrom w a n) i 0 ≡ readOcta w ((a + 8 * i) % 2 ^ 64)
+pub octa-at : (w : Windows) (a n i : ℕ) → i < n → getD (octasFrom w a n) i 0 ≡ readOcta w ((a + 8 * i) % 2 ^ 64)
 unfolding octasFrom
 octa-at w a n i h = getD-tab n i (λ j. readOcta w ((a + 8 * j) % 2 ^ 64)) h
 
-length-octas : (w : Window) (a n : ℕ) → length (octasFrom w a n) ≡ n
+length-octas : (w : Windows) (a n : ℕ) → length (octasFrom w a n) ≡ n
 unfolding octasFrom
 length-octas w a n = length-tab n 0 (λ j. readOcta w ((a + 8 * j) % 2 ^ 64))
 
-length-looks : (n : ℕ) (w : Window) (a : ℕ) → length (looks one w a n) ≡ n
+length-looks : (n : ℕ) (w : Windows) (a : ℕ) → length (looks both w a n) ≡ n
 unfolding looks
 length-looks zero w a = refl
 length-looks (suc n) w a = ap suc (length-looks n w (a + 8))
 
 -- of a run inside they are its octabytes
-pub octas-are : (w : Window) (a b n : ℕ) → worst (refusing (shapeOf w)) a n ≡ 0 → b ≡ a % 2 ^ 64 → octasFrom w b n ≡ looks one w a n
+pub octas-are : (w : Windows) (a b n : ℕ) → worst (refusing (shapesOf w)) a n ≡ 0 → b ≡ a % 2 ^ 64 → octasFrom w b n ≡ looks both w a n
 octas-are w a b n p e =
-    ext-getD 0 (octasFrom w b n) (looks one w a n) (length-octas w b n ∙ sym (length-looks n w a))
+    ext-getD 0 (octasFrom w b n) (looks both w a n) (length-octas w b n ∙ sym (length-looks n w a))
     (λ i h. let l : i < n = omega (arith, length-octas w b n) in
     let m : (b + 8 * i) % 2 ^ 64 % 2 ^ 64 ≡ (a + 8 * i) % 2 ^ 64 = omega arith in
-    octa-at w b n i l ∙ read-mod w ((b + 8 * i) % 2 ^ 64) (a + 8 * i) m ∙ run-read w a n p i (a + 8 * i) l refl ∙ sym (getD-looks one one-lawful n w a i l))
+    octa-at w b n i l ∙ read-mod w ((b + 8 * i) % 2 ^ 64) (a + 8 * i) m ∙ run-read w a n p i (a + 8 * i) l refl ∙ sym (getD-looks both one-lawful n w a i l))
 
 -- ---- the general registers, part by part: the locals, those between cleared, the globals
 
-module _ (w : Window) (first g l globals : ℕ) (r r₁ r₂ r₃ : List ℕ) (gh : g ≤ 255) (lg : l ≤ g) (e : globals ≡ (first + 8 * (l + 1)) % 2 ^ 64)
+module _ (w : Windows) (first g l globals : ℕ) (r r₁ r₂ r₃ : List ℕ) (gh : g ≤ 255) (lg : l ≤ g) (e : globals ≡ (first + 8 * (l + 1)) % 2 ^ 64)
     (e₁ : r₁ ≡ over (λ (k : ℕ). readOcta w (first + 8 * (k - 0))) 0 l r) (e₂ : r₂ ≡ over (λ (k : ℕ). 0) l g r₁)
     (e₃ : r₃ ≡ over (λ (k : ℕ). readOcta w (globals + 8 * (k - g))) g 256 r₂) where
   abbrev by-context : ℕ → ℕ
@@ -195,7 +195,7 @@ set-at l i v k h =
     on (λ (x : ℕ). getD (set l i v) k 0 ≡ x) (eqb k i) (λ e. ap (λ (n : ℕ). getD (set l i v) n 0) (eqb-true k i e) ∙ getD-set-same l i v 0 h)
     (λ e. getD-set-other l i k v 0 (eqb-false k i e))
 
-module _ (s : State) (w : Window) (first g a l specials : ℕ) (n : length (s .special) ≡ 32) (gh : g ≤ 255) (lg : l ≤ g)
+module _ (s : State) (w : Windows) (first g a l specials : ℕ) (n : length (s .special) ≡ 32) (gh : g ≤ 255) (lg : l ≤ g)
     (e : specials ≡ (first + 8 * (l + 257 - g)) % 2 ^ 64) where
   abbrev reads : ℕ → ℕ
   reads i = readOcta w ((specials + 8 * i) % 2 ^ 64)
@@ -243,7 +243,7 @@ module _ (s : State) (w : Window) (first g a l specials : ℕ) (n : length (s .s
   by-spill : getD (over rule 0 32 (s .special)) rO 0 ≡ first
   by-spill = over-in rule 0 32 (s .special) rO (omega arith) (omega arith) (omega arith) ∙ unfold unsavedSpecial in refl
 
-pub arrived : (general special general' special' : List ℕ) (w : Window) (first g a l specials : ℕ) → length special ≡ 32 → g ≤ 255 → l ≤ g
+pub arrived : (general special general' special' : List ℕ) (w : Windows) (first g a l specials : ℕ) → length special ≡ 32 → g ≤ 255 → l ≤ g
     → specials ≡ (first + 8 * (l + 257 - g)) % 2 ^ 64 → general' ≡ over (unsavedGeneral g l (octasFrom w first (l + 270 - g))) 0 256 general
     → special' ≡ loaded (λ (i : ℕ). readOcta w ((specials + 8 * i) % 2 ^ 64)) 12 special → (pc halt marks : ℕ)
     → made general' (set (set (set (set (set special' rO first) rA a) rL l) rG g) rS first) pc halt marks

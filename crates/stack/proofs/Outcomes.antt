@@ -7,7 +7,7 @@ use native.Mathlib.Omega.{arith}
 use lib.ListN.{length, getD}
 use borrow.Author.Tests.{lt-leb, le-leb}
 use Rattle.model.specs.Fill.{tab}
-use Rattle.model.specs.Memory.{Window, shapeOf, ruled, one}
+use Rattle.model.specs.Memory.{Windows, shapesOf, ruled, both}
 use Rattle.model.specs.Plan.{answer, looks, puts}
 use Rattle.model.specs.Registers.{rJ, rO, rG, stackStart, sp, admissible, goes, halted, withSpecial, spilled}
 use Rattle.model.specs.Said.{tell}
@@ -31,8 +31,8 @@ use Rattle.stack.proofs.Judged.{ended, guarded-one, guarded-two, guarde
 
 -- ---- PUSH
 
-module _ (w : Window) (s : State) (x : ℕ) where
-  gives : (n : ℕ) (r : Reply) (t u : State) (v m : Window) → pushOf w s x ≡ ended n u m → r ≡ replyOf n → t ≡ goes u (s .pc) → v ≡ m → Gives (pushOf w s x) s r t v
+module _ (w : Windows) (s : State) (x : ℕ) where
+  gives : (n : ℕ) (r : Reply) (t u : State) (v m : Windows) → pushOf w s x ≡ ended n u m → r ≡ replyOf n → t ≡ goes u (s .pc) → v ≡ m → Gives (pushOf w s x) s r t v
   gives n r t u v m e er et ev = rw e (record { reply-is = er; state-is = et; window-is = ev })
 
   stays : s ≡ goes s (s .pc)
@@ -43,11 +43,11 @@ module _ (w : Window) (s : State) (x : ℕ) where
   unfolding replyOf
   push-one a = gives 1 reply.NotAdmissible s s w w (unfold pushOf in (guarded-one w s _ a)) refl stays refl
 
-  pub push-two : admissible s ≡ true → ruled (shapeOf w) ≡ false → Gives (pushOf w s x) s reply.WindowRule s w
+  pub push-two : admissible s ≡ true → ruled (shapesOf w) ≡ false → Gives (pushOf w s x) s reply.WindowRule s w
   unfolding replyOf
   push-two a r = gives 2 reply.WindowRule s s w w (unfold pushOf in (guarded-two w s _ a r)) refl stays refl
 
-  module _ (a : admissible s ≡ true) (r : ruled (shapeOf w) ≡ true) (h : ℕ) (e : h ≡ hole s x) where
+  module _ (a : admissible s ≡ true) (r : ruled (shapesOf w) ≡ true) (h : ℕ) (e : h ≡ hole s x) where
     push-open : pushOf w s x ≡ performOn w s (pushFrame s h (s .pc))
     unfolding pushOf
     push-open = guarded-open w s _ a r ∙ ap (λ (n : ℕ). performOn w s (pushFrame s n (s .pc))) (sym e)
@@ -58,17 +58,17 @@ module _ (w : Window) (s : State) (x : ℕ) where
         let len : length (tab 0 (h + 1) (framed s h)) ≡ h + 1 = length-tab (h + 1) 0 (framed s h) in
         gives 6 reply.Missing s s w w (push-open ∙ store-lacks w s 0 _ (sp s rO) (tab 0 (h + 1) (framed s h)) (λ i. f (rw len at i))) refl stays refl
 
-    pub push-done : (t : State) (v : Window) → Inside w (sp s rO) (h + 1) → v ≡ puts one w (sp s rO) (tab 0 (h + 1) (framed s h)) → t ≡ pushed s h → Gives (pushOf w s x) s reply.Done t v
+    pub push-done : (t : State) (v : Windows) → Inside w (sp s rO) (h + 1) → v ≡ puts both w (sp s rO) (tab 0 (h + 1) (framed s h)) → t ≡ pushed s h → Gives (pushOf w s x) s reply.Done t v
     unfolding replyOf
     push-done t v i ev et =
-        gives 0 reply.Done t (called s h (s .pc)) v _ (push-open ∙ push-is one one-lawful (refusing (shapeOf w)) s h (s .pc) w i) refl (et ∙ back) ev
+        gives 0 reply.Done t (called s h (s .pc)) v _ (push-open ∙ push-is both one-lawful (refusing (shapesOf w)) s h (s .pc) w i) refl (et ∙ back) ev
       where
         back : pushed s h ≡ goes (goes (pushed s h) (s .pc)) (s .pc)
         back = unfold goes pushed pushedRule slide spilled withSpecial in refl
 
 -- ---- POP
 
-module _ (w : Window) (s : State) (x yz : ℕ) where
+module _ (w : Windows) (s : State) (x yz : ℕ) where
   pops : (n : ℕ) (r : PopFrame) (t u : State) → popOf w s x ≡ ended n u w → r ≡ popAnswer s yz n → popNumber r ≡ n → t ≡ goes u (s .pc) → PopGives w s x yz r t
   pops n r t u e er en et = record { answer-is = rw e er; number-is = rw e en; state-is = rw e et }
 
@@ -80,11 +80,11 @@ module _ (w : Window) (s : State) (x yz : ℕ) where
   unfolding popAnswer popNumber
   pop-one a = pops 1 NotAdmissible s s (unfold popOf in (guarded-one w s _ a)) refl refl as-was
 
-  pub pop-two : admissible s ≡ true → ruled (shapeOf w) ≡ false → PopGives w s x yz WindowRule s
+  pub pop-two : admissible s ≡ true → ruled (shapesOf w) ≡ false → PopGives w s x yz WindowRule s
   unfolding popAnswer popNumber
   pop-two a r = pops 2 WindowRule s s (unfold popOf in (guarded-two w s _ a r)) refl refl as-was
 
-  module _ (a : admissible s ≡ true) (r : ruled (shapeOf w) ≡ true) where
+  module _ (a : admissible s ≡ true) (r : ruled (shapesOf w) ≡ true) where
     pop-open : popOf w s x ≡ performOn w s (popFrame s x (s .pc))
     unfolding popOf
     pop-open = guarded-open w s _ a r
@@ -112,30 +112,30 @@ module _ (w : Window) (s : State) (x yz : ℕ) where
         pop-lacks f = missing (pop-rule ∙ read-lacks w s (sp s rO - 8) 1 _ f)
 
         module _ (i : Inside w (sp s rO - 8) 1) (h : ℕ) (e : h ≡ readOcta w (sp s rO - 8) % 256) where
-          hole-read : getD (looks one w (sp s rO - 8) 1) 0 0 % 256 ≡ h
+          hole-read : getD (looks both w (sp s rO - 8) 1) 0 0 % 256 ≡ h
           hole-read =
               let z : sp s rO - 8 + 8 * 0 ≡ sp s rO - 8 = omega arith in
-              let q : getD (looks one w (sp s rO - 8) 1) 0 0 ≡ readOcta w (sp s rO - 8)
-              = getD-looks one one-lawful 1 w (sp s rO - 8) 0 (omega arith) ∙ sym (run-read w (sp s rO - 8) 1 i 0 (sp s rO - 8 + 8 * 0) (omega arith) refl) ∙ ap (readOcta w) z in
+              let q : getD (looks both w (sp s rO - 8) 1) 0 0 ≡ readOcta w (sp s rO - 8)
+              = getD-looks both one-lawful 1 w (sp s rO - 8) 0 (omega arith) ∙ sym (run-read w (sp s rO - 8) 1 i 0 (sp s rO - 8 + 8 * 0) (omega arith) refl) ∙ ap (readOcta w) z in
               ap (λ (n : ℕ). n % 256) q ∙ sym e
 
           pop-to : popOf w s x ≡ performOn w s (popTo s x (s .pc) h)
           unfolding popRule
           pop-to =
-              pop-rule ∙ perform-read one one-lawful (refusing (shapeOf w)) s 6 (sp s rO - 8) 1 (λ v. popTo s x (s .pc) (getD v 0 0 % 256)) w i
+              pop-rule ∙ perform-read both one-lawful (refusing (shapesOf w)) s 6 (sp s rO - 8) 1 (λ v. popTo s x (s .pc) (getD v 0 0 % 256)) w i
               ∙ ap (λ (n : ℕ). performOn w s (popTo s x (s .pc) n)) hole-read
 
           pub pop-short : (Inside w (sp s rO - 8 * (h + 1)) (min h (sp s rG)) → ⊥) → PopGives w s x yz Missing s
           unfolding popTo
           pop-short f = missing (pop-to ∙ read-lacks w s (sp s rO - 8 * (h + 1)) (min h (sp s rG)) _ f)
 
-          pub pop-done : (t : State) (target : ℕ) → Inside w (sp s rO - 8 * (h + 1)) (min h (sp s rG)) → t ≡ popped s x h (looks one w (sp s rO - 8 * (h + 1)) (min h (sp s rG)))
+          pub pop-done : (t : State) (target : ℕ) → Inside w (sp s rO - 8 * (h + 1)) (min h (sp s rG)) → t ≡ popped s x h (looks both w (sp s rO - 8 * (h + 1)) (min h (sp s rG)))
               → target ≡ (sp s rJ + 4 * yz) % 2 ^ 64 → PopGives w s x yz (Frame target) t
           unfolding popAnswer popNumber noFrame popTo
           pop-done t target j et eg =
-              let ls = looks one w (sp s rO - 8 * (h + 1)) (min h (sp s rG)) in
+              let ls = looks both w (sp s rO - 8 * (h + 1)) (min h (sp s rG)) in
               pops 0 (Frame target) t (goes (popped s x h ls) (s .pc))
-              (pop-to ∙ perform-read one one-lawful (refusing (shapeOf w)) s 6 (sp s rO - 8 * (h + 1)) (min h (sp s rG)) (λ ls. answer 0 (goes (popped s x h ls) (s .pc)) 0 []) w j ∙ said w s _ 0)
+              (pop-to ∙ perform-read both one-lawful (refusing (shapesOf w)) s 6 (sp s rO - 8 * (h + 1)) (min h (sp s rG)) (λ ls. answer 0 (goes (popped s x h ls) (s .pc)) 0 []) w j ∙ said w s _ 0)
               (rw (lt-leb _ _ above, eg)) refl (et ∙ back ls)
             where
               back : (ls : List ℕ) → popped s x h ls ≡ goes (goes (popped s x h ls) (s .pc)) (s .pc)

@@ -8,7 +8,7 @@ use native.Mathlib.Omega.{arith}
 use lib.Dec.{leb, eqb}
 use lib.ListN.{getD}
 use borrow.Author.Tests.{leb-true, leb-false, le-leb, lt-leb, ne-eqb}
-use Rattle.model.specs.Memory.{Window, shapeOf, has, one}
+use Rattle.model.specs.Memory.{Windows, shapesOf, inside, both}
 use Rattle.model.specs.Plan.{Plan, answer, read, Outcome, perform, worst, named, look}
 use Rattle.model.specs.Contexts.{below, contextRest, contextCount, contextAt}
 use Rattle.model.specs.Step.{refusing}
@@ -29,72 +29,72 @@ use Rattle.stack.specs.declared.layout.SaveContextLayout.{SaveContextLay
 
 -- ---- the octabyte at an address that is taken modulo 2^64
 
-module _ (w : Window) (a m : ℕ) (e : m ≡ a % 2 ^ 64) where
+module _ (w : Windows) (a m : ℕ) (e : m ≡ a % 2 ^ 64) where
   alike : m % 2 ^ 64 ≡ a % 2 ^ 64
   alike = omega arith
 
-  one-in : worst (refusing (shapeOf w)) m 1 ≡ 0 → refusing (shapeOf w) a ≡ 0
-  one-in h = sym (refusing-mod (shapeOf w) m a alike) ∙ sym (run-one (shapeOf w) m) ∙ h
+  one-in : worst (refusing (shapesOf w)) m 1 ≡ 0 → refusing (shapesOf w) a ≡ 0
+  one-in h = sym (refusing-mod (shapesOf w) m a alike) ∙ sym (run-one (shapesOf w) m) ∙ h
 
-  one-out : (worst (refusing (shapeOf w)) m 1 ≡ 0 → ⊥) → has (shapeOf w) a ≡ false
-  one-out h = missed-has (shapeOf w) a (λ z. h (run-one (shapeOf w) m ∙ refusing-mod (shapeOf w) m a alike ∙ z))
+  one-out : (worst (refusing (shapesOf w)) m 1 ≡ 0 → ⊥) → inside (shapesOf w) a ≡ false
+  one-out h = missed-has (shapesOf w) a (λ z. h (run-one (shapesOf w) m ∙ refusing-mod (shapesOf w) m a alike ∙ z))
 
-  one-read : (v : ℕ) → worst (refusing (shapeOf w)) m 1 ≡ 0 → v ≡ readOcta w m → look one w a ≡ v
+  one-read : (v : ℕ) → worst (refusing (shapesOf w)) m 1 ≡ 0 → v ≡ readOcta w m → look both w a ≡ v
   one-read v h d = sym (d ∙ read-mod w m a alike ∙ read-in w a (one-in h))
 
   -- a run of them
-  run-alike : (n : ℕ) → worst (refusing (shapeOf w)) m n ≡ 0 → worst (refusing (shapeOf w)) a n ≡ 0
-  run-alike n h = of-worst (refusing (shapeOf w)) n a (λ i l. sym (refusing-mod (shapeOf w) (m + 8 * i) (a + 8 * i) (omega arith)) ∙ worst-of (refusing (shapeOf w)) n m i h l)
+  run-alike : (n : ℕ) → worst (refusing (shapesOf w)) m n ≡ 0 → worst (refusing (shapesOf w)) a n ≡ 0
+  run-alike n h = of-worst (refusing (shapesOf w)) n a (λ i l. sym (refusing-mod (shapesOf w) (m + 8 * i) (a + 8 * i) (omega arith)) ∙ worst-of (refusing (shapesOf w)) n m i h l)
 
-  pub run-back : (n : ℕ) → worst (refusing (shapeOf w)) a n ≡ 0 → worst (refusing (shapeOf w)) m n ≡ 0
-  run-back n h = of-worst (refusing (shapeOf w)) n m (λ i l. refusing-mod (shapeOf w) (m + 8 * i) (a + 8 * i) (omega arith) ∙ worst-of (refusing (shapeOf w)) n a i h l)
+  pub run-back : (n : ℕ) → worst (refusing (shapesOf w)) a n ≡ 0 → worst (refusing (shapesOf w)) m n ≡ 0
+  run-back n h = of-worst (refusing (shapesOf w)) n m (λ i l. refusing-mod (shapesOf w) (m + 8 * i) (a + 8 * i) (omega arith) ∙ worst-of (refusing (shapesOf w)) n a i h l)
 
 -- ---- the layout
 
-module _ (w : Window) (p g marker : ℕ) (e : marker ≡ below p (269 - g) % 2 ^ 64) where
-  answered : (n l : ℕ) (r : Layout) → countReply w p g ≡ n → look one w (below p (269 - g)) ≡ l → r ≡ layoutAnswer p g l n → layoutNumber r ≡ n → LayoutIs w p g r
+module _ (w : Windows) (p g marker : ℕ) (e : marker ≡ below p (269 - g) % 2 ^ 64) where
+  answered : (n l : ℕ) (r : Layout) → countReply w p g ≡ n → look both w (below p (269 - g)) ≡ l → r ≡ layoutAnswer p g l n → layoutNumber r ≡ n → LayoutIs w p g r
   answered n l r c d a b = record { answer-is = rw (c, d) a; number-is = b ∙ sym c }
 
-  pub layout-outside : (worst (refusing (shapeOf w)) marker 1 ≡ 0 → ⊥) → LayoutIs w p g Outside
+  pub layout-outside : (worst (refusing (shapesOf w)) marker 1 ≡ 0 → ⊥) → LayoutIs w p g Outside
   unfolding countReply layoutAnswer layoutNumber
   layout-outside h = answered 6 _ Outside (rw (one-out w (below p (269 - g)) marker e h)) refl refl refl
 
-  module _ (count : ℕ) (h : worst (refusing (shapeOf w)) marker 1 ≡ 0) (d : count ≡ readOcta w marker) where
-    inside : has (shapeOf w) (below p (269 - g)) ≡ true
-    inside = passed-has (shapeOf w) (below p (269 - g)) (one-in w (below p (269 - g)) marker e h)
+  module _ (count : ℕ) (h : worst (refusing (shapesOf w)) marker 1 ≡ 0) (d : count ≡ readOcta w marker) where
+    count-there : inside (shapesOf w) (below p (269 - g)) ≡ true
+    count-there = passed-has (shapesOf w) (below p (269 - g)) (one-in w (below p (269 - g)) marker e h)
 
-    count-read : look one w (below p (269 - g)) ≡ count
+    count-read : look both w (below p (269 - g)) ≡ count
     count-read = one-read w (below p (269 - g)) marker e count h d
 
     pub layout-excess : g < count → LayoutIs w p g (Excess count)
     unfolding countReply layoutAnswer layoutNumber
-    layout-excess l = answered 16 count (Excess count) (rw (inside, count-read, lt-leb count g l)) count-read refl refl
+    layout-excess l = answered 16 count (Excess count) (rw (count-there, count-read, lt-leb count g l)) count-read refl refl
 
     pub layout-found : (sb gb lb : ℕ) → count ≤ g → sb ≡ below p 12 % 2 ^ 64 → gb ≡ below p (268 - g) % 2 ^ 64 → lb ≡ below p (count + 269 - g) % 2 ^ 64
         → LayoutIs w p g (Found (record { «specials_base» = sb; «globals_base» = gb; «global_count» = 256 - g; «local_count» = count; «locals_base» = lb }))
     unfolding countReply layoutAnswer layoutNumber layoutAt
-    layout-found sb gb lb l es eg el = answered 0 count _ (rw (inside, count-read, le-leb count g l)) count-read (rw (es, eg, el)) refl
+    layout-found sb gb lb l es eg el = answered 0 count _ (rw (count-there, count-read, le-leb count g l)) count-read (rw (es, eg, el)) refl
 
 -- ---- the stages, for any kind of state
 
-module _ {S : Type 0} (w : Window) (s bad : S) (found : ℕ → ℕ → ℕ → ℕ → List ℕ → S) (p : ℕ) where
+module _ {S : Type 0} (w : Windows) (s bad : S) (found : ℕ → ℕ → ℕ → ℕ → List ℕ → S) (p : ℕ) where
   abbrev Ends : ℕ → S → Plan S → Type 0
   Ends n t q = performOn w s q ≡ record { reply = n; state = t; memory = w }
 
   read-out : (a n : ℕ) (k : List ℕ → Plan S) → (Inside w a n → ⊥) → Ends 6 s (read 6 a n k)
   unfolding perform named
   read-out a n k h =
-      let f : eqb (worst (refusing (shapeOf w)) a n) 0 ≡ false = ne-eqb _ _ h in
-      rw (f, worst-six (shapeOf w) n a f)
+      let f : eqb (worst (refusing (shapesOf w)) a n) 0 ≡ false = ne-eqb _ _ h in
+      rw (f, worst-six (shapesOf w) n a f)
 
   at-out : (Inside w p 1 → ⊥) → Ends 6 s (contextAt bad found p)
   unfolding contextAt
   at-out h = read-out p 1 (λ v. contextCount bad found p (getD v 0 0 / 2 ^ 56) (getD v 0 0 % 2 ^ 56)) h
 
-  at-open : (v : ℕ) → Inside w p 1 → look one w p ≡ v → performOn w s (contextAt bad found p) ≡ performOn w s (contextCount bad found p (v / 2 ^ 56) (v % 2 ^ 56))
+  at-open : (v : ℕ) → Inside w p 1 → look both w p ≡ v → performOn w s (contextAt bad found p) ≡ performOn w s (contextCount bad found p (v / 2 ^ 56) (v % 2 ^ 56))
   unfolding contextAt
   at-open v h e =
-      perform-read one one-lawful (refusing (shapeOf w)) s 6 p 1 (λ v. contextCount bad found p (getD v 0 0 / 2 ^ 56) (getD v 0 0 % 2 ^ 56)) w h
+      perform-read both one-lawful (refusing (shapesOf w)) s 6 p 1 (λ v. contextCount bad found p (getD v 0 0 / 2 ^ 56) (getD v 0 0 % 2 ^ 56)) w h
       ∙ rw (looked w p, e)
 
   count-low : (g a : ℕ) → g < 32 → Ends 14 bad (contextCount bad found p g a)
@@ -113,12 +113,12 @@ module _ {S : Type 0} (w : Window) (s bad : S) (found : ℕ → ℕ → ℕ → 
           rw (le-leb 32 g lo, le-leb g 255 hi, le-leb a 0x3FFFF am)
           (read-out (below p (269 - g)) 1 (λ v. contextRest bad found p g a (getD v 0 0)) h)
 
-      count-open : (l : ℕ) → Inside w (below p (269 - g)) 1 → look one w (below p (269 - g)) ≡ l
+      count-open : (l : ℕ) → Inside w (below p (269 - g)) 1 → look both w (below p (269 - g)) ≡ l
           → performOn w s (contextCount bad found p g a) ≡ performOn w s (contextRest bad found p g a l)
       unfolding contextCount
       count-open l h e =
           rw (le-leb 32 g lo, le-leb g 255 hi, le-leb a 0x3FFFF am)
-          (perform-read one one-lawful (refusing (shapeOf w)) s 6 (below p (269 - g)) 1 (λ v. contextRest bad found p g a (getD v 0 0)) w h
+          (perform-read both one-lawful (refusing (shapesOf w)) s 6 (below p (269 - g)) 1 (λ v. contextRest bad found p g a (getD v 0 0)) w h
           ∙ rw (looked w (below p (269 - g)), e))
 
   rest-many : (g a l : ℕ) → g < l → Ends 16 bad (contextRest bad found p g a l)
@@ -132,77 +132,77 @@ module _ {S : Type 0} (w : Window) (s bad : S) (found : ℕ → ℕ → ℕ → 
 
 -- ---- what a layout tells
 
-module _ (w : Window) (p g : ℕ) (k : Layout) (e : LayoutIs w p g k) where
+module _ (w : Windows) (p g : ℕ) (k : Layout) (e : LayoutIs w p g k) where
   abbrev at-count : ℕ
   at-count = below p (269 - g)
 
   -- a fact that follows from the case of each of the three numbers
   by-number : (P : Layout → Type 0)
-      → (has (shapeOf w) at-count ≡ true → look one w at-count ≤ g → P (Found (layoutAt p g (look one w at-count))))
-      → (has (shapeOf w) at-count ≡ true → g < look one w at-count → P (Excess (look one w at-count)))
-      → (has (shapeOf w) at-count ≡ false → P Outside)
+      → (inside (shapesOf w) at-count ≡ true → look both w at-count ≤ g → P (Found (layoutAt p g (look both w at-count))))
+      → (inside (shapesOf w) at-count ≡ true → g < look both w at-count → P (Excess (look both w at-count)))
+      → (inside (shapesOf w) at-count ≡ false → P Outside)
       → P k
   unfolding countReply layoutAnswer
   by-number P a b c =
       subst P (sym (e .answer-is))
-      (on (λ (n : ℕ). P (layoutAnswer p g (look one w at-count) n)) (has (shapeOf w) at-count)
-      (λ h. on (λ (n : ℕ). P (layoutAnswer p g (look one w at-count) n)) (leb (look one w at-count) g) (λ f. a h (leb-true _ _ f)) (λ f. b h (leb-false _ _ f)))
+      (on (λ (n : ℕ). P (layoutAnswer p g (look both w at-count) n)) (inside (shapesOf w) at-count)
+      (λ h. on (λ (n : ℕ). P (layoutAnswer p g (look both w at-count) n)) (leb (look both w at-count) g) (λ f. a h (leb-true _ _ f)) (λ f. b h (leb-false _ _ f)))
       c)
 
-  told-outside : k ≡ Outside → has (shapeOf w) at-count ≡ false
+  told-outside : k ≡ Outside → inside (shapesOf w) at-count ≡ false
   told-outside =
-      by-number (λ (y : Layout). y ≡ Outside → has (shapeOf w) at-count ≡ false)
+      by-number (λ (y : Layout). y ≡ Outside → inside (shapesOf w) at-count ≡ false)
       (λ h f q. let z : _≡_ {A = ℕ} 0 1 = cc in absurd (omega arith)) (λ h f q. let z : _≡_ {A = ℕ} 0 1 = cc in absurd (omega arith)) (λ h q. h)
 
-  told-excess : (n : ℕ) → k ≡ Excess n → (has (shapeOf w) at-count ≡ true) × (g < look one w at-count)
+  told-excess : (n : ℕ) → k ≡ Excess n → (inside (shapesOf w) at-count ≡ true) × (g < look both w at-count)
   told-excess n =
-      by-number (λ (y : Layout). y ≡ Excess n → (has (shapeOf w) at-count ≡ true) × (g < look one w at-count))
+      by-number (λ (y : Layout). y ≡ Excess n → (inside (shapesOf w) at-count ≡ true) × (g < look both w at-count))
       (λ h f q. let z : _≡_ {A = ℕ} 0 1 = cc in absurd (omega arith)) (λ h f q. (h, f)) (λ h q. let z : _≡_ {A = ℕ} 0 1 = cc in absurd (omega arith))
 
   told-found : (l : SaveContextLayout) → k ≡ Found l
-      → (has (shapeOf w) at-count ≡ true) × (look one w at-count ≤ g) × (l ≡ layoutAt p g (look one w at-count))
+      → (inside (shapesOf w) at-count ≡ true) × (look both w at-count ≤ g) × (l ≡ layoutAt p g (look both w at-count))
   told-found l =
-      by-number (λ (y : Layout). y ≡ Found l → (has (shapeOf w) at-count ≡ true) × (look one w at-count ≤ g) × (l ≡ layoutAt p g (look one w at-count)))
+      by-number (λ (y : Layout). y ≡ Found l → (inside (shapesOf w) at-count ≡ true) × (look both w at-count ≤ g) × (l ≡ layoutAt p g (look both w at-count)))
       (λ h f q. (h, f, cc)) (λ h f q. let z : _≡_ {A = ℕ} 0 1 = cc in absurd (omega arith)) (λ h q. let z : _≡_ {A = ℕ} 0 1 = cc in absurd (omega arith))
 
   pub told-count : (l : SaveContextLayout) → k ≡ Found l → l .«local_count» ≤ g
   unfolding layoutAt
   told-count l d =
       let t = told-found l d in
-      let c : l .«local_count» ≡ look one w at-count = ap (λ (x : SaveContextLayout). x .«local_count») (t .2) in
-      let m : look one w at-count ≤ g = t .1 in
+      let c : l .«local_count» ≡ look both w at-count = ap (λ (x : SaveContextLayout). x .«local_count») (t .2) in
+      let m : look both w at-count ≤ g = t .1 in
       omega arith
 
 -- ---- the ways out of `locate`
 
-has-inside : (w : Window) (a : ℕ) → has (shapeOf w) a ≡ true → Inside w a 1
-has-inside w a h = run-one (shapeOf w) a ∙ inside-judged (shapeOf w) a h
+has-inside : (w : Windows) (a : ℕ) → inside (shapesOf w) a ≡ true → Inside w a 1
+has-inside w a h = run-one (shapesOf w) a ∙ inside-judged (shapesOf w) a h
 
-not-inside : (w : Window) (a : ℕ) → has (shapeOf w) a ≡ false → Inside w a 1 → ⊥
+not-inside : (w : Windows) (a : ℕ) → inside (shapesOf w) a ≡ false → Inside w a 1 → ⊥
 not-inside w a h i =
-    let t : has (shapeOf w) a ≡ true = passed-has (shapeOf w) a (sym (run-one (shapeOf w) a) ∙ i) in
+    let t : inside (shapesOf w) a ≡ true = passed-has (shapesOf w) a (sym (run-one (shapesOf w) a) ∙ i) in
     let z : _≡_ {A = ℕ} 0 1 = cc in
     omega arith
 
-module _ (w : Window) (p : ℕ) where
+module _ (w : Windows) (p : ℕ) where
   refused-is : (n m : ℕ) (r : Located) → locatedOf w p ≡ record { reply = n; state = spot m 0 0 0 0; memory = w } → r ≡ spot n 0 0 0 0 → LocatedIs w p r
   unfolding spot
   refused-is n m r e d = record {
-    reply-is = ap (λ (z : Located). z .reply) d ∙ sym (ap (λ (o : Outcome Located Window). o .reply) e);
-    first-is = ap (λ (z : Located). z .first) d ∙ sym (ap (λ (o : Outcome Located Window). o .state .first) e);
-    rg-is = ap (λ (z : Located). z .rg) d ∙ sym (ap (λ (o : Outcome Located Window). o .state .rg) e);
-    ra-is = ap (λ (z : Located). z .ra) d ∙ sym (ap (λ (o : Outcome Located Window). o .state .ra) e);
-    count-is = ap (λ (z : Located). z .count) d ∙ sym (ap (λ (o : Outcome Located Window). o .state .count) e);
+    reply-is = ap (λ (z : Located). z .reply) d ∙ sym (ap (λ (o : Outcome Located Windows). o .reply) e);
+    first-is = ap (λ (z : Located). z .first) d ∙ sym (ap (λ (o : Outcome Located Windows). o .state .first) e);
+    rg-is = ap (λ (z : Located). z .rg) d ∙ sym (ap (λ (o : Outcome Located Windows). o .state .rg) e);
+    ra-is = ap (λ (z : Located). z .ra) d ∙ sym (ap (λ (o : Outcome Located Windows). o .state .ra) e);
+    count-is = ap (λ (z : Located). z .count) d ∙ sym (ap (λ (o : Outcome Located Windows). o .state .count) e);
   }
 
   found-is : (o g a l : ℕ) → locatedOf w p ≡ record { reply = 0; state = spot 0 o g a l; memory = w } → LocatedIs w p (record { reply = 0; first = o; rg = g; ra = a; count = l })
   unfolding spot
   found-is o g a l e = record {
-    reply-is = sym (ap (λ (o : Outcome Located Window). o .reply) e);
-    first-is = sym (ap (λ (o : Outcome Located Window). o .state .first) e);
-    rg-is = sym (ap (λ (o : Outcome Located Window). o .state .rg) e);
-    ra-is = sym (ap (λ (o : Outcome Located Window). o .state .ra) e);
-    count-is = sym (ap (λ (o : Outcome Located Window). o .state .count) e);
+    reply-is = sym (ap (λ (o : Outcome Located Windows). o .reply) e);
+    first-is = sym (ap (λ (o : Outcome Located Windows). o .state .first) e);
+    rg-is = sym (ap (λ (o : Outcome Located Windows). o .state .rg) e);
+    ra-is = sym (ap (λ (o : Outcome Located Windows). o .state .ra) e);
+    count-is = sym (ap (λ (o : Outcome Located Windows). o .state .count) e);
   }
 
   abbrev lost : Located
@@ -225,8 +225,8 @@ module _ (w : Window) (p : ℕ) where
     abbrev aOf : ℕ
     aOf = v % 2 ^ 56
 
-    packed-is : look one w p ≡ v
-    packed-is = sym (e ∙ read-in w p (sym (run-one (shapeOf w) p) ∙ h))
+    packed-is : look both w p ≡ v
+    packed-is = sym (e ∙ read-in w p (sym (run-one (shapesOf w) p) ∙ h))
 
     opened : locatedOf w p ≡ performOn w lost (contextCount nothing here p gOf aOf)
     unfolding locatedOf
@@ -244,7 +244,7 @@ module _ (w : Window) (p : ℕ) where
         way-outside r q d =
             refused-is 6 6 r (opened ∙ count-out w lost nothing here p gOf aOf lo hi am (not-inside w (below p (269 - gOf)) (told-outside w p gOf k ek q))) d
 
-        rested : (l : ℕ) → has (shapeOf w) (below p (269 - gOf)) ≡ true → look one w (below p (269 - gOf)) ≡ l
+        rested : (l : ℕ) → inside (shapesOf w) (below p (269 - gOf)) ≡ true → look both w (below p (269 - gOf)) ≡ l
             → locatedOf w p ≡ performOn w lost (contextRest nothing here p gOf aOf l)
         rested l t q = opened ∙ count-open w lost nothing here p gOf aOf lo hi am l (has-inside w (below p (269 - gOf)) t) q
 
@@ -254,7 +254,7 @@ module _ (w : Window) (p : ℕ) where
             refused-is 16 0 r (rested _ (t .0) refl ∙ rest-many w lost nothing here p gOf aOf _ (t .1)) d
 
         module _ (l : SaveContextLayout) (q : k ≡ Found l) where
-          count-is : l .«local_count» ≡ look one w (below p (269 - gOf))
+          count-is : l .«local_count» ≡ look both w (below p (269 - gOf))
           unfolding layoutAt
           count-is = ap (λ (x : SaveContextLayout). x .«local_count») (told-found w p gOf k ek l q .2)
 

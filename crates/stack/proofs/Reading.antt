@@ -6,7 +6,7 @@ use Prim.Native.Nat.{ℕ, _+_, _-_, _*_, _^_, _≤_, _<_}
 use native.Mathlib.Omega.{arith}
 use native.Mathlib.Decide.{ℕ-discrete}
 use lib.ListN.{length}
-use Rattle.model.specs.Memory.{Window, shapeOf, ruled, offset}
+use Rattle.model.specs.Memory.{Windows, shapesOf, shapeOf, ruled, offset}
 use Rattle.model.specs.Plan.{Outcome}
 use Rattle.model.specs.Contexts.{contextAt}
 use Rattle.model.specs.Reader.{Part, emptyPart, partAt, readContext}
@@ -23,16 +23,16 @@ use Rattle.stack.proofs.Turns.{Standing, stands-at, Comes, comes, refus
 abbrev place : ℕ → Part → Place
 place n q = record { reply = n; start = q .start; size = q .size }
 
-by-outcome : (w : Window) (p n : ℕ) (q : Part) → n ≤ 16 → q .start + q .size ≤ length (w .bytes) → readContext w p ≡ record { reply = n; state = q; memory = w } → PlaceIs w p (place n q)
+by-outcome : (w : Windows) (p n : ℕ) (q : Part) → n ≤ 16 → q .start + q .size ≤ length (w .bytes) → readContext w p ≡ record { reply = n; state = q; memory = w } → PlaceIs w p (place n q)
 by-outcome w p n q m i e = record {
-  reply-is = sym (ap (λ (o : Outcome Part Window). o .reply) e);
-  start-is = sym (ap (λ (o : Outcome Part Window). o .state .start) e);
-  size-is = sym (ap (λ (o : Outcome Part Window). o .state .size) e);
+  reply-is = sym (ap (λ (o : Outcome Part Windows). o .reply) e);
+  start-is = sym (ap (λ (o : Outcome Part Windows). o .state .start) e);
+  size-is = sym (ap (λ (o : Outcome Part Windows). o .state .size) e);
   reply-most = m;
   lies-inside = i;
 }
 
-pub place-rule : (w : Window) (p : ℕ) → ruled (shapeOf w) ≡ false → PlaceIs w p (place 2 emptyPart)
+pub place-rule : (w : Windows) (p : ℕ) → ruled (shapesOf w) ≡ false → PlaceIs w p (place 2 emptyPart)
 unfolding readContext
 place-rule w p r = by-outcome w p 2 emptyPart (omega arith) (omega arith) (rw r)
 
@@ -42,10 +42,10 @@ pub part-ends : (base : ℕ) (bytes : List ℕ) (at : Located) → length bytes 
 unfolding shapeOf
 part-ends base bytes at short s =
     let g : at .rg ≤ 255 = s .g-high in
-    run-end (shapeOf (lent base bytes)) short (at .first) (at .count + 270 - at .rg) (omega arith) (s .inside)
+    run-end (shapesOf (lent base bytes)) short (at .first) (at .count + 270 - at .rg) (omega arith) (s .inside)
 
-module _ (base : ℕ) (bytes : List ℕ) (p : ℕ) (r : ruled (shapeOf (lent base bytes)) ≡ true) (at : Located) (h : LocatedIs (lent base bytes) p at) where
-  abbrev w : Window
+module _ (base : ℕ) (bytes : List ℕ) (p : ℕ) (r : ruled (shapesOf (lent base bytes)) ≡ true) (at : Located) (h : LocatedIs (lent base bytes) p at) where
+  abbrev w : Windows
   w = lent base bytes
 
   comes-of : Comes w emptyPart emptyPart (partAt w) at (performOn w emptyPart (contextAt emptyPart (partAt w) p))

@@ -6,7 +6,7 @@ use native.Mathlib.Omega.{arith}
 use lib.ListN.{length, getD, set, length-set}
 use lib.Seq.{getD-set-same}
 use Rattle.model.specs.Fill.{tab}
-use Rattle.model.specs.Memory.{Window, Shape, shapeOf, one}
+use Rattle.model.specs.Memory.{Windows, Shapes, shapesOf, shapeOf, both}
 use Rattle.model.specs.Plan.{worst, puts}
 use Rattle.model.specs.Registers.{rO, rG, rL, rA, sp, reg, stored, spilled, withSpecial}
 use Rattle.model.specs.Contexts.{extent, savedSpecial, saved, savedUnspilled, savedState}
@@ -21,42 +21,42 @@ use Rattle.stack.specs.Work.{Ranged, Continues, StoresContext, leftGener
 
 -- ---- a run that goes on
 
-pub continues-none : (v : Window) (addr : ℕ) (g : ℕ → ℕ) → Continues v addr 0 g v
-continues-none v addr g = record { goes-on = λ w o k m f e a l p q. e ∙ ap (λ (n : ℕ). puts one w o (tab 0 n f)) (omega arith) }
+pub continues-none : (v : Windows) (addr : ℕ) (g : ℕ → ℕ) → Continues v addr 0 g v
+continues-none v addr g = record { goes-on = λ w o k m f e a l p q. e ∙ ap (λ (n : ℕ). puts both w o (tab 0 n f)) (omega arith) }
 
 -- a turn of the loop that stores g 0, g 1, ..
-pub continues-more : (v u t : Window) (addr i at x : ℕ) (g : ℕ → ℕ) → Continues v addr i g u → at ≡ (addr + 8 * i) % 2 ^ 64 → x ≡ g i
+pub continues-more : (v u t : Windows) (addr i at x : ℕ) (g : ℕ → ℕ) → Continues v addr i g u → at ≡ (addr + 8 * i) % 2 ^ 64 → x ≡ g i
     → t ≡ writtenOcta u at x → Continues v addr (i + 1) g t
 continues-more v u t addr i at x g h e q d = record { goes-on = next }
   where
-    next : (w : Window) (o k m : ℕ) (f : ℕ → ℕ) → v ≡ puts one w o (tab 0 k f) → addr % 2 ^ 64 ≡ (o + 8 * k) % 2 ^ 64 → k + (i + 1) ≤ m
-        → worst (refusing (shapeOf w)) o m ≡ 0 → ((j : ℕ) → j < i + 1 → g j ≡ f (k + j)) → t ≡ puts one w o (tab 0 (k + (i + 1)) f)
+    next : (w : Windows) (o k m : ℕ) (f : ℕ → ℕ) → v ≡ puts both w o (tab 0 k f) → addr % 2 ^ 64 ≡ (o + 8 * k) % 2 ^ 64 → k + (i + 1) ≤ m
+        → worst (refusing (shapesOf w)) o m ≡ 0 → ((j : ℕ) → j < i + 1 → g j ≡ f (k + j)) → t ≡ puts both w o (tab 0 (k + (i + 1)) f)
     next w o k m f b a l p r =
-        let have : u ≡ puts one w o (tab 0 (k + i) f) = h .goes-on w o k m f b a (omega arith) p (λ j n. r j (omega arith)) in
+        let have : u ≡ puts both w o (tab 0 (k + i) f) = h .goes-on w o k m f b a (omega arith) p (λ j n. r j (omega arith)) in
         let same : k + i + 1 ≡ k + (i + 1) = omega arith in
-        d ∙ ap (λ (z : Window). writtenOcta z at x) have
+        d ∙ ap (λ (z : Windows). writtenOcta z at x) have
         ∙ puts-tab w o m p (k + i) at (omega arith) (e ∙ further o addr k i a) f x (q ∙ r i (omega arith))
-        ∙ ap (λ (n : ℕ). puts one w o (tab 0 n f)) same
+        ∙ ap (λ (n : ℕ). puts both w o (tab 0 n f)) same
 
 -- the run after it, n counted from the start of the whole
-continued : (w v u : Window) (o addr k m n c : ℕ) (f g : ℕ → ℕ) → Continues v addr c g u → n ≡ k + c → v ≡ puts one w o (tab 0 k f)
-    → addr % 2 ^ 64 ≡ (o + 8 * k) % 2 ^ 64 → n ≤ m → worst (refusing (shapeOf w)) o m ≡ 0 → ((i : ℕ) → i < c → g i ≡ f (k + i))
-    → u ≡ puts one w o (tab 0 n f)
-continued w v u o addr k m n c f g h d e a l p q = h .goes-on w o k m f e a (omega arith) p q ∙ ap (λ (j : ℕ). puts one w o (tab 0 j f)) (sym d)
+continued : (w v u : Windows) (o addr k m n c : ℕ) (f g : ℕ → ℕ) → Continues v addr c g u → n ≡ k + c → v ≡ puts both w o (tab 0 k f)
+    → addr % 2 ^ 64 ≡ (o + 8 * k) % 2 ^ 64 → n ≤ m → worst (refusing (shapesOf w)) o m ≡ 0 → ((i : ℕ) → i < c → g i ≡ f (k + i))
+    → u ≡ puts both w o (tab 0 n f)
+continued w v u o addr k m n c f g h d e a l p q = h .goes-on w o k m f e a (omega arith) p q ∙ ap (λ (j : ℕ). puts both w o (tab 0 j f)) (sym d)
 
 -- a store keeps the window's length
 pub written-length : (base : ℕ) (l m : List ℕ) (a x : ℕ) → lent base m ≡ writtenOcta (lent base l) a x → length m ≡ length l
 unfolding shapeOf
-written-length base l m a x e = ap (λ (z : Shape). z .size) (ap shapeOf e ∙ written-shape (lent base l) a x)
+written-length base l m a x e = ap (λ (z : Shapes). z .size) (ap shapesOf e ∙ written-shape (lent base l) a x)
 
-none-put : (w : Window) (o : ℕ) (f : ℕ → ℕ) → w ≡ puts one w o (tab 0 0 f)
+none-put : (w : Windows) (o : ℕ) (f : ℕ → ℕ) → w ≡ puts both w o (tab 0 0 f)
 unfolding puts tab
 none-put w o f = refl
 
 -- ---- the context
 
 -- the five stores one after another
-module _ (s : State) (b : Adm s) (w w1 w2 w3 w4 w5 : Window) (marker globals specials packed : ℕ) where
+module _ (s : State) (b : Adm s) (w w1 w2 w3 w4 w5 : Windows) (marker globals specials packed : ℕ) where
   stored-all : Continues w (sp s rO) (sp s rL) (λ i. reg s (0 + i)) w1
       → marker ≡ (sp s rO + 8 * sp s rL) % 2 ^ 64
       → w2 ≡ writtenOcta w1 marker (sp s rL)
@@ -66,20 +66,20 @@ module _ (s : State) (b : Adm s) (w w1 w2 w3 w4 w5 : Window) (marker globals spe
       → Continues w3 specials 12 (λ i. sp s (savedSpecial i)) w4
       → packed ≡ (sp s rO + 8 * (sp s rL + 269 - sp s rG)) % 2 ^ 64
       → w5 ≡ writtenOcta w4 packed (sp s rG * 2 ^ 56 + sp s rA)
-      → worst (refusing (shapeOf w)) (sp s rO) (extent s) ≡ 0 → w5 ≡ puts one w (sp s rO) (tab 0 (extent s) (saved s))
+      → worst (refusing (shapesOf w)) (sp s rO) (extent s) ≡ 0 → w5 ≡ puts both w (sp s rO) (tab 0 (extent s) (saved s))
   stored-all c1 em e2 eg c3 es c4 ep e5 pass =
       let lg : sp s rL ≤ sp s rG = b .l-g in
       let gh : sp s rG ≤ 255 = b .g-high in
-      let f1 : w1 ≡ puts one w (sp s rO) (tab 0 (sp s rL) (saved s))
+      let f1 : w1 ≡ puts both w (sp s rO) (tab 0 (sp s rL) (saved s))
       = continued w w w1 (sp s rO) (sp s rO) 0 (extent s) (sp s rL) (sp s rL) (saved s) _ c1 (omega arith) (none-put w (sp s rO) (saved s)) (omega arith) (omega arith) pass locals in
-      let f2 : w2 ≡ puts one w (sp s rO) (tab 0 (sp s rL + 1) (saved s))
+      let f2 : w2 ≡ puts both w (sp s rO) (tab 0 (sp s rL + 1) (saved s))
       = single w1 w2 (sp s rL) marker (sp s rL) pass (omega arith) em f1 e2 (sym (saved-count s b)) in
-      let f3 : w3 ≡ puts one w (sp s rO) (tab 0 (sp s rL + 257 - sp s rG) (saved s))
+      let f3 : w3 ≡ puts both w (sp s rO) (tab 0 (sp s rL + 257 - sp s rG) (saved s))
       = continued w w2 w3 (sp s rO) globals (sp s rL + 1) (extent s) (sp s rL + 257 - sp s rG) (256 - sp s rG) (saved s) _ c3 (omega arith) f2 (omega arith) (omega arith) pass globals-are in
-      let f4 : w4 ≡ puts one w (sp s rO) (tab 0 (sp s rL + 269 - sp s rG) (saved s))
+      let f4 : w4 ≡ puts both w (sp s rO) (tab 0 (sp s rL + 269 - sp s rG) (saved s))
       = continued w w3 w4 (sp s rO) specials (sp s rL + 257 - sp s rG) (extent s) (sp s rL + 269 - sp s rG) 12 (saved s) _ c4 (omega arith) f3 (omega arith) (omega arith) pass (λ i h. sym (saved-twelve s b i h)) in
       single w4 w5 (sp s rL + 269 - sp s rG) packed (sp s rG * 2 ^ 56 + sp s rA) pass (omega arith) ep f4 e5 (sym (saved-packed s b))
-      ∙ ap (λ (n : ℕ). puts one w (sp s rO) (tab 0 n (saved s))) (omega arith)
+      ∙ ap (λ (n : ℕ). puts both w (sp s rO) (tab 0 n (saved s))) (omega arith)
     where
       locals : (i : ℕ) → i < sp s rL → reg s (0 + i) ≡ saved s (0 + i)
       locals i h = let z : 0 + i ≡ i = omega arith in rw z (sym (saved-local s b i h))
@@ -89,11 +89,11 @@ module _ (s : State) (b : Adm s) (w w1 w2 w3 w4 w5 : Window) (marker globals spe
           let z : sp s rG + i - sp s rG ≡ i = omega arith in
           sym (saved-global s b (sp s rG + i) (omega arith) (omega arith)) ∙ rw z
 
-      single : (v u : Window) (k at x : ℕ) → worst (refusing (shapeOf w)) (sp s rO) (extent s) ≡ 0 → k < extent s → at ≡ (sp s rO + 8 * k) % 2 ^ 64
-          → v ≡ puts one w (sp s rO) (tab 0 k (saved s)) → u ≡ writtenOcta v at x → x ≡ saved s k → u ≡ puts one w (sp s rO) (tab 0 (k + 1) (saved s))
-      single v u k at x p h e f d q = d ∙ ap (λ (z : Window). writtenOcta z at x) f ∙ puts-tab w (sp s rO) (extent s) p k at h e (saved s) x q
+      single : (v u : Windows) (k at x : ℕ) → worst (refusing (shapesOf w)) (sp s rO) (extent s) ≡ 0 → k < extent s → at ≡ (sp s rO + 8 * k) % 2 ^ 64
+          → v ≡ puts both w (sp s rO) (tab 0 k (saved s)) → u ≡ writtenOcta v at x → x ≡ saved s k → u ≡ puts both w (sp s rO) (tab 0 (k + 1) (saved s))
+      single v u k at x p h e f d q = d ∙ ap (λ (z : Windows). writtenOcta z at x) f ∙ puts-tab w (sp s rO) (extent s) p k at h e (saved s) x q
 
-pub context-stored : (general special : List ℕ) → Ranged special → (w w1 w2 w3 w4 w5 : Window) (marker globals specials packed : ℕ)
+pub context-stored : (general special : List ℕ) → Ranged special → (w w1 w2 w3 w4 w5 : Windows) (marker globals specials packed : ℕ)
     → Continues w (getD special rO 0) (getD special rL 0) (λ i. getD general (0 + i) 0) w1
     → marker ≡ (getD special rO 0 + 8 * getD special rL 0) % 2 ^ 64
     → w2 ≡ writtenOcta w1 marker (getD special rL 0)

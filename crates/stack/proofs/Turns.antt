@@ -7,7 +7,7 @@ use native.Mathlib.Omega.{arith}
 use lib.Dec.{leb}
 use lib.ListN.{getD}
 use borrow.Author.Tests.{leb-true, eqb-true}
-use Rattle.model.specs.Memory.{Window, shapeOf, one}
+use Rattle.model.specs.Memory.{Windows, shapesOf, both}
 use Rattle.model.specs.Plan.{Plan, answer, read, Outcome, perform, worst, clear, named, looks, puts}
 use Rattle.model.specs.Contexts.{below, contextRest, contextCount, contextAt}
 use Rattle.model.specs.Step.{refusing}
@@ -22,7 +22,7 @@ use Rattle.stack.proofs.Loads.{octas-are}
 use Rattle.stack.proofs.Places.{run-back}
 
 -- the outcome o of a plan and the outcome of the same plan that only locates
-pub data Turns {S : Type 0} (w : Window) (p : ℕ) (s bad : S) (found : ℕ → ℕ → ℕ → ℕ → List ℕ → S) : Outcome S Window → Outcome Located Window → Type 0 where
+pub data Turns {S : Type 0} (w : Windows) (p : ℕ) (s bad : S) (found : ℕ → ℕ → ℕ → ℕ → List ℕ → S) : Outcome S Windows → Outcome Located Windows → Type 0 where
   stands : (g a l : ℕ) → g ≤ 255 → l ≤ g → Inside w (below p (l + 269 - g)) (l + 270 - g)
       → Turns w p s bad found (record { reply = 0; state = found (below p (l + 269 - g) % 2 ^ 64) g a l (octasOf w p g l); memory = w })
       (record { reply = 0; state = spot 0 (below p (l + 269 - g) % 2 ^ 64) g a l; memory = w })
@@ -33,18 +33,18 @@ named-six : (r : ℕ) → r ≡ 6 → named 6 r ≡ 6
 unfolding named
 named-six r e = rw e
 
-module _ {S : Type 0} (w : Window) (p : ℕ) (s bad : S) (found : ℕ → ℕ → ℕ → ℕ → List ℕ → S) where
+module _ {S : Type 0} (w : Windows) (p : ℕ) (s bad : S) (found : ℕ → ℕ → ℕ → ℕ → List ℕ → S) where
   abbrev Alike : Plan S → Plan Located → Type 0
   Alike q r = Turns w p s bad found (performOn w s q) (performOn w (spot 6 0 0 0 0) r)
 
   abbrev here : ℕ → ℕ → ℕ → ℕ → List ℕ → Located
   here o g a l vs = spot 0 o g a l
 
-  read-alike : (a n : ℕ) (f : List ℕ → Plan S) (g : List ℕ → Plan Located) → (Inside w a n → Alike (f (looks one w a n)) (g (looks one w a n))) → Alike (read 6 a n f) (read 6 a n g)
+  read-alike : (a n : ℕ) (f : List ℕ → Plan S) (g : List ℕ → Plan Located) → (Inside w a n → Alike (f (looks both w a n)) (g (looks both w a n))) → Alike (read 6 a n f) (read 6 a n g)
   unfolding perform
   read-alike a n f g h =
-      on-both {A = Outcome S Window} {B = Outcome Located Window} (Turns w p s bad found) (clear (refusing (shapeOf w)) a n) (λ e. h (eqb-true _ _ e))
-      (λ e. lacks (named 6 (worst (refusing (shapeOf w)) a n)) (named-six _ (worst-six (shapeOf w) n a e)))
+      on-both {A = Outcome S Windows} {B = Outcome Located Windows} (Turns w p s bad found) (clear (refusing (shapesOf w)) a n) (λ e. h (eqb-true _ _ e))
+      (λ e. lacks (named 6 (worst (refusing (shapesOf w)) a n)) (named-six _ (worst-six (shapesOf w) n a e)))
 
   said-alike : (n : ℕ) → 14 ≤ n → n ≤ 16 → Alike (answer n bad 0 []) (answer n (spot 0 0 0 0 0) 0 [])
   unfolding perform worst puts
@@ -80,13 +80,13 @@ module _ {S : Type 0} (w : Window) (p : ℕ) (s bad : S) (found : ℕ → ℕ �
       (λ i. count-alike _ _)
 
 -- a context located at r: its bounds, and that all of it lies in the window
-pub record Standing (w : Window) (r : Located) : Type 0 where
+pub record Standing (w : Windows) (r : Located) : Type 0 where
   pub g-high : r .rg ≤ 255
   pub l-g : r .count ≤ r .rg
   pub inside : Inside w (r .first) (r .count + 270 - r .rg)
 
 -- what comes of a plan by what `locate` answered
-pub record Comes {S : Type 0} (w : Window) (s bad : S) (found : ℕ → ℕ → ℕ → ℕ → List ℕ → S) (r : Located) (o : Outcome S Window) : Type 0 where
+pub record Comes {S : Type 0} (w : Windows) (s bad : S) (found : ℕ → ℕ → ℕ → ℕ → List ℕ → S) (r : Located) (o : Outcome S Windows) : Type 0 where
   pub standing : r .reply ≡ 0 → Standing w r
   pub done : r .reply ≡ 0
       → o ≡ record { reply = 0; state = found (r .first) (r .rg) (r .ra) (r .count) (octasFrom w (r .first) (r .count + 270 - r .rg)); memory = w }
@@ -94,8 +94,8 @@ pub record Comes {S : Type 0} (w : Window) (s bad : S) (found : ℕ → ℕ → 
   pub number : (r .reply ≡ 0 → ⊥) → (r .reply ≡ 6 → ⊥) → (14 ≤ r .reply) × (r .reply ≤ 16)
   pub other : (r .reply ≡ 0 → ⊥) → (r .reply ≡ 6 → ⊥) → o ≡ record { reply = r .reply; state = bad; memory = w }
 
-module _ {S : Type 0} (w : Window) (p : ℕ) (s bad : S) (found : ℕ → ℕ → ℕ → ℕ → List ℕ → S) (r : Located) where
-  go : {o : Outcome S Window} {q : Outcome Located Window} → Turns w p s bad found o q → r .reply ≡ q .reply → r .first ≡ q .state .first → r .rg ≡ q .state .rg
+module _ {S : Type 0} (w : Windows) (p : ℕ) (s bad : S) (found : ℕ → ℕ → ℕ → ℕ → List ℕ → S) (r : Located) where
+  go : {o : Outcome S Windows} {q : Outcome Located Windows} → Turns w p s bad found o q → r .reply ≡ q .reply → r .first ≡ q .state .first → r .rg ≡ q .state .rg
       → r .ra ≡ q .state .ra → r .count ≡ q .state .count → Comes w s bad found r o
   unfolding spot
   go (stands g a l gh lg h) e1 e2 e3 e4 e5 =
@@ -128,7 +128,7 @@ module _ {S : Type 0} (w : Window) (p : ℕ) (s bad : S) (found : ℕ → ℕ �
   comes h = go (turns w p s bad found) (h .reply-is) (h .first-is) (h .rg-is) (h .ra-is) (h .count-is)
 
 -- of the place alone
-module _ (w : Window) (p : ℕ) (r : Located) (h : LocatedIs w p r) where
+module _ (w : Windows) (p : ℕ) (r : Located) (h : LocatedIs w p r) where
   any : Comes {S = ℕ} w 0 0 (λ o g a l vs. 0) r (performOn w 0 (contextAt 0 (λ o g a l vs. 0) p))
   any = comes w p 0 0 (λ o g a l vs. 0) r h
 

@@ -6,7 +6,7 @@ use mathlib.Core.Bool.{cond}
 use lib.Dec.{leb, eqb}
 use lib.ListN.{length}
 use denote.Ref.{RefT, ptr, now}
-use Rattle.model.specs.Memory.{Window, shapeOf, has, one}
+use Rattle.model.specs.Memory.{Windows, shapesOf, inside, both}
 use Rattle.model.specs.Plan.{Outcome, perform, look}
 use Rattle.model.specs.Contexts.{below, saveContext, contextAt, unsaveContext}
 use Rattle.model.specs.Step.{refusing}
@@ -20,10 +20,10 @@ use Rattle.stack.specs.declared.layout.Layout.the-variants.{Found, Exces
 use Rattle.stack.specs.declared.layout.SaveContextLayout.{SaveContextLayout}
 use Rattle.stack.specs.declared.reader.Place.{Place}
 
-unfoldable pub saveOf : Window → State → ℕ → Outcome State Window
+unfoldable pub saveOf : Windows → State → ℕ → Outcome State Windows
 saveOf w s x = guardedOn w s (saveContext s x)
 
-unfoldable pub unsaveOf : Window → State → ℕ → Outcome State Window
+unfoldable pub unsaveOf : Windows → State → ℕ → Outcome State Windows
 unsaveOf w s p = guardedOn w s (unsaveContext s p)
 
 -- the parts of a context below its packed octabyte at p, for a threshold g and l locals
@@ -37,8 +37,8 @@ layoutAt p g l = record {
 }
 
 -- the number of the local count below p: 6 where it is missing, 16 where it is above g, compared at full width
-unfoldable pub countReply : Window → ℕ → ℕ → ℕ
-countReply w p g = cond (has (shapeOf w) (below p (269 - g))) (cond (leb (look one w (below p (269 - g))) g) 0 16) 6
+unfoldable pub countReply : Windows → ℕ → ℕ → ℕ
+countReply w p g = cond (inside (shapesOf w) (below p (269 - g))) (cond (leb (look both w (below p (269 - g))) g) 0 16) 6
 
 -- 01's number of each case
 unfoldable pub layoutNumber : Layout → ℕ
@@ -50,8 +50,8 @@ layoutNumber Outside = 6
 unfoldable pub layoutAnswer : ℕ → ℕ → ℕ → ℕ → Layout
 layoutAnswer p g l n = cond (eqb n 0) (Found (layoutAt p g l)) (cond (eqb n 16) (Excess l) Outside)
 
-pub record LayoutIs (w : Window) (p g : ℕ) (r : Layout) : Type 0 where
-  pub answer-is : r ≡ layoutAnswer p g (look one w (below p (269 - g))) (countReply w p g)
+pub record LayoutIs (w : Windows) (p g : ℕ) (r : Layout) : Type 0 where
+  pub answer-is : r ≡ layoutAnswer p g (look both w (below p (269 - g))) (countReply w p g)
   pub number-is : layoutNumber r ≡ countReply w p g
 
 -- where the context at p is: its first local's address, rG, rA and local count; all 0 where it is refused
@@ -59,10 +59,10 @@ unfoldable pub spot : ℕ → ℕ → ℕ → ℕ → ℕ → Located
 spot n o g a l = record { reply = n; first = o; rg = g; ra = a; count = l }
 
 -- the context plan that UNSAVE and the reader share, with the place as its answer
-unfoldable pub locatedOf : Window → ℕ → Outcome Located Window
-locatedOf w p = perform one (refusing (shapeOf w)) (spot 6 0 0 0 0) (contextAt (spot 0 0 0 0 0) (λ o g a l vs. spot 0 o g a l) p) w
+unfoldable pub locatedOf : Windows → ℕ → Outcome Located Windows
+locatedOf w p = perform both (refusing (shapesOf w)) (spot 6 0 0 0 0) (contextAt (spot 0 0 0 0 0) (λ o g a l vs. spot 0 o g a l) p) w
 
-pub record LocatedIs (w : Window) (p : ℕ) (r : Located) : Type 0 where
+pub record LocatedIs (w : Windows) (p : ℕ) (r : Located) : Type 0 where
   pub reply-is : r .reply ≡ locatedOf w p .reply
   pub first-is : r .first ≡ locatedOf w p .state .first
   pub rg-is : r .rg ≡ locatedOf w p .state .rg
@@ -70,7 +70,7 @@ pub record LocatedIs (w : Window) (p : ℕ) (r : Located) : Type 0 where
   pub count-is : r .count ≡ locatedOf w p .state .count
 
 -- the reader's reply and part as numbers; the part lies in the window
-pub record PlaceIs (w : Window) (p : ℕ) (r : Place) : Type 0 where
+pub record PlaceIs (w : Windows) (p : ℕ) (r : Place) : Type 0 where
   pub reply-is : r .reply ≡ readContext w p .reply
   pub start-is : r .start ≡ readContext w p .state .start
   pub size-is : r .size ≡ readContext w p .state .size

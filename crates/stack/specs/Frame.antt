@@ -5,7 +5,7 @@ use mathlib.Core.Bool.{cond}
 use mathlib.Core.List.{List}
 use lib.Dec.{ltb, eqb}
 use lib.ListN.{length, getD}
-use Rattle.model.specs.Memory.{Window}
+use Rattle.model.specs.Memory.{Windows}
 use Rattle.model.specs.Plan.{Outcome}
 use Rattle.model.specs.Registers.{rJ, rO, rG, rL, stackStart, sp, goes}
 use Rattle.model.specs.Frames.{hole, pushFrame, noFrame, popFrame}
@@ -16,11 +16,11 @@ use Rattle.stack.specs.declared.frame.PopFrame.{PopFrame}
 use Rattle.stack.specs.declared.frame.PopFrame.the-variants.{Frame, NoFrame, Rejected, Missing, NotAdmissible, WindowRule}
 
 -- PUSH with x; where the call goes is the arm's business
-unfoldable pub pushOf : Window → State → ℕ → Outcome State Window
+unfoldable pub pushOf : Windows → State → ℕ → Outcome State Windows
 pushOf w s x = guardedOn w s (pushFrame s (hole s x) (s .pc))
 
 -- POP with x; where it goes is the arm's business
-unfoldable pub popOf : Window → State → ℕ → Outcome State Window
+unfoldable pub popOf : Windows → State → ℕ → Outcome State Windows
 popOf w s x = guardedOn w s (popFrame s x (s .pc))
 
 -- "PC is rJ + 4 × YZ"
@@ -42,7 +42,7 @@ popAnswer s yz n =
     cond (eqb n 0) (cond (noFrame s) NoFrame (Frame (returnTo s yz)))
     (cond (eqb n 12) Rejected (cond (eqb n 6) Missing (cond (eqb n 1) NotAdmissible WindowRule)))
 
-pub record PopGives (w : Window) (s : State) (x yz : ℕ) (r : PopFrame) (t : State) : Type 0 where
+pub record PopGives (w : Windows) (s : State) (x yz : ℕ) (r : PopFrame) (t : State) : Type 0 where
   pub answer-is : r ≡ popAnswer s yz (popOf w s x .reply)
   pub number-is : popNumber r ≡ popOf w s x .reply
   pub state-is : t ≡ goes (popOf w s x .state) (s .pc)
@@ -65,6 +65,6 @@ abbrev pub bottomOf : List ℕ → ℕ → ℕ
 bottomOf special h = getD special rO 0 - 8 * (h + 1)
 
 -- $k of the caller, from the window, the last output, the hole, the count and the callee's registers
-abbrev pub restoredBy : Window → ℕ → ℕ → ℕ → ℕ → List ℕ → ℕ → ℕ
+abbrev pub restoredBy : Windows → ℕ → ℕ → ℕ → ℕ → List ℕ → ℕ → ℕ
 restoredBy w bottom last h count general k =
     cond (ltb k h) (readOcta w (bottom + 8 * k)) (cond (eqb k h) last (cond (ltb k (h + count)) (getD general (k - h - 1) 0) 0))

@@ -5,7 +5,7 @@ use mathlib.Core.Path.{_≡_}
 use mathlib.Core.List.{List}
 use lib.ListN.{getD, set}
 use Rattle.model.specs.Fill.{over, tab}
-use Rattle.model.specs.Memory.{Window, shapeOf, one}
+use Rattle.model.specs.Memory.{Windows, shapesOf, both}
 use Rattle.model.specs.Plan.{worst, puts}
 use Rattle.model.specs.Registers.{rO, rS, rG, rL, rA}
 use Rattle.model.specs.Contexts.{extent, savedSpecial, saved}
@@ -22,14 +22,14 @@ pub record Ranged (special : List ℕ) : Type 0 where
 
 -- u is v with g 0 to g (n − 1) stored from addr up, as a part of a longer run: where v is w with the first k of the octabytes
 -- f 0, f 1, .. of a run of m inside it, and these are the next n, u is w with the first k + n
-pub record Continues (v : Window) (addr n : ℕ) (g : ℕ → ℕ) (u : Window) : Type 0 where
-  pub goes-on : (w : Window) (o k m : ℕ) (f : ℕ → ℕ) → v ≡ puts one w o (tab 0 k f) → addr % 2 ^ 64 ≡ (o + 8 * k) % 2 ^ 64 → k + n ≤ m
-      → worst (refusing (shapeOf w)) o m ≡ 0 → ((i : ℕ) → i < n → g i ≡ f (k + i)) → u ≡ puts one w o (tab 0 (k + n) f)
+pub record Continues (v : Windows) (addr n : ℕ) (g : ℕ → ℕ) (u : Windows) : Type 0 where
+  pub goes-on : (w : Windows) (o k m : ℕ) (f : ℕ → ℕ) → v ≡ puts both w o (tab 0 k f) → addr % 2 ^ 64 ≡ (o + 8 * k) % 2 ^ 64 → k + n ≤ m
+      → worst (refusing (shapesOf w)) o m ≡ 0 → ((i : ℕ) → i < n → g i ≡ f (k + i)) → u ≡ puts both w o (tab 0 (k + n) f)
 
 -- v is w with the context of these registers stored from rO up, where it lies inside
-pub record StoresContext (general special : List ℕ) (w v : Window) : Type 0 where
-  pub stores : (pc halt marks : ℕ) → marks < 512 → worst (refusing (shapeOf w)) (getD special rO 0) (extent (made general special pc halt marks)) ≡ 0
-      → v ≡ puts one w (getD special rO 0) (tab 0 (extent (made general special pc halt marks)) (saved (made general special pc halt marks)))
+pub record StoresContext (general special : List ℕ) (w v : Windows) : Type 0 where
+  pub stores : (pc halt marks : ℕ) → marks < 512 → worst (refusing (shapesOf w)) (getD special rO 0) (extent (made general special pc halt marks)) ≡ 0
+      → v ≡ puts both w (getD special rO 0) (tab 0 (extent (made general special pc halt marks)) (saved (made general special pc halt marks)))
 
 -- the registers that SAVE $x leaves
 unfoldable pub leftGeneral : List ℕ → List ℕ → ℕ → List ℕ
@@ -42,7 +42,7 @@ leftSpecial special =
     ((getD special rO 0 + 8 * (getD special rL 0 + 270 - getD special rG 0)) % 2 ^ 64)
 
 -- the n octabytes from address a up, as code reads them
-unfoldable pub octasFrom : Window → ℕ → ℕ → List ℕ
+unfoldable pub octasFrom : Windows → ℕ → ℕ → List ℕ
 octasFrom w a n = tab 0 n (λ i. readOcta w ((a + 8 * i) % 2 ^ 64))
 
 -- l with f k at the place of the special that is number k of the twelve, for each k below n

@@ -5,7 +5,7 @@ ghost use mathlib.Core.List.{List};
 ghost use Prim.Native.Nat.{ℕ, _+_, _-_, _≤_, _<_, min};
 ghost use lib.ListN.{getD};
 ghost use Rattle.model.specs.Fill.{over, tab};
-ghost use Rattle.model.specs.Memory.{shapeOf, ruled, one};
+ghost use Rattle.model.specs.Memory.{shapesOf, ruled, both};
 ghost use Rattle.model.specs.Plan.{worst, looks, puts};
 ghost use Rattle.model.specs.Registers.{rO, rG, rL, sp, admissible};
 ghost use Rattle.model.specs.Frames.{hole, framed, pushed, countOf, lastOutput, popped, misplaced};
@@ -47,8 +47,8 @@ fn hole_of(rg: u64, rl: u64, x: u8) -> u64
 
 /// $0 to $(h − 1), stored from address ro up.
 fn store_locals(general: &[u64; 256], window: &mut [u8], base: u64, ro: u64, h: u64)
-    requires { ⌜ (h ≤ 255) × (worst (refusing (shapeOf (lent base (now window)))) ro (h + 1) ≡ 0) ⌝ }
-    ensures { λ _. ⌜ ((special : List ℕ) (pc halt marks : ℕ) → lent base (now (window .exit)) ≡ puts one (lent base (now (window .entry))) ro (tab 0 h (framed (made (now (general .entry)) special pc halt marks) h))) ⌝ }
+    requires { ⌜ (h ≤ 255) × (worst (refusing (shapesOf (lent base (now window)))) ro (h + 1) ≡ 0) ⌝ }
+    ensures { λ _. ⌜ ((special : List ℕ) (pc halt marks : ℕ) → lent base (now (window .exit)) ≡ puts both (lent base (now (window .entry))) ro (tab 0 h (framed (made (now (general .entry)) special pc halt marks) h))) ⌝ }
 {
     let mut i: u64 = 0;
     while i < h {
@@ -61,8 +61,8 @@ fn store_locals(general: &[u64; 256], window: &mut [u8], base: u64, ro: u64, h: 
 
 /// The frame with hole h, stored from address ro up.
 fn store_frame(general: &[u64; 256], window: &mut [u8], base: u64, ro: u64, h: u64)
-    requires { ⌜ (h ≤ 255) × (worst (refusing (shapeOf (lent base (now window)))) ro (h + 1) ≡ 0) ⌝ }
-    ensures { λ _. ⌜ ((special : List ℕ) (pc halt marks : ℕ) → lent base (now (window .exit)) ≡ puts one (lent base (now (window .entry))) ro (tab 0 (h + 1) (framed (made (now (general .entry)) special pc halt marks) h))) ⌝ }
+    requires { ⌜ (h ≤ 255) × (worst (refusing (shapesOf (lent base (now window)))) ro (h + 1) ≡ 0) ⌝ }
+    ensures { λ _. ⌜ ((special : List ℕ) (pc halt marks : ℕ) → lent base (now (window .exit)) ≡ puts both (lent base (now (window .entry))) ro (tab 0 (h + 1) (framed (made (now (general .entry)) special pc halt marks) h))) ⌝ }
 {
     store_locals(general, window, base, ro, h);
     let addr = machine::number::wrapping_add(ro, 8 * h);
@@ -211,8 +211,8 @@ fn is_misplaced(ro: u64) -> bool
 
 /// The registers after a pop with hole h.
 fn leave(general: &mut [u64; 256], special: &mut [u64; 32], window: &[u8], base: u64, x: u8, h: u64)
-    requires { ⌜ (Held (now special)) × (h ≤ 255) × (Placed (now special)) × (worst (refusing (shapeOf (lent base (now window)))) (bottomOf (now special) h) (min h (getD (now special) rG 0)) ≡ 0) ⌝ }
-    ensures { λ _. ⌜ ((pc halt marks : ℕ) → made (now (general .exit)) (now (special .exit)) pc halt marks ≡ popped (made (now (general .entry)) (now (special .entry)) pc halt marks) x h (looks one (lent base (now (window .entry))) (bottomOf (now (special .entry)) h) (min h (getD (now (special .entry)) rG 0)))) ⌝ }
+    requires { ⌜ (Held (now special)) × (h ≤ 255) × (Placed (now special)) × (worst (refusing (shapesOf (lent base (now window)))) (bottomOf (now special) h) (min h (getD (now special) rG 0)) ≡ 0) ⌝ }
+    ensures { λ _. ⌜ ((pc halt marks : ℕ) → made (now (general .exit)) (now (special .exit)) pc halt marks ≡ popped (made (now (general .entry)) (now (special .entry)) pc halt marks) x h (looks both (lent base (now (window .entry))) (bottomOf (now (special .entry)) h) (min h (getD (now (special .entry)) rG 0)))) ⌝ }
 {
     let ro = special[State::RO];
     let rg = special[State::RG];
@@ -237,7 +237,7 @@ fn pop_at(
     yz: u16,
 ) -> PopFrame
     requires { ⌜ (Held (now special)) × (Placed (now special)) ⌝ }
-    ensures { λ r. ⌜ ((pc halt marks : ℕ) → admissible (made (now (general .entry)) (now (special .entry)) pc halt marks) ≡ true → ruled (shapeOf (lent base (now (window .entry)))) ≡ true → misplaced (made (now (general .entry)) (now (special .entry)) pc halt marks) ≡ false → PopGives (lent base (now (window .entry))) (made (now (general .entry)) (now (special .entry)) pc halt marks) x yz r (made (now (general .exit)) (now (special .exit)) pc halt marks)) ⌝ }
+    ensures { λ r. ⌜ ((pc halt marks : ℕ) → admissible (made (now (general .entry)) (now (special .entry)) pc halt marks) ≡ true → ruled (shapesOf (lent base (now (window .entry)))) ≡ true → misplaced (made (now (general .entry)) (now (special .entry)) pc halt marks) ≡ false → PopGives (lent base (now (window .entry))) (made (now (general .entry)) (now (special .entry)) pc halt marks) x yz r (made (now (general .exit)) (now (special .exit)) pc halt marks)) ⌝ }
 {
     let ro = special[State::RO];
     let rg = special[State::RG];

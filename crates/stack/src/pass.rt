@@ -2,10 +2,10 @@
 ghost use mathlib.Core.Path.{_≡_};
 ghost use mathlib.Core.List.{List};
 ghost use Prim.Native.Nat.{ℕ, _+_, _-_, _%_, _^_};
-ghost use Rattle.model.specs.Memory.{shapeOf, ruled};
-ghost use Rattle.model.specs.Registers.{admissible, setRegister};
+ghost use Rattle.model.specs.Memory.{shapesOf, ruled};
+ghost use Rattle.model.specs.Registers.{withParts, admissible, setRegister};
 ghost use Rattle.model.specs.Control.{isNegative};
-ghost use Rattle.model.specs.Parts.{made, withParts, lent};
+ghost use Rattle.model.specs.Parts.{made, lent};
 ghost use Rattle.model.specs.declared.State.{State};
 ghost use Rattle.machine.specs.Put.{PutGives};
 use model::Reply;
@@ -36,7 +36,7 @@ pub fn admissible(special: &[u64; 32], marks: u64) -> bool
 }
 
 pub fn is_ruled(window: &[u8], base: u64) -> bool
-    ensures { λ r. ⌜ r ≡ ruled (shapeOf (lent base (now (window .entry)))) ⌝ }
+    ensures { λ r. ⌜ r ≡ ruled (shapesOf (lent base (now (window .entry)))) ⌝ }
 {
     machine::memory::is_ruled(window, base)
 }

@@ -5,8 +5,7 @@ use Prim.Native.Nat.{ℕ, _+_}
 use borrow.Author.Needs.{needs}
 use borrow.Author.Tests.{le-leb, lt-leb, lt-ltb, le-ltb}
 use lib.ListN.{set}
-use Rattle.model.specs.Registers.{rL, claimLocal, withSpecial, cleared}
-use Rattle.model.specs.Parts.{withParts}
+use Rattle.model.specs.Registers.{withParts, rL, claimLocal, withSpecial, cleared}
 use Rattle.machine.proofs.registers.claim_local.Statement.{statement}
 use Rattle.machine.proofs.registers.claim_local.Tie as tie
 

@@ -4,7 +4,7 @@ use mathlib.Core.Bool.{true}
 use Prim.Native.Nat.{ℕ}
 use native.Mathlib.Omega.{arith}
 use borrow.Author.Needs.{needs}
-use Rattle.model.specs.Memory.{shapeOf, ruled}
+use Rattle.model.specs.Memory.{shapesOf, ruled}
 use Rattle.model.specs.Registers.{admissible, halted}
 use Rattle.model.specs.Parts.{made, lent}
 use Rattle.stack.specs.Work.{Ranged}
@@ -21,7 +21,7 @@ bounds : (c : tie.Then1) → Ranged (c .before .before .before .before .args .sp
 bounds c = ranged _ _ 0 0 _ (judged c 0 0)
 
 -- and 2
-windowed : (c : tie.Then2) → ruled (shapeOf (lent (c .before .before .before .before .before .before .before .args .base) (c .before .before .before .before .before .before .before .args .window .now))) ≡ true
+windowed : (c : tie.Then2) → ruled (shapesOf (lent (c .before .before .before .before .before .before .before .args .base) (c .before .before .before .before .before .before .before .args .window .now))) ≡ true
 windowed c = sym (c .before .is-ruled .ensures) ∙ c .if2 .taken
 
 admissible-requires : tie.Need-admissible-requires

@@ -3,7 +3,7 @@ use mathlib.Core.Path.{_≡_, sym, _∙_}
 use mathlib.Core.Bool.{true}
 use Prim.Native.Nat.{ℕ}
 use borrow.Author.Needs.{needs}
-use Rattle.model.specs.Memory.{shapeOf, ruled}
+use Rattle.model.specs.Memory.{shapesOf, ruled}
 use Rattle.model.specs.Registers.{admissible, halted}
 use Rattle.model.specs.Parts.{made, lent}
 use Rattle.stack.proofs.Turns.{stands-at, refused-by}
@@ -16,7 +16,7 @@ judged : (c : tie.Then1) (pc halt : ℕ) → admissible (made (c .before .before
 judged c pc halt = sym (c .before .admissible .ensures (c .before .before .before .before .args .general .now) pc halt) ∙ c .if1 .taken
 
 -- and 2
-windowed : (c : tie.Then2) → ruled (shapeOf (lent (c .before .before .before .before .before .before .args .base) (c .before .before .before .before .before .before .args .window .now))) ≡ true
+windowed : (c : tie.Then2) → ruled (shapesOf (lent (c .before .before .before .before .before .before .args .base) (c .before .before .before .before .before .before .args .window .now))) ≡ true
 windowed c = sym (c .before .is-ruled .ensures) ∙ c .if2 .taken
 
 admissible-requires : tie.Need-admissible-requires

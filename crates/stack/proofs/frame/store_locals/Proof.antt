@@ -6,7 +6,7 @@ use native.Mathlib.Omega.{arith}
 use borrow.Author.Needs.{needs}
 use lib.ListN.{length}
 use Rattle.model.specs.Fill.{tab}
-use Rattle.model.specs.Memory.{Window, one}
+use Rattle.model.specs.Memory.{Windows, both}
 use Rattle.model.specs.Plan.{puts}
 use Rattle.model.specs.Frames.{framed}
 use Rattle.model.specs.Parts.{made, lent}
@@ -16,7 +16,7 @@ use Rattle.stack.proofs.frame.store_locals.Tie as tie
 
 abbrev Inv-loop : tie.InvT-loop
 Inv-loop general window₀ base ro h i₀ window i =
-    (i ≤ h) × ((special : List ℕ) (pc halt marks : ℕ) → lent base window ≡ puts one (lent base window₀) ro (tab 0 i (framed (made general special pc halt marks) h))) × (length window ≡ length window₀)
+    (i ≤ h) × ((special : List ℕ) (pc halt marks : ℕ) → lent base window ≡ puts both (lent base window₀) ro (tab 0 i (framed (made general special pc halt marks) h))) × (length window ≡ length window₀)
 
 abbrev μ-loop : tie.MeasureT-loop
 μ-loop general window₀ base ro h i₀ window i = h - i
@@ -56,12 +56,12 @@ loop-again c =
     let i = at-loop .loop .i in
     let g = a .general .now in
     let w = lent (a .base) (a .window .now) in
-    let turn : (special : List ℕ) (pc halt marks : ℕ) → lent (a .base) (call .last .0) ≡ puts one w (a .ro) (tab 0 (i + 1) (framed (made g special pc halt marks) (a .h)))
+    let turn : (special : List ℕ) (pc halt marks : ℕ) → lent (a .base) (call .last .0) ≡ puts both w (a .ro) (tab 0 (i + 1) (framed (made g special pc halt marks) (a .h)))
     = λ special pc halt marks.
     let f : ℕ → ℕ = framed (made g special pc halt marks) (a .h) in
     store-next w (a .ro) (a .h + 1) i _ (start .pre .1) (omega arith) (sum .ensures) f _ _ _ (call .ensures) (at-loop .loop .inv .1 special pc halt marks)
     (sym (framed-local (made g special pc halt marks) (a .h) i (omega arith))) in
-    (omega arith, turn, ap (λ (v : Window). length (v .bytes)) (turn [] 0 0 0) ∙ puts-length w (a .ro) _)
+    (omega arith, turn, ap (λ (v : Windows). length (v .bytes)) (turn [] 0 0 0) ∙ puts-length w (a .ro) _)
 
 same-length : tie.Need-same-length Inv-loop μ-loop
 same-length c = c .before .loop .inv .2
@@ -71,7 +71,7 @@ returns c =
     let a = c .before .before .before .args in
     let e : c .before .loop .i ≡ a .h = omega arith in
     λ special pc halt marks. c .before .loop .inv .1 special pc halt marks
-    ∙ ap (λ (n : ℕ). puts one (lent (a .base) (a .window .now)) (a .ro) (tab 0 n (framed (made (a .general .now) special pc halt marks) (a .h)))) e
+    ∙ ap (λ (n : ℕ). puts both (lent (a .base) (a .window .now)) (a .ro) (tab 0 n (framed (made (a .general .now) special pc halt marks) (a .h)))) e
 
 pub store-locals-spec : {M : Type 1} → statement M
 store-locals-spec =

@@ -2,7 +2,7 @@
 use mathlib.Core.Path.{_≡_, sym, _∙_}
 use native.Mathlib.Omega.{arith}
 use borrow.Author.Needs.{needs}
-use Rattle.model.specs.Memory.{shapeOf}
+use Rattle.model.specs.Memory.{shapesOf}
 use Rattle.model.specs.Plan.{worst}
 use Rattle.model.specs.Step.{refusing}
 use Rattle.model.specs.Parts.{lent}
@@ -11,7 +11,7 @@ use Rattle.stack.proofs.layout.locate.Statement.{statement}
 use Rattle.stack.proofs.layout.locate.Tie as tie
 
 -- the packed octabyte lies inside
-inside : (c : tie.Then1) → worst (refusing (shapeOf (lent (c .before .before .before .args .base) (c .before .before .before .args .window .now)))) (c .before .before .before .args .address) 1 ≡ 0
+inside : (c : tie.Then1) → worst (refusing (shapesOf (lent (c .before .before .before .args .base) (c .before .before .before .args .window .now)))) (c .before .before .before .args .address) 1 ≡ 0
 inside c = sym (c .before .run-refusal .ensures) ∙ c .if1 .taken
 
 run-refusal-requires : tie.Need-run-refusal-requires
