@@ -1,6 +1,8 @@
 # Cuqamish. `make` lists the targets.
 
 SHELL = /bin/bash
+# With gawk and a UTF-8 locale rt's awk programs fail, and what the prover says is lost.
+export LC_ALL := C
 CASES ?= 200000
 SEED ?= 2009
 SCRIPT ?= examples/scripts/first.script
