@@ -1,5 +1,5 @@
-//! Starts in few words: a case whose registers and octabytes are lines of numbers, but for those that the instruction is about. The
-//! fields are the first nineteen of a record of the replay list (bin/replay_list.rs says which).
+//! Starts in few words: a case whose registers and octabytes are lines of numbers, but for those that the instruction is
+//! about. The fields are the first nineteen of a record of the replay list (bin/replay_list.rs says which).
 
 use crate::case::{Call, Case, Instruction};
 use crate::opcodes::{POP, UNSAVE};
