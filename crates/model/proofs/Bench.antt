@@ -1,22 +1,35 @@
--- Theorem 6: the points, carried through the definitions by one result that antt computes.
+-- Theorems 6, 10 and 11: the points, 01's and more, and the examples of the departures, carried through the definitions by one result that antt
+-- computes.
 use mathlib.Core.Path.{refl}
 use lib.Count.{leadingZeros}
 use Rattle.model.specs.Fill.{over, indexed, within, tab}
 use Rattle.model.specs.Octa.{octa, part, written, valueOf, bytesOf}
 use Rattle.model.specs.Registers.{admissible, fresh, goes, halted, withSpecial, cleared, claimLocal, stored, setRegister, putLocals, putGlobals, spilled}
 use Rattle.model.specs.Memory.{shapeOf, ruled, offset, has, octaBytes, writeOcta, one}
-use Rattle.model.specs.Plan.{worst, named, look, looks, puts, perform}
+use Rattle.model.specs.Plan.{worst, named, look, looks, puts, perform, mapPlan}
 use Rattle.model.specs.Opcodes.{conditionOf, armOf}
 use Rattle.model.specs.Said.{tell}
 use Rattle.model.specs.Control.{targetOf, holds}
-use Rattle.model.specs.Frames.{hole, framed, slid, slide, pushedRule, pushed, pushFrame, countOf, lastOutput, restored, unslide, popped, popTo, popRule, noFrame, misplaced, popFrame}
-use Rattle.model.specs.Contexts.{savedSpecial, saved, savedRule, savedState, saveContext, unsavedGeneral, unsavedSpecial, unsavedRule, unsaved, contextRest, contextCount, contextAt, unsaveContext}
-use Rattle.model.specs.System.{putRefusal, putState, putSpecial, got, syncOf}
-use Rattle.model.specs.Trips.{interrupted, tripRule, tripTo, trapOf, added, withAdded, raised}
+use Rattle.model.specs.Frames.{hole, framed, slid, slide, pushedRule, pushed, pushFrame, countOf, lastOutput, restored, unslide, popped, popTo, popRule, framedRule, noFrame, misplaced, popFrame}
+use Rattle.model.specs.Contexts.{savedSpecial, saved, savedUnspilled, savedState, saveContext, unsavedGeneral, unsavedSpecial, unsavedUnspilled, unsaved, contextRest, contextCount, contextAt, unsaveContext}
+use Rattle.model.specs.System.{putRefusal, putState, putSpecial, got, gotRule, syncOf}
+use Rattle.model.specs.Trips.{interrupted, tripRule, tripTo, trapRule, trapOf, leftmost, added, exactUnderflow, addedRule, withAdded, raised}
 use Rattle.model.specs.Lists.{stepOn, runs}
-use Rattle.model.specs.Step.{refusalOf, judged, refusing, planOf, stepPlan, exceptionOf, itemPlan, mmix}
+use Rattle.model.specs.Step.{refusalOf, judged, refusing, planOf, stepPlan, stepOf, exceptionOf, itemPlan, mmix}
+use Rattle.model.specs.Rules.{readRule, pushRule, belowTop, poppedRule, popHoleRule, popAnyRule, unsavedGeneralRule, unsavedSpecialRule, unsavedRule, unsaveRestRule, unsaveCountRule, unsaveRule, ruleOf, judgedRule, stepRule, withAddedRule, raisedRule, exceptionRule}
 use Rattle.model.specs.Bench.{start, shows, met, allMet, points, PointsMet}
+use Rattle.model.specs.Points.{ruledShapes, morePoints, MorePointsMet}
+use Rattle.model.specs.DepartureExamples.{shown, allShown, shownException, allShownExceptions, examples, exceptionExamples, ExamplesShown}
+
+computed : PointsMet × MorePointsMet × ExamplesShown
+unfolding leadingZeros over indexed within tab octa part written valueOf bytesOf admissible fresh goes halted withSpecial cleared claimLocal stored setRegister putLocals putGlobals spilled shapeOf ruled offset has octaBytes writeOcta one worst named look looks puts perform conditionOf armOf tell targetOf holds hole framed slid slide pushedRule pushed pushFrame countOf lastOutput restored unslide popped popTo popRule noFrame misplaced popFrame savedSpecial saved savedUnspilled savedState saveContext unsavedGeneral unsavedSpecial unsavedUnspilled unsaved contextRest contextCount contextAt unsaveContext putRefusal putState putSpecial got syncOf interrupted tripRule tripTo trapOf added withAdded raised stepOn runs refusalOf judged refusing planOf stepPlan exceptionOf itemPlan mmix start shows met allMet points framedRule gotRule trapRule leftmost exactUnderflow addedRule mapPlan stepOf readRule pushRule belowTop poppedRule popHoleRule popAnyRule unsavedGeneralRule unsavedSpecialRule unsavedRule unsaveRestRule unsaveCountRule unsaveRule ruleOf judgedRule stepRule withAddedRule raisedRule exceptionRule ruledShapes morePoints shown allShown shownException allShownExceptions examples exceptionExamples
+computed = (refl, (refl, refl), (refl, refl))
 
 pub points-met : PointsMet
-unfolding leadingZeros over indexed within tab octa part written valueOf bytesOf admissible fresh goes halted withSpecial cleared claimLocal stored setRegister putLocals putGlobals spilled shapeOf ruled offset has octaBytes writeOcta one worst named look looks puts perform conditionOf armOf tell targetOf holds hole framed slid slide pushedRule pushed pushFrame countOf lastOutput restored unslide popped popTo popRule noFrame misplaced popFrame savedSpecial saved savedRule savedState saveContext unsavedGeneral unsavedSpecial unsavedRule unsaved contextRest contextCount contextAt unsaveContext putRefusal putState putSpecial got syncOf interrupted tripRule tripTo trapOf added withAdded raised stepOn runs refusalOf judged refusing planOf stepPlan exceptionOf itemPlan mmix start shows met allMet points
-points-met = refl
+points-met = computed .0
+
+pub more-points-met : MorePointsMet
+more-points-met = computed .1
+
+pub examples-shown : ExamplesShown
+examples-shown = computed .2

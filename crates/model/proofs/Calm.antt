@@ -12,11 +12,11 @@ use borrow.Author.Tests.{leb-true, leb-false, ltb-true, ltb-false, eqb-true, eqb
 use Rattle.model.specs.Fill.{over}
 use Rattle.model.specs.Registers.{rB, rJ, rBB, rO, rS, rG, rL, rA, rW, rX, rY, rZ, rWW, rXX, rYY, rZZ, sp, reg, following, goes, halted, withSpecial, cleared, claimLocal, stored, setRegister, putLocals, putGlobals, spilled}
 use Rattle.model.specs.Frames.{slid, slide, pushedRule, pushed, countOf, lastOutput, restored, unslide, popped}
-use Rattle.model.specs.Contexts.{contextAddress, savedRule, savedState, unsavedSpecial, unsavedGeneral, unsavedRule, unsaved}
+use Rattle.model.specs.Contexts.{contextAddress, savedUnspilled, savedState, unsavedSpecial, unsavedGeneral, unsavedUnspilled, unsaved}
 use Rattle.model.specs.Trips.{interrupted, withAdded}
 use Rattle.model.specs.declared.State.{State}
 use Rattle.model.proofs.Fill.{over-in, over-below, over-above, lt-or-le}
-use Rattle.model.proofs.Good.{Good, spec-other, spec-same, goes-good, halted-good, stored-good, cleared-good, withLocal-good, putLocals-good, putGlobals-good, withStatus-good, withSpecial-good, slide-good, unslide-good, savedRule-good, unsavedRule-good, unsaved-special, tripped-good, trapped-good, added-good}
+use Rattle.model.proofs.Good.{Good, spec-other, spec-same, goes-good, halted-good, stored-good, cleared-good, withLocal-good, putLocals-good, putGlobals-good, withStatus-good, withSpecial-good, slide-good, unslide-good, savedUnspilled-good, unsavedUnspilled-good, unsaved-special, tripped-good, trapped-good, added-good}
 use Rattle.model.proofs.Bools.{on, on-both}
 use Rattle.model.proofs.Keeps.{Keeps}
 
@@ -140,12 +140,12 @@ popped-calm s x h ls c = spilled-calm _ moved
         (λ i p q. over-in (restored s x h ls) 0 (sp s rG) (s .general) i (omega arith) q (omega arith) ∙ restored-zero s x h ls i (omega arith)))
 
 saved-calm : (s : State) (x : ℕ) → sp s rG ≤ x → Calm s → Calm (savedState s x)
-unfolding savedState savedRule stored
+unfolding savedState savedUnspilled stored
 saved-calm s x b c =
     let n : length (s .special) ≡ 32 = c .good .size .specials in
     let m : length (s .general) ≡ 256 = c .good .size .generals in
     let gh : sp s rG ≤ 255 = c .good .admits .g-high in
-    spilled-calm _ (calm-by _ (savedRule-good s x (c .good)) 0 (sp s rG) (simp (spec-other, spec-same, length-set, n)) (simp spec-other)
+    spilled-calm _ (calm-by _ (savedUnspilled-good s x (c .good)) 0 (sp s rG) (simp (spec-other, spec-same, length-set, n)) (simp spec-other)
     (λ i p q. getD-set-other (over (λ k. 0) 0 (sp s rG) (s .general)) x i (contextAddress s) 0 (λ e. let f : i ≡ x = e in omega arith)
     ∙ over-in (λ k. 0) 0 (sp s rG) (s .general) i p q (omega arith)))
 
@@ -154,11 +154,11 @@ unfolding unsavedGeneral
 unsaved-zero g l vs i p q = rw (le-ltb i l p, lt-ltb i g q)
 
 unsaved-calm : (s : State) (o g a l : ℕ) (vs : List ℕ) → 32 ≤ g → g ≤ 255 → a ≤ 0x3FFFF → l ≤ g → Calm s → Calm (unsaved s o g a l vs)
-unfolding unsaved unsavedRule
+unfolding unsaved unsavedUnspilled
 unsaved-calm s o g a l vs b1 b2 b3 b4 c =
     let n : length (s .special) ≡ 32 = c .good .size .specials in
     let m : length (s .general) ≡ 256 = c .good .size .generals in
-    spilled-calm _ (calm-by _ (unsavedRule-good s o g a l vs b1 b2 b3 b4 (c .good)) l g
+    spilled-calm _ (calm-by _ (unsavedUnspilled-good s o g a l vs b1 b2 b3 b4 (c .good)) l g
     (unsaved-special s o g a l vs rL n (omega arith) ∙ (unfold unsavedSpecial in refl)) (unsaved-special s o g a l vs rG n (omega arith) ∙ (unfold unsavedSpecial in refl))
     (λ i p q. over-in (unsavedGeneral g l vs) 0 256 (s .general) i (omega arith) (omega arith) (omega arith) ∙ unsaved-zero g l vs i p q))
 

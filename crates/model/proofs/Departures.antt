@@ -1,33 +1,28 @@
--- Where the steps depart from Knuth's rules, step and rule are equal outside the condition that each departure names.
+-- The departures one by one, and the theorem: step and rule are equal outside the condition that each departure names. The whole step is in RuleStep.
 use mathlib.Core.Path.{_≡_, refl, sym, ap, _∙_}
-use mathlib.Core.Logic.{⊎-elim, _≢_}
-use mathlib.Core.Bool.{true, false, _&&_}
+use mathlib.Core.Logic.{_≢_}
+use mathlib.Core.Bool.{Bool, true, false, cond}
 use mathlib.Core.List.{List}
 use Prim.Native.Nat.{ℕ, zero, suc, _+_, _-_, _*_, _/_, _%_, _^_, _≤_, _<_, min}
 use native.Mathlib.Omega.{arith}
-use lib.Dec.{leb, eqb}
-use lib.ListN.{length, getD, set}
-use lib.Seq.{ext-getD, set-getD, getD-set-other}
+use lib.Dec.{eqb}
 use lib.Bits.{bitAnd, and-step, and-le-r}
-use borrow.Author.Tests.{ltb-true, eq-eqb}
-use Rattle.model.specs.Fill.{over}
-use Rattle.model.specs.Registers.{rO, rS, rG, rL, rK, sp, MarginalZero, isMarginal, goes, halted, withSpecial, cleared, claimLocal, spilled}
-use Rattle.model.specs.Frames.{hole, framed, framedRule, popFrame}
-use Rattle.model.specs.System.{got, gotRule}
-use Rattle.model.specs.Trips.{tripTo, trapped, trapRule, trapOf, enables, enabled, leftmost, added, addedRule}
-use Rattle.model.specs.Departures.{Departures}
+use lib.Count.{leadingZeros}
+use lib.ListN.{set}
+use lib.Seq.{set-getD, getD-set-other}
+use Rattle.model.specs.Registers.{rC, rO, rS, rI, rU, rK, sp, Words, MarginalZero, admissible, goes, next, halted, withSpecial, spilled}
+use Rattle.model.specs.Opcodes.{register, immediate, Arm, branch, jump, getAddress, go, pushJump, pushGo, pop, put, get, save, unsave, sync, swym, trip, trap, none}
+use Rattle.model.specs.Said.{Said, say}
+use Rattle.model.specs.Trips.{wordOf, isLoaded, trapped, trapRule, trapOf, enables, enabled, leftmost, added, exactUnderflow, addedRule, withAdded, raised}
+use Rattle.model.specs.Step.{exceptionOf}
+use Rattle.model.specs.Rules.{withAddedRule, raisedRule, exceptionRule, counted}
+use Rattle.model.specs.Departures.{ReadsAlike, OutsideException, Departures}
 use Rattle.model.specs.declared.State.{State}
-use Rattle.model.proofs.Bools.{and-right, on}
-use Rattle.model.proofs.Fill.{length-over, over-in, over-below, over-above, lt-or-le}
+use Rattle.model.proofs.Bools.{on-both}
+use Rattle.model.proofs.Rules.{read-zero, frame-reads, frame-same, got-same, unsave-same}
+use Rattle.model.proofs.RuleStep.{pop-framed, trip-same, step-same, spilled-same, rule-settled}
 
 -- ---- rS moves with rO
-
-spilled-same : (s : State) → sp s rS ≡ sp s rO → spilled s ≡ s
-unfolding spilled withSpecial
-spilled-same s e = λ i. record { general = s .general; special = same i; pc = s .pc; halt = s .halt; marks = s .marks }
-  where
-    same : set (s .special) rS (sp s rO) ≡ s .special
-    same = rw (← e) (set-getD (s .special) rS 0)
 
 spilled-special : (s : State) (k : ℕ) → k ≢ rS → sp (spilled s) k ≡ sp s k
 unfolding spilled withSpecial
@@ -35,40 +30,27 @@ spilled-special s k n = getD-set-other (s .special) rS k (sp s rO) 0 n
 
 -- ---- marginal registers that are zero
 
--- a range that already holds what is put there
-over-held : (f : ℕ → ℕ) (a b : ℕ) (l : List ℕ) → ((k : ℕ) → a ≤ k → k < b → f k ≡ getD l k 0) → over f a b l ≡ l
-over-held f a b l h =
-    ext-getD 0 (over f a b l) l (length-over f a b l)
-    (λ k n. let m : k < length l = omega (arith, length-over f a b l) in
-    ⊎-elim (λ below. over-below f a b l k below m)
-    (λ from. ⊎-elim (λ to. over-in f a b l k from to m ∙ h k from to) (λ above. over-above f a b l k above m) (lt-or-le k b))
-    (lt-or-le k a))
-
-claim-general : (s : State) (x : ℕ) → MarginalZero s → claimLocal s x .general ≡ s .general
-unfolding claimLocal withSpecial cleared
-claim-general s x z =
-    on (λ (t : State). t .general ≡ s .general) (isMarginal s x)
-    (λ e. let b : x < sp s rG = ltb-true _ _ (and-right (leb (sp s rL) x) _ e) in
-    over-held (λ k. 0) (sp s rL) (x + 1) (s .general) (λ k p q. sym (z .zero-at k p (omega arith))))
-    (λ e. refl)
-
-framed-marginal : (s : State) (x i : ℕ) → MarginalZero s → framed s (hole s x) i ≡ framedRule s x i
-unfolding framed framedRule
-framed-marginal s x i z = rw (claim-general s x z)
-
--- ---- GET
-
--- claiming a local moves no special but rL
-claim-special : (s : State) (x z : ℕ) → (eqb z rL && isMarginal s x) ≡ false → sp s z ≡ sp (claimLocal s x) z
-unfolding claimLocal withSpecial cleared
-claim-special s x z h =
-    on (λ (t : State). sp s z ≡ sp t z) (isMarginal s x)
-    (λ e. sym (getD-set-other (s .special) rL z (x + 1) 0 (λ q. let n : true ≡ false = rw (e, eq-eqb z rL q) at h in let o : _≡_ {A = ℕ} 0 1 = cc in omega arith)))
-    (λ e. refl)
-
-got-same : (s : State) (x z : ℕ) → (eqb z rL && isMarginal s x) ≡ false → got s x z ≡ gotRule s x z
-unfolding got gotRule
-got-same s x z h = rw (claim-special s x z h)
+all-read : (s : State) (a : Arm) (x y z : ℕ) → MarginalZero s → ReadsAlike s a x y z
+unfolding ReadsAlike
+all-read s (branch c w) x y z m = read-zero s x m
+all-read s (jump w) x y z m = tt
+all-read s (getAddress w) x y z m = tt
+all-read s (go register) x y z m = (read-zero s y m, read-zero s z m)
+all-read s (go immediate) x y z m = read-zero s y m
+all-read s (pushJump w) x y z m = λ i l. read-zero s i m
+all-read s (pushGo register) x y z m = (read-zero s y m, read-zero s z m, λ i l. read-zero s i m)
+all-read s (pushGo immediate) x y z m = (read-zero s y m, λ i l. read-zero s i m)
+all-read s pop x y z m = tt
+all-read s (put register) x y z m = read-zero s z m
+all-read s (put immediate) x y z m = tt
+all-read s get x y z m = tt
+all-read s save x y z m = tt
+all-read s unsave x y z m = read-zero s z m
+all-read s sync x y z m = tt
+all-read s swym x y z m = tt
+all-read s trip x y z m = (read-zero s y m, read-zero s z m)
+all-read s trap x y z m = (read-zero s y m, read-zero s z m)
+all-read s none x y z m = tt
 
 -- ---- exceptions
 
@@ -92,9 +74,28 @@ and-but (suc n) a e h =
     let r : bitAnd (a / 2) (2 ^ n - 1 - e / 2) ≡ bitAnd (a / 2) (2 ^ n - 1 - bitAnd a e / 2) = and-but n (a / 2) (e / 2) (omega arith) ∙ rw q in
     and-but-step n a e h ∙ omega arith ∙ sym (and-but-step n a (bitAnd a e) (omega arith))
 
-added-same : (s : State) (f : ℕ) → enabled s f ≡ leftmost (enabled s f) → added s f ≡ addedRule s f
+added-same : (s : State) (f : ℕ) → enabled s f ≡ leftmost (enabled s f) → exactUnderflow s f ≡ false → added s f ≡ addedRule s f
 unfolding added addedRule
-added-same s f e = rw (← e) (and-but 8 (f % 256) (enables s) (omega arith))
+added-same s f e n = rw (n, ← e) (and-but 8 (f % 256) (enables s) (omega arith))
+
+with-added : (s : State) (f : ℕ) → OutsideException s f → withAdded s f ≡ withAddedRule s f
+unfolding withAdded withAddedRule
+with-added s f h = rw (added-same s f (h .one-enabled) (h .inexact))
+
+exception-same : (s : State) (f op x y z u v : ℕ) → OutsideException s f → exceptionOf s f op x y z u v ≡ exceptionRule s f op x y z u v
+unfolding exceptionOf exceptionRule raised raisedRule
+exception-same s f op x y z u v h =
+    rw (← with-added s f h) (on-both (λ (a b : Said). a ≡ b) (admissible s)
+    (λ p. taken (eqb (enabled s f) 0) (λ e. trip-same (withAdded s f) (leadingZeros 8 (enabled s f) + 1) (wordOf op x y z) u v (loaded e)))
+    (λ p. refl))
+  where
+    loaded : eqb (enabled s f) 0 ≡ false → isLoaded (withAdded s f) (leadingZeros 8 (enabled s f) + 1) ≡ true
+    loaded e = unfold withAdded withSpecial in h .loaded e
+
+    taken : (b : Bool) {t : Said} {r : State} → (b ≡ false → t ≡ say 0 r)
+        → cond b (say 0 (next (withAdded s f))) t ≡ say 0 (cond b (next (withAdded s f)) r)
+    taken true k = refl
+    taken false k = k refl
 
 -- ---- traps
 
@@ -102,17 +103,55 @@ trap-special-same : (s : State) (word u v k : ℕ) → k ≢ rK → sp (trapOf s
 unfolding trapOf trapRule halted goes withSpecial
 trap-special-same s word u v k n = sym (getD-set-other (trapped s word u v .special) rK k 0 0 n)
 
+-- ---- the counters
+
+count-special : (s : State) (c u i k : ℕ) → k ≢ rC → k ≢ rU → k ≢ rI → sp (counted c u i s) k ≡ sp s k
+unfolding counted withSpecial
+count-special s c u i k nc nu ni =
+    let l1 : List ℕ = set (s .special) rC ((sp s rC + c) % 2 ^ 64) in
+    let l2 : List ℕ = set l1 rU ((sp s rU + u) % 2 ^ 64) in
+    getD-set-other l2 rI k ((sp s rI + (2 ^ 64 - i % 2 ^ 64)) % 2 ^ 64) 0 ni
+    ∙ getD-set-other l1 rU k ((sp s rU + u) % 2 ^ 64) 0 nu
+    ∙ getD-set-other (s .special) rC k ((sp s rC + c) % 2 ^ 64) 0 nc
+
+-- an octabyte to which nothing is added, and one from which nothing is taken
+stays-up : (v : ℕ) → v < 2 ^ 64 → (v + 0) % 2 ^ 64 ≡ v
+stays-up v h = omega arith
+
+stays-down : (v : ℕ) → v < 2 ^ 64 → (v + (2 ^ 64 - 0 % 2 ^ 64)) % 2 ^ 64 ≡ v
+stays-down v h = omega arith
+
+count-none : (s : State) → Words s → counted 0 0 0 s ≡ s
+unfolding counted withSpecial
+count-none s h =
+    rw (stays-up (sp s rC) (h .special-word rC), stays-up (sp s rU) (h .special-word rU), stays-down (sp s rI) (h .special-word rI))
+    (λ i. record { general = s .general; special = same i; pc = s .pc; halt = s .halt; marks = s .marks })
+  where
+    same : set (set (set (s .special) rC (sp s rC)) rU (sp s rU)) rI (sp s rI) ≡ s .special
+    same = rw (set-getD (s .special) rC 0, set-getD (s .special) rU 0) (set-getD (s .special) rI 0)
+
 pub departures : Departures
 departures = record {
+  by-step = step-same;
+  by-step-whole = λ w s op x y z h t. step-same w s op x y z h ∙ rule-settled w s op x y z t;
+  by-exception = exception-same;
+  read-marginal = read-zero;
+  reads-marginal = all-read;
+  push-reads = frame-reads;
+  push-marginal = λ s x i n z. sym (frame-same s x (λ k l. read-zero s k z) i);
   spill = λ s n e. spilled-same s e;
   spill-general = λ s. unfold spilled withSpecial in refl;
   spill-special = spilled-special;
   spill-rest = λ s. unfold spilled withSpecial in (refl, refl, refl);
-  push-marginal = λ s x i n z. framed-marginal s x i z;
-  pop-frame = λ s x t a b. unfold popFrame in rw (a, b);
+  pop-frame = pop-framed;
+  unsave-taken = unsave-same;
   get-local = got-same;
   added-one = added-same;
-  trip-loaded = λ s k word u v e. unfold tripTo in rw e;
+  trip-loaded = trip-same;
   trap-general = λ s word u v. unfold trapOf trapRule halted goes withSpecial in refl;
   trap-special = trap-special-same;
+  count-none = λ s n h. count-none s h;
+  count-general = λ s c u i. unfold counted withSpecial in refl;
+  count-special = count-special;
+  count-rest = λ s c u i. unfold counted withSpecial in (refl, refl, refl);
 }

@@ -12,7 +12,7 @@ use borrow.Author.Tests.{leb-true, ltb-true, eqb-false, le-leb, lt-ltb}
 use Rattle.model.specs.Fill.{over}
 use Rattle.model.specs.Registers.{rJ, rO, rS, rG, rL, rA, sp, following, Sized, admissible, goes, halted, withSpecial, cleared, claimLocal, stored, setRegister, putLocals, putGlobals, spilled}
 use Rattle.model.specs.Frames.{slid, slide, pushedRule, pushed, countOf, restored, unslide, popped}
-use Rattle.model.specs.Contexts.{savedRule, savedState, unsavedSpecial, unsavedGeneral, unsavedRule, unsaved}
+use Rattle.model.specs.Contexts.{savedUnspilled, savedState, unsavedSpecial, unsavedGeneral, unsavedUnspilled, unsaved}
 use Rattle.model.specs.Trips.{interrupted, tripped, trapped, enables, added, withAdded}
 use Rattle.model.specs.declared.State.{State}
 use Rattle.model.proofs.Fill.{length-over, over-in}
@@ -158,23 +158,23 @@ unfolding popped
 popped-good s x h ls g = spilled-good _ (unslide-good s x h ls g)
 
 -- SAVE's state but for rS
-pub savedRule-good : (s : State) (x : ℕ) → Good s → Good (savedRule s x)
-unfolding savedRule stored
-savedRule-good s x g = let m : length (s .special) ≡ 32 = g .size .specials in
+pub savedUnspilled-good : (s : State) (x : ℕ) → Good s → Good (savedUnspilled s x)
+unfolding savedUnspilled stored
+savedUnspilled-good s x g = let m : length (s .special) ≡ 32 = g .size .specials in
     good-l s _ (simp (length-set, length-over)) (simp length-set) 0 (simp spec-other) (simp (spec-other, spec-same, length-set, m)) (simp spec-other) refl (omega arith) g
 
 pub saved-good : (s : State) (x : ℕ) → Good s → Good (savedState s x)
 unfolding savedState
-saved-good s x g = spilled-good _ (savedRule-good s x g)
+saved-good s x g = spilled-good _ (savedUnspilled-good s x g)
 
 pub unsaved-special : (s : State) (o g a l : ℕ) (vs : List ℕ) (k : ℕ) → length (s .special) ≡ 32 → k < 32
     → getD (over (unsavedSpecial s o g a l vs) 0 32 (s .special)) k 0 ≡ unsavedSpecial s o g a l vs k
 unsaved-special s o g a l vs k n b = over-in (unsavedSpecial s o g a l vs) 0 32 (s .special) k (omega arith) b (omega arith)
 
 -- UNSAVE's state but for rS
-pub unsavedRule-good : (s : State) (o g a l : ℕ) (vs : List ℕ) → 32 ≤ g → g ≤ 255 → a ≤ 0x3FFFF → l ≤ g → Good s → Good (unsavedRule s o g a l vs)
-unfolding unsavedRule
-unsavedRule-good s o g a l vs p q r u h =
+pub unsavedUnspilled-good : (s : State) (o g a l : ℕ) (vs : List ℕ) → 32 ≤ g → g ≤ 255 → a ≤ 0x3FFFF → l ≤ g → Good s → Good (unsavedUnspilled s o g a l vs)
+unfolding unsavedUnspilled
+unsavedUnspilled-good s o g a l vs p q r u h =
     let n : length (s .special) ≡ 32 = h .size .specials in
     good-by s _ (length-over (unsavedGeneral g l vs) 0 256 (s .general)) (length-over (unsavedSpecial s o g a l vs) 0 32 (s .special)) g l a
     (unsaved-special s o g a l vs rG n (omega arith) ∙ (unfold unsavedSpecial in refl))
@@ -183,7 +183,7 @@ unsavedRule-good s o g a l vs p q r u h =
 
 pub unsaved-good : (s : State) (o g a l : ℕ) (vs : List ℕ) → 32 ≤ g → g ≤ 255 → a ≤ 0x3FFFF → l ≤ g → Good s → Good (unsaved s o g a l vs)
 unfolding unsaved
-unsaved-good s o g a l vs p q r u h = spilled-good _ (unsavedRule-good s o g a l vs p q r u h)
+unsaved-good s o g a l vs p q r u h = spilled-good _ (unsavedUnspilled-good s o g a l vs p q r u h)
 
 pub tripped-good : (s : State) (word u v : ℕ) → Good s → Good (tripped s word u v)
 unfolding interrupted

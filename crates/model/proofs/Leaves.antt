@@ -14,7 +14,7 @@ use Rattle.model.specs.Memory.{Window, shapeOf, ruled, one}
 use Rattle.model.specs.Plan.{puts}
 use Rattle.model.specs.Opcodes.{armOf}
 use Rattle.model.specs.Frames.{slide, pushedRule, pushed, unslide, popped}
-use Rattle.model.specs.Contexts.{contextAt, savedRule, savedState, unsavedRule, unsaved}
+use Rattle.model.specs.Contexts.{contextAt, savedUnspilled, savedState, unsavedUnspilled, unsaved}
 use Rattle.model.specs.Trips.{interrupted, tripped, trapped, wordOf, withAdded}
 use Rattle.model.specs.Step.{stepPlan, stepOf, exceptionOf}
 use Rattle.model.specs.Reader.{Part, emptyPart, partAt, readContext}
@@ -130,7 +130,7 @@ unfolding setRegister stored claimLocal withSpecial cleared
 set-halt s x v = on (λ (t : State). t .halt ≡ s .halt) (isMarginal s x) (λ e. refl) (λ e. refl)
 
 answered : (s : State) (op x y z : ℕ) → Meets s Any Any (Answered s op x y z)
-unfolding goes pushed pushedRule slide popped unslide savedState savedRule stored unsaved unsavedRule spilled withSpecial putLocals putGlobals cleared
+unfolding goes pushed pushedRule slide popped unslide savedState savedUnspilled stored unsaved unsavedUnspilled spilled withSpecial putLocals putGlobals cleared
 answered s op x y z = record {
   word = λ n b. tt;
   general-is = λ i. tt;

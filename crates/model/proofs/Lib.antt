@@ -21,7 +21,10 @@ pub mod Leaves
 pub mod StepNeeds
 pub mod Locality
 pub mod Bench
+pub mod Rules
+pub mod RuleStep
 pub mod Departures
+pub mod Order
 pub mod Sent
 pub mod Unpark
 pub mod Reader

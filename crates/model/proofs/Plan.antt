@@ -1,5 +1,5 @@
 -- Laws of plans, by induction over plans: for every step that will ever be added, over any lawful store.
--- In order: lists of addresses; properties of answers; what a plan touches; equal memories; kept octabytes; the needs.
+-- In order: lists of addresses; properties of answers; what a plan touches; equal memories; kept octabytes; the needs; plans under a map.
 use mathlib.Core.Path.{_≡_, refl, sym, ap, _∙_, subst}
 use mathlib.Core.Bool.{Bool, true, false, cond}
 use mathlib.Core.List.{List, [], _∷_, _++_}
@@ -11,7 +11,7 @@ use lib.Dec.{eqb}
 use borrow.Author.Tests.{eqb-true}
 use Rattle.model.specs.Octa.{octa}
 use Rattle.model.specs.Memory.{Store}
-use Rattle.model.specs.Plan.{Plan, answer, read, Outcome, ups, worst, missing, clear, All, Off, look, looks, puts, needs, widerNeeds, perform, Agree}
+use Rattle.model.specs.Plan.{Plan, answer, read, Outcome, ups, worst, missing, clear, All, Off, look, looks, puts, needs, widerNeeds, perform, Agree, named, mapPlan, mapOutcome}
 use Rattle.model.proofs.Bools.{on, on-both}
 use Rattle.model.proofs.Memory.{Lawful}
 
@@ -217,3 +217,34 @@ module _ {M Sh : Type 0} (st : Store M Sh) (law : Lawful st) where
 
   pub perform-shape : {S : Type 0} (j : ℕ → ℕ) (s : S) (p : Plan S) (v : M) → st .shape (perform st j s p v .memory) ≡ st .shape v
   perform-shape j s p v = perform-kept (λ o. ⊥) j s p v (All-of _ (touches st j p v) (λ b x. x)) .shape-kept
+
+-- ---- plans under a map
+
+cond-map : {S T M : Type 0} (f : S → T) (b : Bool) (x y : Outcome S M) → cond b (mapOutcome f x) (mapOutcome f y) ≡ mapOutcome f (cond b x y)
+cond-map f true x y = refl
+cond-map f false x y = refl
+
+cond-left : {S M : Type 0} (f : S → S) (b : Bool) (u x y : Outcome S M) → (f (x .state) ≡ x .state → u ≡ x)
+    → f (cond {A = Outcome S M} b x y .state) ≡ cond {A = Outcome S M} b x y .state → cond b u y ≡ cond b x y
+cond-left f true u x y k h = k h
+cond-left f false u x y k h = refl
+
+module _ {M Sh : Type 0} (st : Store M Sh) where
+  pub perform-map : {S T : Type 0} (f : S → T) (j : ℕ → ℕ) (s : S) (p : Plan S) (m : M)
+      → perform st j (f s) (mapPlan f p) m ≡ mapOutcome f (perform st j s p m)
+  unfolding perform mapPlan mapOutcome
+  perform-map f j s (answer r t a vs) m = cond-map f (clear j a (length vs)) (record { reply = r; state = t; memory = puts st m a vs }) (record { reply = worst j a (length vs); state = s; memory = m })
+  perform-map f j s (read q a n k) m =
+      ap (λ (o : Outcome _ M). cond (clear j a n) o (record { reply = named q (worst j a n); state = f s; memory = m })) (perform-map f j s (k (looks st m a n)) m)
+      ∙ cond-map f (clear j a n) (perform st j s (k (looks st m a n)) m) (record { reply = named q (worst j a n); state = s; memory = m })
+
+  -- a map that leaves the state that is reached
+  pub perform-left : {S : Type 0} (f : S → S) (j : ℕ → ℕ) (s : S) (p : Plan S) (m : M)
+      → f (perform st j s p m .state) ≡ perform st j s p m .state → perform st j s (mapPlan f p) m ≡ perform st j s p m
+  unfolding perform mapPlan
+  perform-left f j s (answer r t a vs) m h =
+      cond-left f (clear j a (length vs)) (record { reply = r; state = f t; memory = puts st m a vs }) (record { reply = r; state = t; memory = puts st m a vs })
+      (record { reply = worst j a (length vs); state = s; memory = m }) (λ e i. record { reply = r; state = e i; memory = puts st m a vs }) h
+  perform-left f j s (read q a n k) m h =
+      cond-left f (clear j a n) (perform st j s (mapPlan f (k (looks st m a n))) m) (perform st j s (k (looks st m a n)) m)
+      (record { reply = named q (worst j a n); state = s; memory = m }) (λ e. perform-left f j s (k (looks st m a n)) m e) h

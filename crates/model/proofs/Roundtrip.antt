@@ -13,7 +13,7 @@ use borrow.Author.Tests.{leb-true, ltb-true, ltb-false, eqb-true}
 use Rattle.model.specs.Fill.{over}
 use Rattle.model.specs.Memory.{Window, one}
 use Rattle.model.specs.Registers.{rO, rS, rG, rL, rA, rP, rR, rZ, sp, reg, Sized, Words, following, goes, next, withSpecial, stored, spilled}
-use Rattle.model.specs.Contexts.{extent, saved, contextAddress, savedRule, savedState, unsavedGeneral, unsavedSpecial, unsavedRule, unsaved}
+use Rattle.model.specs.Contexts.{extent, saved, contextAddress, savedUnspilled, savedState, unsavedGeneral, unsavedSpecial, unsavedUnspilled, unsaved}
 use Rattle.model.specs.Step.{stepOf}
 use Rattle.model.specs.Demand.{Within}
 use Rattle.model.specs.Roundtrip.{unparked, unsaveAfter, ContextsKept}
@@ -51,7 +51,7 @@ module _ (s e : State) (b : Adm s) (vs : List ℕ) (are : (i : ℕ) → i < exte
       are (sp s rL + 1 + (i - sp s rG)) (omega arith) ∙ saved-global s b i q l ∙ sym (over-above (λ k. 0) (sp s rL) (sp s rG) (s .general) i q (omega arith))))
 
   pub unsaved-generals : Sized s → Sized e → withContext s e vs .general ≡ calmed s
-  unfolding unsaved spilled withSpecial unsavedRule
+  unfolding unsaved spilled withSpecial unsavedUnspilled
   unsaved-generals n m =
       let c : length (s .general) ≡ 256 = n .generals in
       let d : length (e .general) ≡ 256 = m .generals in
@@ -81,13 +81,13 @@ module _ (s e : State) (b : Adm s) (vs : List ℕ) (are : (i : ℕ) → i < exte
       peel false c f g = g
 
   pub unsaved-specials : (k : ℕ) → Sized e → k < 32 → k ≢ rS → sp (withContext s e vs) k ≡ cond (isSaved k) (sp s k) (sp e k)
-  unfolding unsaved spilled withSpecial unsavedRule
+  unfolding unsaved spilled withSpecial unsavedUnspilled
   unsaved-specials k n l h =
-      getD-set-other (unsavedRule e (sp s rO) (sp s rG) (sp s rA) (sp s rL) vs .special) rS k _ 0 h
+      getD-set-other (unsavedUnspilled e (sp s rO) (sp s rG) (sp s rA) (sp s rL) vs .special) rS k _ 0 h
       ∙ unsaved-special e (sp s rO) (sp s rG) (sp s rA) (sp s rL) vs k (n .specials) l ∙ special-at k
 
   pub unsaved-rS : Sized e → sp (withContext s e vs) rS ≡ sp s rO
-  unfolding unsaved spilled withSpecial unsavedRule
+  unfolding unsaved spilled withSpecial unsavedUnspilled
   unsaved-rS n =
       let m : length (e .special) ≡ 32 = n .specials in
       let v : length (over (unsavedSpecial e (sp s rO) (sp s rG) (sp s rA) (sp s rL) vs) 0 32 (e .special)) ≡ 32 = length-over _ 0 32 (e .special) ∙ m in
@@ -107,9 +107,9 @@ parked-good : (s : State) (x : ℕ) → Good s → Good (parked s x)
 parked-good s x g = goes-good (savedState s x) _ (saved-good s x g)
 
 parked-special : (s : State) (x k : ℕ) → isSaved k ≡ false → k ≢ rS → sp (parked s x) k ≡ sp s k
-unfolding savedState savedRule spilled withSpecial stored goes
+unfolding savedState savedUnspilled spilled withSpecial stored goes
 parked-special s x k f h =
-    getD-set-other (savedRule s x .special) rS k _ 0 h
+    getD-set-other (savedUnspilled s x .special) rS k _ 0 h
     ∙ getD-set-other (set (s .special) rL 0) rO k _ 0 (differs k rO f (unfold isSaved in refl)) ∙ getD-set-other (s .special) rL k _ 0 (differs k rL f (unfold isSaved in refl))
 
 parked-address : (s : State) (x : ℕ) → Sized s → x < 256 → reg (parked s x) x ≡ contextAddress s
@@ -134,7 +134,7 @@ module _ (s : State) (x : ℕ) (good : Good s) (vs : List ℕ) (are : (i : ℕ) 
       ext-getD 0 (back .special) (set (s .special) rS (sp s rO)) (n ∙ sym (length-set (s .special) rS (sp s rO) ∙ good .size .specials)) (λ k l. back-special k (omega arith) (ℕ-discrete k rS))
 
   back-rest : (back .pc ≡ following s) × (back .halt ≡ s .halt) × (back .marks ≡ s .marks)
-  unfolding unsaved spilled withSpecial unsavedRule savedState savedRule stored goes
+  unfolding unsaved spilled withSpecial unsavedUnspilled savedState savedUnspilled stored goes
   back-rest = (refl, refl, refl)
 
   -- two steps on

@@ -15,7 +15,7 @@ use Rattle.model.specs.Plan.{Plan, answer, read, Outcome, perform, worst
 use Rattle.model.specs.Opcodes.{armOf}
 use Rattle.model.specs.Said.{Said, say, tell}
 use Rattle.model.specs.Frames.{framed, pushed, pushFrame, popped, popTo, popRule, noFrame, misplaced, popFrame}
-use Rattle.model.specs.Contexts.{savedRule, savedState, saveContext, unsavedRule, unsaved, unsaveContext}
+use Rattle.model.specs.Contexts.{savedUnspilled, savedState, saveContext, unsavedUnspilled, unsaved, unsaveContext}
 use Rattle.model.specs.Step.{refusalOf, judged, refusing, planOf, stepPlan, stepOf}
 use Rattle.model.specs.declared.State.{State}
 use Rattle.model.proofs.Bools.{on, on-both}
@@ -116,11 +116,11 @@ pub save-sent : (w : Window) (s : State) (x : ℕ) → performOn w s (saveContex
 save-sent w s x = performs-onward w s (saveContext s x) (answers s x)
   where
     answers : (s : State) (x : ℕ) → Answers Any (Onward s) (saveContext s x)
-    answers s x = unfold saveContext tell Answers Onward savedState savedRule stored spilled withSpecial goes halted in
+    answers s x = unfold saveContext tell Answers Onward savedState savedUnspilled stored spilled withSpecial goes halted in
         (on (Answers Any (Onward s)) (ltb x (sp s rG)) (λ e. refl) (λ e. refl))
 
 unsaved-onward : (s : State) (o g a l : ℕ) (vs : List ℕ) → Onward s 0 (next (unsaved s o g a l vs)) []
-unfolding Onward unsaved unsavedRule spilled withSpecial goes
+unfolding Onward unsaved unsavedUnspilled spilled withSpecial goes
 unsaved-onward s o g a l vs = refl
 
 halted-onward : (s : State) (n : ℕ) → 14 ≤ n → n ≤ 16 → Onward s n (halted s) []

@@ -16,7 +16,7 @@ use Rattle.model.specs.Plan.{Plan, answer, Outcome, perform, worst, look
 use Rattle.model.specs.Registers.{rO, rG, rL, rA, rP, rR, sp, reg, Sized, Words, admissible, next, halted, withSpecial, stored, spilled}
 use Rattle.model.specs.Opcodes.{armOf}
 use Rattle.model.specs.Said.{tell}
-use Rattle.model.specs.Contexts.{extent, savedSpecial, saved, contextAddress, savedRule, savedState, saveContext, below, unsaved, contextRest, contextCount, contextAt, unsaveContext}
+use Rattle.model.specs.Contexts.{extent, savedSpecial, saved, contextAddress, savedUnspilled, savedState, saveContext, below, unsaved, contextRest, contextCount, contextAt, unsaveContext}
 use Rattle.model.specs.Step.{refusalOf, refusing, planOf, stepOf}
 use Rattle.model.specs.Demand.{Within}
 use Rattle.model.specs.declared.State.{State}
@@ -114,7 +114,7 @@ save-is w s x y z c = save-open w s x y z (adm-of s (c .admits)) (c .fine) ∙ p
 
 -- the address that it puts in $X, where X is a byte
 pub savedState-address : (s : State) (x : ℕ) → Sized s → x < 256 → reg (savedState s x) x ≡ contextAddress s
-unfolding savedState savedRule spilled withSpecial stored
+unfolding savedState savedUnspilled spilled withSpecial stored
 savedState-address s x n l =
     let m : length (s .general) ≡ 256 = n .generals in
     getD-set-same (over (λ i. 0) 0 (sp s rG) (s .general)) x (contextAddress s) 0 (omega (arith, length-over (λ i. 0) 0 (sp s rG) (s .general)))

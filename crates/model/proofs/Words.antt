@@ -20,7 +20,7 @@ use Rattle.model.specs.Plan.{Plan, answer, read, Outcome, perform, clear
 use Rattle.model.specs.Opcodes.{armOf}
 use Rattle.model.specs.Said.{tell}
 use Rattle.model.specs.Frames.{hole, slid, slide, pushedRule, pushed, countOf, lastOutput, restored, unslide, popped}
-use Rattle.model.specs.Contexts.{extent, contextAddress, savedRule, savedState, unsavedGeneral, unsavedSpecial, unsavedRule, unsaved}
+use Rattle.model.specs.Contexts.{extent, contextAddress, savedUnspilled, savedState, unsavedGeneral, unsavedSpecial, unsavedUnspilled, unsaved}
 use Rattle.model.specs.Trips.{wordOf, interrupted, added, withAdded}
 use Rattle.model.specs.Lists.{stepOn}
 use Rattle.model.specs.Step.{stepPlan, exceptionOf, Item, step, exception, itemPlan, mmix}
@@ -158,7 +158,7 @@ popped-words s x h ls ws w = spilled-words _ moved
         (w .pc-word) (w .halt-word) (w .marks-word))
 
 saved-words : (s : State) (x : ℕ) → Words s → Words (savedState s x)
-unfolding savedState savedRule stored
+unfolding savedState savedUnspilled stored
 saved-words s x w = spilled-words _ (words-by _
     (set-below (2 ^ 64) _ x (contextAddress s) (over-bound (2 ^ 64) (λ i. 0) 0 (sp s rG) (s .general) (omega arith) (generals s w) (λ i. omega arith)) (omega arith))
     (set-below (2 ^ 64) _ rO ((sp s rO + 8 * extent s) % 2 ^ 64) (set-below (2 ^ 64) (s .special) rL 0 (specials s w) (omega arith)) (omega arith))
@@ -171,7 +171,7 @@ unsaved-word s o g a l vs k wo b c d ws w =
     on Word (leb k rR) (λ e. ws .at _) (λ e. on Word (leb rP k && leb k rZ) (λ e. ws .at _) (λ e. w .special-word k))))))
 
 unsaved-words : (s : State) (o g a l : ℕ) (vs : List ℕ) → Word o → g ≤ 255 → a ≤ 0x3FFFF → l ≤ g → Below (2 ^ 64) vs → Words s → Words (unsaved s o g a l vs)
-unfolding unsaved unsavedRule
+unfolding unsaved unsavedUnspilled
 unsaved-words s o g a l vs wo b c d ws w = spilled-words _ (words-by _
     (over-bound (2 ^ 64) (unsavedGeneral g l vs) 0 256 (s .general) (omega arith) (generals s w)
     (λ i. unfold unsavedGeneral in (on Word (ltb i l) (λ e. ws .at _) (λ e. on Word (ltb i g) (λ e. omega arith) (λ e. ws .at _)))))

@@ -28,12 +28,12 @@ sameList [] (y ∷ ys) = false
 sameList (x ∷ xs) [] = false
 sameList (x ∷ xs) (y ∷ ys) = eqb x y && sameList xs ys
 
-abbrev sameState : State → State → Bool
+abbrev pub sameState : State → State → Bool
 sameState s t =
     sameList (s .general) (t .general)
     && (sameList (s .special) (t .special) && (eqb (s .pc) (t .pc) && (eqb (s .halt) (t .halt) && eqb (s .marks) (t .marks))))
 
-abbrev sameWindow : Window → Window → Bool
+abbrev pub sameWindow : Window → Window → Bool
 sameWindow v w = eqb (v .base) (w .base) && sameList (v .bytes) (w .bytes)
 
 unfoldable pub shows : Point → Ran State Window → Bool

@@ -33,9 +33,9 @@ saved s i =
 abbrev pub contextAddress : State → ℕ
 contextAddress s = (sp s rO + 8 * (sp s rL + 269 - sp s rG)) % 2 ^ 64
 
--- "$X gets the last one's address .., registers below rG become 0, rL 0, rO .. follow it"
-unfoldable pub savedRule : State → ℕ → State
-savedRule s x = stored (record {
+-- "$X gets the last one's address .., registers below rG become 0, rL 0, rO .. follow it", rS apart
+unfoldable pub savedUnspilled : State → ℕ → State
+savedUnspilled s x = stored (record {
   general = over (λ i. 0) 0 (sp s rG) (s .general);
   special = set (set (s .special) rL 0) rO ((sp s rO + 8 * extent s) % 2 ^ 64);
   pc = s .pc;
@@ -43,9 +43,9 @@ savedRule s x = stored (record {
   marks = s .marks;
 }) x (contextAddress s)
 
--- the step: ".. and rS follow it"
+-- ".. and rS follow it": mmix-sim's SAVE too ends with all registers in memory, rS = rO
 unfoldable pub savedState : State → ℕ → State
-savedState s x = spilled (savedRule s x)
+savedState s x = spilled (savedUnspilled s x)
 
 -- "SAVE $X with X ≥ rG"; "SAVE judges 13 before 6"
 unfoldable pub saveContext : State → ℕ → Plan State
@@ -68,9 +68,9 @@ unsavedSpecial s o g a l vs k =
     (cond (leb k rR) (getD vs (l + 257 - g + k) 0)
     (cond (leb rP k && leb k rZ) (getD vs (l + 257 - g + (k - 16)) 0) (sp s k))))))
 
--- o, the address of the first local, is the restored rO
-unfoldable pub unsavedRule : State → ℕ → ℕ → ℕ → ℕ → List ℕ → State
-unsavedRule s o g a l vs = record {
+-- o, the address of the first local, is the restored rO; rS apart
+unfoldable pub unsavedUnspilled : State → ℕ → ℕ → ℕ → ℕ → List ℕ → State
+unsavedUnspilled s o g a l vs = record {
   general = over (unsavedGeneral g l vs) 0 256 (s .general);
   special = over (unsavedSpecial s o g a l vs) 0 32 (s .special);
   pc = s .pc;
@@ -78,9 +78,9 @@ unsavedRule s o g a l vs = record {
   marks = s .marks;
 }
 
--- the step: "rS becomes the restored rO"
+-- "rS becomes the restored rO": in mmix-sim too
 unfoldable pub unsaved : State → ℕ → ℕ → ℕ → ℕ → List ℕ → State
-unsaved s o g a l vs = spilled (unsavedRule s o g a l vs)
+unsaved s o g a l vs = spilled (unsavedUnspilled s o g a l vs)
 
 -- The context whose packed octabyte is at p, for UNSAVE and for the reader alike: `bad` where it is refused, else `found` of the
 -- first local's address, rG, rA, the local count and the octabytes. "UNSAVE judges 6, 14, 15, 6, 16, 6 as its needs appear."

@@ -1,33 +1,146 @@
--- Where the steps depart from Knuth's rules: outside the condition named with each departure, step and rule are equal.
--- docs/DIFFERENCES.md has the smallest example of each.
-use Prim.Native.Nat.{ℕ}
+-- Theorem 8, "recorded differences apart": where the steps depart from Knuth's rules, step and rule are equal outside the condition that is
+-- named with each departure; and so, outside them all, is the whole step, and the whole exception.
+-- docs/DIFFERENCES.md has the smallest example of each; DepartureExamples computes them.
+use Prim.Native.Nat.{ℕ, _+_, _-_, _/_, _%_, _^_, _<_}
 use mathlib.Core.Path.{_≡_}
 use mathlib.Core.Logic.{_≢_}
-use mathlib.Core.Bool.{true, false, _&&_}
-use lib.Dec.{eqb}
-use Rattle.model.specs.Registers.{rO, rS, rL, rK, sp, Sized, MarginalZero, isMarginal, spilled}
+use mathlib.Core.Bool.{Bool, true, false, cond, _&&_}
+use lib.Dec.{leb, ltb, eqb}
+use lib.Count.{leadingZeros}
+use Rattle.model.specs.Octa.{octa}
+use Rattle.model.specs.Registers.{rC, rO, rS, rI, rU, rG, rL, rK, sp, reg, Sized, Words, MarginalZero, isMarginal, spilled}
+use Rattle.model.specs.Memory.{Window, shapeOf, has, one}
+use Rattle.model.specs.Plan.{look, mapOutcome, perform}
+use Rattle.model.specs.Opcodes.{Operand, register, immediate, Arm, branch, jump, getAddress, go, pushJump, pushGo, pop, put, get, save, unsave, sync, swym, trip, trap, none, armOf}
 use Rattle.model.specs.Said.{say}
+use Rattle.model.specs.Control.{xyzOf, operandOf}
 use Rattle.model.specs.Frames.{hole, framed, framedRule, noFrame, misplaced, popRule, popFrame}
-use Rattle.model.specs.System.{got, gotRule}
-use Rattle.model.specs.Trips.{isLoaded, tripRule, tripTo, trapRule, trapOf, enabled, leftmost, added, addedRule}
+use Rattle.model.specs.Contexts.{below, unsaveContext}
+use Rattle.model.specs.System.{putRefusal, got, gotRule}
+use Rattle.model.specs.Trips.{isLoaded, tripRule, tripTo, trapRule, trapOf, enabled, leftmost, added, exactUnderflow, addedRule}
+use Rattle.model.specs.Step.{refusing, stepOf, exceptionOf}
+use Rattle.model.specs.Rules.{readRule, After, goesOn, interrupts, unsaveRule, stepRule, settledRule, exceptionRule, counted}
 use Rattle.model.specs.declared.State.{State}
 
+-- ---- conditions
+
+-- $k reads by the rule as it is held: it is not marginal, or it is zero
+abbrev pub ReadsZero : State → ℕ → Type 0
+ReadsZero s k = reg s k ≡ readRule s k
+
+-- so does each register that an arm reads and that may be marginal
+unfoldable pub ReadsAlike : State → Arm → ℕ → ℕ → ℕ → Type 0
+ReadsAlike s (branch c w) x y z = ReadsZero s x
+ReadsAlike s (jump w) x y z = Unit {0}
+ReadsAlike s (getAddress w) x y z = Unit {0}
+ReadsAlike s (go register) x y z = ReadsZero s y × ReadsZero s z
+ReadsAlike s (go immediate) x y z = ReadsZero s y
+-- the frame of a call
+ReadsAlike s (pushJump w) x y z = (i : ℕ) → i < hole s x → ReadsZero s i
+ReadsAlike s (pushGo register) x y z = ReadsZero s y × ReadsZero s z × ((i : ℕ) → i < hole s x → ReadsZero s i)
+ReadsAlike s (pushGo immediate) x y z = ReadsZero s y × ((i : ℕ) → i < hole s x → ReadsZero s i)
+ReadsAlike s pop x y z = Unit {0}
+ReadsAlike s (put register) x y z = ReadsZero s z
+ReadsAlike s (put immediate) x y z = Unit {0}
+ReadsAlike s get x y z = Unit {0}
+ReadsAlike s save x y z = Unit {0}
+ReadsAlike s unsave x y z = ReadsZero s z
+ReadsAlike s sync x y z = Unit {0}
+ReadsAlike s swym x y z = Unit {0}
+ReadsAlike s trip x y z = ReadsZero s y × ReadsZero s z
+ReadsAlike s trap x y z = ReadsZero s y × ReadsZero s z
+ReadsAlike s none x y z = Unit {0}
+
+-- the context whose packed octabyte is at p passes what UNSAVE asks of the octabytes that it finds: 14, 15 and 16 are not met
+abbrev savedThreshold : Window → ℕ → ℕ
+savedThreshold w p = look one w p / 2 ^ 56
+
+unfoldable pub countTaken : Window → ℕ → ℕ → Bool
+countTaken w p g = cond (has (shapeOf w) (below p (269 - g))) (leb (look one w (below p (269 - g))) g) true
+
+unfoldable pub contextTaken : Window → ℕ → Bool
+contextTaken w p =
+    cond (has (shapeOf w) p)
+    (leb 32 (savedThreshold w p) && (leb (savedThreshold w p) 255 && (leb (look one w p % 2 ^ 56) 0x3FFFF && countTaken w p (savedThreshold w p))))
+    true
+
+-- No departure is met by arm a with X, Y, Z in state s on window w, but that rS moves with rO. One field a condition.
+pub record Outside (w : Window) (s : State) (a : Arm) (x y z : ℕ) : Type 0 where
+  -- no marginal register that is not zero is read
+  pub reads : ReadsAlike s a x y z
+  -- bytes that Knuth wants to be zero are zero
+  pub put-y : (o : Operand) → a ≡ put o → y ≡ 0
+  pub get-y : a ≡ get → y ≡ 0
+  pub save-yz : a ≡ save → (y ≡ 0) × (z ≡ 0)
+  pub unsave-xy : a ≡ unsave → (x ≡ 0) × (y ≡ 0)
+  -- nothing that a number refuses here and an interrupt there: 7 to 11, 5, 13, 17 and 18
+  pub put-legal : (o : Operand) → a ≡ put o → putRefusal s x (operandOf s o z) ≡ 0
+  pub get-known : a ≡ get → leb z 31 ≡ true
+  pub save-global : a ≡ save → leb (sp s rG) x ≡ true
+  pub sync-legal : a ≡ sync → leb (xyzOf x y z) 3 ≡ true
+  -- GET does not read rL into a marginal register
+  pub get-local : a ≡ get → (eqb z rL && isMarginal s x) ≡ false
+  -- POP has a frame, at a place for one
+  pub pop-frame : a ≡ pop → noFrame s ≡ false
+  pub pop-placed : a ≡ pop → misplaced s ≡ false
+  -- UNSAVE's address has no low bits, and its context is taken
+  pub unsave-low : a ≡ unsave → octa (reg s z) ≡ reg s z
+  pub unsave-taken : a ≡ unsave → contextTaken w (reg s z) ≡ true
+  -- TRIP's vector is loaded
+  pub trip-loaded : a ≡ trip → isLoaded s 0 ≡ true
+  -- no TRAP
+  pub no-trap : a ≢ trap
+
+-- The same of an exception
+pub record OutsideException (s : State) (f : ℕ) : Type 0 where
+  -- at most one flag is raised and enabled
+  pub one-enabled : enabled s f ≡ leftmost (enabled s f)
+  -- U is not raised without X, or is enabled
+  pub inexact : exactUnderflow s f ≡ false
+  -- its vector is loaded
+  pub loaded : eqb (enabled s f) 0 ≡ false → isLoaded s (leadingZeros 8 (enabled s f) + 1) ≡ true
+
+-- rS is rO
+unfoldable pub AtTop : After → Type 0
+AtTop (goesOn t) = sp t rS ≡ sp t rO
+AtTop interrupts = Unit {0}
+
+-- ---- the theorem
+
 pub record Departures : Type 0 where
-  -- rS moves with rO, at PUSH, POP, SAVE and UNSAVE: only where rS is not rO; and nothing else moves
+  -- THE STEP is Knuth's, outside the conditions, rS apart; and whole, where his rS has caught up with rO
+  pub by-step : (w : Window) (s : State) (op x y z : ℕ) → Outside w s (armOf op) x y z
+      → mapOutcome goesOn (stepOf w s op x y z) ≡ settledRule w s op x y z
+  pub by-step-whole : (w : Window) (s : State) (op x y z : ℕ) → Outside w s (armOf op) x y z → AtTop (stepRule w s op x y z .state)
+      → mapOutcome goesOn (stepOf w s op x y z) ≡ stepRule w s op x y z
+  -- and so is THE EXCEPTION
+  pub by-exception : (s : State) (f op x y z u v : ℕ) → OutsideException s f → exceptionOf s f op x y z u v ≡ exceptionRule s f op x y z u v
+  -- one by one. Reading: only where a marginal register is not zero; the frame of PUSH is an instance
+  pub read-marginal : (s : State) (k : ℕ) → MarginalZero s → ReadsZero s k
+  pub reads-marginal : (s : State) (a : Arm) (x y z : ℕ) → MarginalZero s → ReadsAlike s a x y z
+  pub push-reads : (s : State) (x i : ℕ) → framedRule s x i ≡ cond (ltb i (hole s x)) (readRule s i) (hole s x)
+  pub push-marginal : (s : State) (x i : ℕ) → Sized s → MarginalZero s → framed s (hole s x) i ≡ framedRule s x i
+  -- rS moves with rO, at PUSH and POP: only where rS is not rO; and nothing else moves
   pub spill : (s : State) → Sized s → sp s rS ≡ sp s rO → spilled s ≡ s
   pub spill-general : (s : State) → spilled s .general ≡ s .general
   pub spill-special : (s : State) (k : ℕ) → k ≢ rS → sp (spilled s) k ≡ sp s k
   pub spill-rest : (s : State) → (spilled s .pc ≡ s .pc) × (spilled s .halt ≡ s .halt) × (spilled s .marks ≡ s .marks)
-  -- PUSH of marginal registers as held: only where one is not zero
-  pub push-marginal : (s : State) (x i : ℕ) → Sized s → MarginalZero s → framed s (hole s x) i ≡ framedRule s x i
   -- POP without a frame, and with a misplaced rO
   pub pop-frame : (s : State) (x t : ℕ) → noFrame s ≡ false → misplaced s ≡ false → popFrame s x t ≡ popRule s x t
+  -- UNSAVE: 14, 15 and 16, and the low bits of the address
+  pub unsave-taken : (w : Window) (s : State) (p : ℕ) → octa p ≡ p → contextTaken w p ≡ true
+      → perform one (refusing (shapeOf w)) s (unsaveContext s p) w ≡ perform one (refusing (shapeOf w)) s (unsaveRule s p) w
   -- GET of rL into a marginal register
   pub get-local : (s : State) (x z : ℕ) → (eqb z rL && isMarginal s x) ≡ false → got s x z ≡ gotRule s x z
-  -- enabled exceptions after the taken one: only where there are any
-  pub added-one : (s : State) (f : ℕ) → enabled s f ≡ leftmost (enabled s f) → added s f ≡ addedRule s f
+  -- enabled exceptions after the taken one, and U without X: only where there are any
+  pub added-one : (s : State) (f : ℕ) → enabled s f ≡ leftmost (enabled s f) → exactUnderflow s f ≡ false → added s f ≡ addedRule s f
   -- a trip through a vector that is not loaded
   pub trip-loaded : (s : State) (k word u v : ℕ) → isLoaded s k ≡ true → tripTo s k word u v ≡ say 0 (tripRule s k word u v)
   -- a trap halts: the registers that a handler would find are Knuth's, but rK
   pub trap-general : (s : State) (word u v : ℕ) → trapOf s word u v .state .general ≡ trapRule s word u v .general
   pub trap-special : (s : State) (word u v k : ℕ) → k ≢ rK → sp (trapOf s word u v .state) k ≡ sp (trapRule s word u v) k
+  -- rC, rU and rI do not count: only where time passes, and nothing else moves
+  pub count-none : (s : State) → Sized s → Words s → counted 0 0 0 s ≡ s
+  pub count-general : (s : State) (c u i : ℕ) → counted c u i s .general ≡ s .general
+  pub count-special : (s : State) (c u i k : ℕ) → k ≢ rC → k ≢ rU → k ≢ rI → sp (counted c u i s) k ≡ sp s k
+  pub count-rest : (s : State) (c u i : ℕ) → (counted c u i s .pc ≡ s .pc) × (counted c u i s .halt ≡ s .halt) × (counted c u i s .marks ≡ s .marks)

@@ -16,6 +16,8 @@ pub mod Step
 pub mod Reader
 pub mod Numbers
 pub mod Parts
+-- Knuth's rules where the steps depart from them
+pub mod Rules
 -- theorems: statements; proofs/ has the proofs
 pub mod Leaves
 pub mod Keeps
@@ -23,5 +25,8 @@ pub mod Locality
 pub mod StepNeeds
 pub mod Demand
 pub mod Bench
+pub mod Points
 pub mod Roundtrip
 pub mod Departures
+pub mod DepartureExamples
+pub mod Order

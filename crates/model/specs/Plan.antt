@@ -20,6 +20,14 @@ pub record Outcome (S M : Type 0) : Type 0 where
   pub state : S
   pub memory : M
 
+-- the same plan, and the same outcome, with f of each state answered
+unfoldable pub mapPlan : {S T : Type 0} → (S → T) → Plan S → Plan T
+mapPlan f (answer r t a vs) = answer r (f t) a vs
+mapPlan f (read q a n k) = read q a n (λ vs. mapPlan f (k vs))
+
+unfoldable pub mapOutcome : {S T M : Type 0} → (S → T) → Outcome S M → Outcome T M
+mapOutcome f o = record { reply = o .reply; state = f (o .state); memory = o .memory }
+
 -- the addresses of a run of n octabytes from a up
 unfoldable pub ups : ℕ → ℕ → List ℕ
 ups a zero = []

@@ -205,7 +205,7 @@ putLocals s v = withSpecial (cleared s (min v (sp s rL)) (sp s rL)) rL (min v (s
 unfoldable pub putGlobals : State → ℕ → State
 putGlobals s v = withSpecial (cleared s (min v (sp s rG)) (max v (sp s rG))) rG v
 
--- Departure from Knuth: whatever is pushed is in memory at once, so that rS, the end of what is in memory, is rO.
--- (Fascicle 1 keeps the topmost registers in the processor and lets rS lag behind.)
+-- all that was pushed is in memory, so that rS, the end of what is in memory, is rO. So mmix-sim's SAVE and UNSAVE end.
+-- Departure from Knuth: PUSH and POP do so too. (Fascicle 1 keeps the topmost registers in the processor and lets rS lag behind.)
 unfoldable pub spilled : State → State
 spilled s = withSpecial s rS (sp s rO)

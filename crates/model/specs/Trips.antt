@@ -1,7 +1,7 @@
 -- 01, 'Steps', exceptions, TRIP and TRAP (exceptions.rs, `raise_exceptions`, `trip`; system.rs, `halt_unsimulated_trap`).
 -- Knuth: mmix-doc, 'Trips and traps'.
 use Prim.Native.Nat.{ℕ, _+_, _-_, _*_, _/_, _%_, _^_}
-use mathlib.Core.Bool.{Bool, cond}
+use mathlib.Core.Bool.{Bool, cond, _&&_}
 use lib.Dec.{eqb}
 use lib.ListN.{set}
 use lib.Bits.{bitAnd, bitOr}
@@ -68,10 +68,14 @@ added s f = bitAnd (f % 256) (255 - enables s)
 unfoldable pub leftmost : ℕ → ℕ
 leftmost e = cond (eqb e 0) 0 (2 ^ (7 - leadingZeros 8 e))
 
--- Knuth's: mmix-sim takes the leftmost enabled one and adds all others.
--- Departure: `added` leaves out all that are enabled; they differ only where two or more are raised and enabled.
+-- U is raised without X and is not enabled: the result is exact
+unfoldable pub exactUnderflow : State → ℕ → Bool
+exactUnderflow s f = eqb (f / 4 % 2) 1 && (eqb (f % 2) 0 && eqb (enables s / 4 % 2) 0)
+
+-- Knuth's: mmix-sim drops U then, takes the leftmost enabled one and adds all others.
+-- Departure: `added` leaves out all that are enabled, and keeps U; they differ only where two or more are raised and enabled, or U so.
 unfoldable pub addedRule : State → ℕ → ℕ
-addedRule s f = bitAnd (f % 256) (255 - leftmost (enabled s f))
+addedRule s f = bitAnd (cond (exactUnderflow s f) (f % 256 - 4) (f % 256)) (255 - leftmost (enabled s f))
 
 unfoldable pub withAdded : State → ℕ → State
 withAdded s f = withSpecial s rA (bitOr (sp s rA) (added s f))

@@ -9,7 +9,7 @@ use Rattle.model.specs.Fill.{tab}
 use Rattle.model.specs.Memory.{Window, shapeOf, ruled, one}
 use Rattle.model.specs.Plan.{Plan, Outcome, perform, worst, puts}
 use Rattle.model.specs.Registers.{rO, rG, sp, admissible, goes, next, halted, stored, spilled, withSpecial}
-use Rattle.model.specs.Contexts.{extent, saved, savedRule, savedState, saveContext, unsavedRule, unsaved, contextAt, unsaveContext}
+use Rattle.model.specs.Contexts.{extent, saved, savedUnspilled, savedState, saveContext, unsavedUnspilled, unsaved, contextAt, unsaveContext}
 use Rattle.model.specs.Said.{tell}
 use Rattle.model.specs.Step.{refusing}
 use Rattle.model.specs.Numbers.{replyOf}
@@ -102,7 +102,7 @@ module _ (w : Window) (s : State) (x : ℕ) where
           rw ev (moves (puts one w (sp s rO) (tab 0 (extent s) (saved s))) s _ 0 Done refl t (savedState s x) et same (guard-open w s (saveContext s x) a r ∙ plan))
         where
           same : savedState s x .pc ≡ s .pc
-          same = unfold savedState spilled withSpecial savedRule stored in refl
+          same = unfold savedState spilled withSpecial savedUnspilled stored in refl
 
           plan : performOn w s (saveContext s x) ≡ record { reply = 0; state = next (savedState s x); memory = puts one w (sp s rO) (tab 0 (extent s) (saved s)) }
           plan = unfold saveContext perform in rw (le-ltb x (sp s rG) l, length-tab (extent s) 0 (saved s), eq-eqb _ _ f)
@@ -135,7 +135,7 @@ module _ (w : Window) (s : State) (p : ℕ) where
           (opened ∙ comes w p s (halted s) found at h .done z)
         where
           same : unsaved s (at .first) (at .rg) (at .ra) (at .count) (octasFrom w (at .first) (at .count + 270 - at .rg)) .pc ≡ s .pc
-          same = unfold unsaved spilled withSpecial unsavedRule in refl
+          same = unfold unsaved spilled withSpecial unsavedUnspilled in refl
 
       pub unsave-missing : at .reply ≡ 6 → Gives (unsaveOf w s p) s Missing s w
       unfolding replyOf

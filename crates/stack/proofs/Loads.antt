@@ -14,7 +14,7 @@ use Rattle.model.specs.Fill.{over}
 use Rattle.model.specs.Memory.{Window, shapeOf, one}
 use Rattle.model.specs.Plan.{worst, looks}
 use Rattle.model.specs.Registers.{rO, rS, rG, rL, rA, rR, rP, rZ, spilled, withSpecial}
-use Rattle.model.specs.Contexts.{savedSpecial, unsavedGeneral, unsavedSpecial, unsavedRule, unsaved}
+use Rattle.model.specs.Contexts.{savedSpecial, unsavedGeneral, unsavedSpecial, unsavedUnspilled, unsaved}
 use Rattle.model.specs.Step.{refusing}
 use Rattle.model.specs.Parts.{made}
 use Rattle.model.specs.declared.State.{State}
@@ -248,7 +248,7 @@ pub arrived : (general special general' special' : List ℕ) (w : Window) (first
     → special' ≡ loaded (λ (i : ℕ). readOcta w ((specials + 8 * i) % 2 ^ 64)) 12 special → (pc halt marks : ℕ)
     → made general' (set (set (set (set (set special' rO first) rA a) rL l) rG g) rS first) pc halt marks
     ≡ unsaved (made general special pc halt marks) first g a l (octasFrom w first (l + 270 - g))
-unfolding unsaved spilled withSpecial unsavedRule
+unfolding unsaved spilled withSpecial unsavedUnspilled
 arrived general special general' special' w first g a l specials n gh lg e eg es pc halt marks =
     let all = by-rule (made general special pc halt marks) w first g a l specials n gh lg e in
     let spill = by-spill (made general special pc halt marks) w first g a l specials n gh lg e in

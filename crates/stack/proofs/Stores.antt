@@ -9,7 +9,7 @@ use Rattle.model.specs.Fill.{tab}
 use Rattle.model.specs.Memory.{Window, Shape, shapeOf, one}
 use Rattle.model.specs.Plan.{worst, puts}
 use Rattle.model.specs.Registers.{rO, rG, rL, rA, sp, reg, stored, spilled, withSpecial}
-use Rattle.model.specs.Contexts.{extent, savedSpecial, saved, savedRule, savedState}
+use Rattle.model.specs.Contexts.{extent, savedSpecial, saved, savedUnspilled, savedState}
 use Rattle.model.specs.Step.{refusing}
 use Rattle.model.specs.Parts.{made, lent}
 use Rattle.model.specs.declared.State.{State}
@@ -115,7 +115,7 @@ context-stored general special r w w1 w2 w3 w4 w5 marker globals specials packed
 
 pub departed : (general special general' special' : List ℕ) (x : ℕ) → length special ≡ 32 → general' ≡ leftGeneral general special x
     → special' ≡ leftSpecial special → (pc halt marks : ℕ) → made general' special' pc halt marks ≡ savedState (made general special pc halt marks) x
-unfolding savedState savedRule spilled withSpecial stored leftGeneral leftSpecial
+unfolding savedState savedUnspilled spilled withSpecial stored leftGeneral leftSpecial
 departed general special general' special' x len eg es pc halt marks =
     let new : ℕ = (getD special rO 0 + 8 * (getD special rL 0 + 270 - getD special rG 0)) % 2 ^ 64 in
     let same : getD (set (set special rL 0) rO new) rO 0 ≡ new = getD-set-same (set special rL 0) rO new 0 (omega (arith, length-set special rL 0)) in
