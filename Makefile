@@ -17,7 +17,7 @@ RATTLE = crates.txt $(shell find crates -name '*.rt' -o -name '*.antt')
 CHECKED = crates.txt $(shell find crates) $(shell command -v rt)
 HOST_FLAGS = -O2 -std=c99 -Wall -Wextra -Werror
 
-.PHONY: help test prove bench scripts-test lib install host host-test oracle oracle-test differential guards mutants speed replay-list definitions constants clean need-rt need-gcc
+.PHONY: help test prove bench scripts-test lib install host host-test oracle oracle-test differential guards mutants speed replay-list definitions constants clean need-rt need-gcc need-script
 
 help:
 	@echo 'make bench SCRIPT=path       the bench program on a script (examples/scripts/first.script)'
@@ -67,13 +67,19 @@ build/bench: $(RATTLE)
 	@set -o pipefail; rt check bench 2>&1 | tee build/bench.log | grep --line-buffered '^rt:' || { cat build/bench.log; exit 1; }
 	@cp target/bin/bench $@
 
-bench: need-rt build/bench
-	@build/bench < '$(SCRIPT)'
+# Rattle has no exit status: what the program says on standard error, where a read or a write fails, becomes one here.
+bench: need-rt need-script build/bench
+	@build/bench < '$(SCRIPT)' 2> build/bench.err && ! [ -s build/bench.err ] || { cat build/bench.err >&2; exit 1; }
 
-# Each script prints what stands beside it.
+need-script:
+	@[ -r '$(SCRIPT)' ] || { echo "no script at '$(SCRIPT)': make bench SCRIPT=path" >&2; exit 1; }
+
+# Each script prints what stands beside it, and a failure is told. `make bench` fails where it should.
 scripts-test: need-rt build/bench
-	@for s in examples/scripts/*.script; do build/bench < $$s | diff $${s%.script}.out - || { echo "$$s: prints something else"; exit 1; }; done
-	@echo "$$(ls examples/scripts/*.script | wc -l) scripts: each prints what it should"
+	@examples/scripts/test build/bench
+	@if $(MAKE) --no-print-directory bench SCRIPT=no.script > build/told 2>&1; [ $$? = 0 ] || ! grep -q "no script at 'no.script'" build/told; then \
+	  echo 'make bench: a path that is not there is not told'; exit 1; fi
+	@if $(MAKE) --no-print-directory bench > /dev/full 2> build/told; then echo 'make bench: a write that fails passes'; exit 1; fi
 
 # ---- the C library and a host
 

@@ -1,28 +1,73 @@
-//! The bench program: a script on standard input, what it prints on standard output.
+//! The bench program: a script on standard input, what it prints on standard output. A read or a write that fails is told on
+//! standard error.
 
 ghost use mathlib.Core.Path.{_≡_};
 ghost use lib.ListN.{length};
+ghost use Rattle.script.specs.Script.{inputLength, outputLength};
+ghost use Rattle.bench.specs.Answer.{Within, Roomy, Answers};
 use libc::STDIN_FILENO;
 use libc::STDOUT_FILENO;
+use script::script::INPUT_LEN;
+use script::script::OUTPUT_LEN;
 
-/// One byte more than the longest script, so that a longer one is seen to be longer.
-fn input_buffer() -> [u8; 65537]
-    ensures { λ r. ⌜ 65537 ≡ length r ⌝ }
+fn input_buffer() -> [u8; INPUT_LEN]
+    ensures { λ r. ⌜ inputLength ≡ length r ⌝ }
 {
-    [0; 65537]
+    [0; INPUT_LEN]
 }
 
-/// The longest text: 12 × 65,536 + 27.
-fn output_buffer() -> [u8; 786459]
-    ensures { λ r. ⌜ 786459 ≡ length r ⌝ }
+fn output_buffer() -> [u8; OUTPUT_LEN]
+    ensures { λ r. ⌜ outputLength ≡ length r ⌝ }
 {
-    [0; 786459]
+    [0; OUTPUT_LEN]
+}
+
+/// What reading came to: how many bytes, or a read that failed.
+enum Input {
+    Read(usize),
+    Failed,
+}
+
+/// Reads until `buf` is full or the input ends.
+fn read_all(fd: i32, buf: &mut [u8]) -> Input
+    ensures { λ r. ⌜ Within r (now (buf .exit)) ⌝ }
+{
+    let mut done: usize = 0;
+    while done < buf.len() {
+        let got = libc::read(fd, &mut buf[done..]);
+        if got < 0 {
+            return Input::Failed;
+        }
+        let n = io::count(got, &buf[done..]);
+        if n == 0 {
+            return Input::Read(done);
+        }
+        done += n;
+    }
+    Input::Read(done)
+}
+
+/// What is printed of a script whose first bytes, as many as `input` holds, were read into it: `got` of them.
+fn answer(input: &[u8], got: usize, output: &mut [u8]) -> usize
+    requires { ⌜ Roomy (now input) got (now output) ⌝ }
+    ensures { λ r. ⌜ Answers (now (input .entry)) got (now (output .exit)) r ⌝ }
+{
+    script::script::run(&input[..got], output)
 }
 
 fn main() {
     let mut input = input_buffer();
-    let mut output = output_buffer();
-    let got = io::read_full(STDIN_FILENO, &mut input);
-    let n = script::script::run(&input[..got], &mut output);
-    io::write_all(STDOUT_FILENO, &output[..n]);
+    let read = read_all(STDIN_FILENO, &mut input);
+    match read {
+        Input::Read(got) => {
+            let mut output = output_buffer();
+            let n = answer(&input, got, &mut output);
+            if !io::write_all(STDOUT_FILENO, &output[..n]) {
+                os::fail(b"standard output");
+            }
+        }
+        Input::Failed => {
+            os::fail(b"standard input");
+        }
+    }
 }

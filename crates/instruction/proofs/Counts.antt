@@ -1,9 +1,9 @@
--- Laws of signed counts: what an i64 between −2^24 and 2^24 is as code has it, and the address that a field's count leads to.
+-- Laws of signed counts: what an i64 between −2^26 and 2^26 is as code has it, 4 × a count, and the address that a field's count leads to.
 use mathlib.Core.Path.{_≡_, refl, sym, ap, _∙_}
 use mathlib.Core.Bool.{Bool, true, false, cond}
 use Prim.Native.Nat.{ℕ, zero, suc, _+_, _-_, _*_, _%_, _^_, _≤_, _<_}
 use native.Mathlib.Omega.{arith}
-use lib.IntN.{ℤ, pos, negsuc, natAbs, _-ℤ_}
+use lib.IntN.{ℤ, pos, negsuc, negℤ, natAbs, _-ℤ_, _*ℤ_}
 use lib.Signed.{mag, ltZ}
 use mir.Syntax.{w64}
 use mir.Val.{SFits, toZ, ofZ}
@@ -11,45 +11,70 @@ use mir.ValLaws.{toZ-ofZ}
 use borrow.Author.Tests.{lt-ltb, ltb-true, eq-eqb, ne-eqb}
 use Rattle.model.specs.Opcodes.{Way, wayOf, forward, backward}
 use Rattle.model.specs.Control.{targetOf}
-use Rattle.instruction.specs.Counts.{countOf, movedBy}
+use Rattle.instruction.specs.Counts.{countOf, applied, movedBy}
 
 -- a count's bits read again
 read-back : (z : ℤ) → mag z < 2 ^ 63 → toZ w64 (ofZ w64 z) ≡ z
 read-back z h = toZ-ofZ w64 z (record { sfits = h })
 
--- a negative count, −(n + 1): its magnitude as code has it
+-- 4 × −(n + 1)
+four-back : (n : ℕ) → pos 4 *ℤ negsuc n ≡ negsuc (4 * n + 3)
+four-back n = let e : 4 * suc n ≡ suc (4 * n + 3) = omega arith in ap (λ (k : ℕ). negℤ (pos k)) e
+
+-- 4 × a count, as code multiplies
+unfoldable pub fourfold : ℤ → ℤ
+fourfold z = toZ w64 4 *ℤ toZ w64 (ofZ w64 z)
+
+module _ (z : ℤ) (h : mag z < 2 ^ 24) where
+  pub fourfold-is : fourfold z ≡ pos 4 *ℤ z
+  unfolding fourfold
+  fourfold-is = ap (λ (k : ℤ). pos 4 *ℤ k) (read-back z (omega arith))
+
+  pub fourfold-small : mag (fourfold z) < 2 ^ 26
+  fourfold-small = rw fourfold-is (go z h)
+    where
+      go : (k : ℤ) → mag k < 2 ^ 24 → mag (pos 4 *ℤ k) < 2 ^ 26
+      go (pos n) l = omega arith
+      go (negsuc n) l = rw (four-back n) (omega arith)
+
+-- a negative offset, −(n + 1): its magnitude as code has it
 pub record Back (z : ℤ) : Type 0 where
   pub n : ℕ
   pub is : z ≡ negsuc n
-  pub small : n < 2 ^ 24
+  pub small : n < 2 ^ 26
   pub away : pos 0 -ℤ toZ w64 (ofZ w64 z) ≡ pos (suc n)
   pub magnitude : toZ w64 (ofZ w64 (pos 0 -ℤ toZ w64 (ofZ w64 z))) ≡ pos (suc n)
 
-pub back : (z : ℤ) → mag z < 2 ^ 24 → ltZ (toZ w64 (ofZ w64 z)) (pos 0) ≡ true → Back z
+pub back : (z : ℤ) → mag z < 2 ^ 26 → ltZ (toZ w64 (ofZ w64 z)) (pos 0) ≡ true → Back z
 back (pos n) h t = absurd (let l : n < 0 = ltb-true n 0 (rw (read-back (pos n) (omega arith)) at t) in omega arith)
 back (negsuc n) h t =
     let a : pos 0 -ℤ toZ w64 (ofZ w64 (negsuc n)) ≡ pos (suc n) = rw (read-back (negsuc n) (omega arith)) (ap pos (omega arith)) in
     record { n = n; is = refl; small = h; away = a; magnitude = rw a (read-back (pos (suc n)) (omega arith)) }
 
--- a count that is not negative
+-- an offset that is not negative
 pub record Ahead (z : ℤ) : Type 0 where
   pub n : ℕ
   pub is : z ≡ pos n
-  pub small : n < 2 ^ 24
+  pub small : n < 2 ^ 26
   pub magnitude : toZ w64 (ofZ w64 z) ≡ pos n
 
-pub ahead : (z : ℤ) → mag z < 2 ^ 24 → ltZ (toZ w64 (ofZ w64 z)) (pos 0) ≡ false → Ahead z
+pub ahead : (z : ℤ) → mag z < 2 ^ 26 → ltZ (toZ w64 (ofZ w64 z)) (pos 0) ≡ false → Ahead z
 ahead (pos n) h t = record { n = n; is = refl; small = h; magnitude = read-back (pos n) (omega arith) }
 ahead (negsuc n) h t = absurd (let z : true ≡ false = rw (read-back (negsuc n) (omega arith)) at t in let e : _≡_ {A = ℕ} 0 1 = cc in omega arith)
 
 module _ (a r : ℕ) (z : ℤ) where
-  pub moved-back : Back z → r ≡ (a + (2 ^ 64 - 4 * natAbs (toZ w64 (ofZ w64 (pos 0 -ℤ toZ w64 (ofZ w64 z)))))) % 2 ^ 64 → r ≡ movedBy a z
-  unfolding movedBy
-  moved-back b e = e ∙ ap (λ (k : ℤ). (a + (2 ^ 64 - 4 * natAbs k)) % 2 ^ 64) (b .magnitude) ∙ ap (movedBy a) (sym (b .is))
+  pub applied-back : Back z → r ≡ (a + (2 ^ 64 - natAbs (toZ w64 (ofZ w64 (pos 0 -ℤ toZ w64 (ofZ w64 z)))))) % 2 ^ 64 → r ≡ applied a z
+  unfolding applied
+  applied-back b e = e ∙ ap (λ (k : ℤ). (a + (2 ^ 64 - natAbs k)) % 2 ^ 64) (b .magnitude) ∙ ap (applied a) (sym (b .is))
 
-  pub moved-ahead : Ahead z → r ≡ (a + 4 * natAbs (toZ w64 (ofZ w64 z))) % 2 ^ 64 → r ≡ movedBy a z
-  unfolding movedBy
-  moved-ahead b e = e ∙ ap (λ (k : ℤ). (a + 4 * natAbs k) % 2 ^ 64) (b .magnitude) ∙ ap (movedBy a) (sym (b .is))
+  pub applied-ahead : Ahead z → r ≡ (a + natAbs (toZ w64 (ofZ w64 z))) % 2 ^ 64 → r ≡ applied a z
+  unfolding applied
+  applied-ahead b e = e ∙ ap (λ (k : ℤ). (a + natAbs k) % 2 ^ 64) (b .magnitude) ∙ ap (applied a) (sym (b .is))
+
+-- the offset that is applied is 4 × the count
+pub moved : (a r : ℕ) (z : ℤ) → mag z < 2 ^ 24 → r ≡ applied a (fourfold z) → r ≡ movedBy a z
+unfolding movedBy
+moved a r z h e = e ∙ ap (applied a) (fourfold-is z h)
 
 -- ---- a field of `size` values
 
@@ -95,9 +120,11 @@ module _ (w : Way) (size f : ℕ) (l : f < size) (h : size ≤ 2 ^ 24) where
     passed-small = rw passed count-small
 
     pub passed-target : (a r : ℕ) → r ≡ movedBy a (toZ w64 (ofZ w64 z)) → r ≡ targetOf a w size f
-    unfolding countOf movedBy targetOf
+    unfolding countOf applied movedBy targetOf
     passed-target a r q = q ∙ ap (movedBy a) passed ∙ go w
       where
         go : (u : Way) → movedBy a (countOf u size f) ≡ targetOf a u size f
         go forward = refl
-        go backward = let n : suc (size - suc f) ≡ size - f = omega arith in ap (λ (k : ℕ). (a + (2 ^ 64 - 4 * k)) % 2 ^ 64) n
+        go backward =
+            let n : suc (4 * (size - suc f) + 3) ≡ 4 * (size - f) = omega arith in
+            ap (applied a) (four-back (size - suc f)) ∙ ap (λ (k : ℕ). (a + (2 ^ 64 - k)) % 2 ^ 64) n

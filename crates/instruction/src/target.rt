@@ -13,16 +13,16 @@ pub fn following(pc: u64) -> u64
     stack::pass::wrapping_add(pc, 4)
 }
 
-/// The address of a signed count of tetras from `pc`.
+/// The address of a signed count of tetras from `pc`: the count, multiplied by 4, is the offset that is applied.
 fn move_by(pc: u64, count: i64) -> u64
     requires { ⌜ mag count < 2 ^ 24 ⌝ }
     ensures { λ r. ⌜ r ≡ movedBy pc count ⌝ }
 {
-    if count < 0 {
-        let back = (0 - count) as u64;
-        return stack::pass::wrapping_sub(pc, 4 * back);
+    let offset = 4 * count;
+    if offset < 0 {
+        return stack::pass::wrapping_sub(pc, (0 - offset) as u64);
     }
-    stack::pass::wrapping_add(pc, 4 * (count as u64))
+    stack::pass::wrapping_add(pc, offset as u64)
 }
 
 /// A field of `size` values as a signed count: itself where the opcode is even; field − size, a negative one, where it is odd.

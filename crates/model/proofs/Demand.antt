@@ -9,7 +9,7 @@ use lib.Dec.{leb, eqb}
 use borrow.Author.Tests.{leb-false, eqb-true}
 use Rattle.model.specs.Fill.{tab}
 use Rattle.model.specs.Registers.{rJ, rO, rG, rL, stackStart, sp, reg, Words, admissible, goes, withSpecial, spilled}
-use Rattle.model.specs.Memory.{Window, Shape, shapeOf, one, ruled}
+use Rattle.model.specs.Memory.{Windows, Shapes, shapesOf, both, one, ruled}
 use Rattle.model.specs.Plan.{Plan, Outcome, perform, All, Off, worst, puts, Agree}
 use Rattle.model.specs.Opcodes.{forward, backward, register, immediate, armOf}
 use Rattle.model.specs.Control.{near, sumOf, yzOf}
@@ -28,7 +28,7 @@ use Rattle.model.proofs.Keeps.{item-keeps}
 use Rattle.model.proofs.Kept.{good-keeps}
 use Rattle.model.proofs.Frame.{called, called-alike, push-is, push-same, pop-is, pop-reg, push-rO}
 
-mmix-good : (s : State) (w : Shape) (i : Item) → Good s → Always Good (mmix .plan s w i)
+mmix-good : (s : State) (w : Shapes) (i : Item) → Good s → Always Good (mmix .plan s w i)
 unfolding mmix
 mmix-good s w i h = item-keeps Good Good good-keeps (λ t g. g) s w i (λ e. h) h
 
@@ -54,63 +54,63 @@ call-arm PUSHJB x y z = refl
 call-arm PUSHGO x y z = refl
 call-arm PUSHGOI x y z = refl
 
-abbrev pushedOn : Window → State → ℕ → ℕ → Outcome State Window
-pushedOn w s h u = record { reply = 0; state = called s h u; memory = puts one w (sp s rO) (tab 0 (h + 1) (framed s h)) }
+abbrev pushedOn : Windows → State → ℕ → ℕ → Outcome State Windows
+pushedOn w s h u = record { reply = 0; state = called s h u; memory = puts both w (sp s rO) (tab 0 (h + 1) (framed s h)) }
 
-call-open : (c : Call) (w : Window) (s : State) (x y z : ℕ) → admissible s ≡ true → ruled (shapeOf w) ≡ true
-    → stepOf w s (opcodeOf c) x y z ≡ perform one (refusing (shapeOf w)) s (pushFrame s (hole s x) (targetOfCall c s y z)) w
+call-open : (c : Call) (w : Windows) (s : State) (x y z : ℕ) → admissible s ≡ true → ruled (shapesOf w) ≡ true
+    → stepOf w s (opcodeOf c) x y z ≡ perform both (refusing (shapesOf w)) s (pushFrame s (hole s x) (targetOfCall c s y z)) w
 call-open c w s x y z a r =
-    step-open w s (opcodeOf c) x y z a r (call-arm c x y z) ∙ ap (λ (p : Plan State). perform one (refusing (shapeOf w)) s p w) (call-plan c s x y z)
+    step-open w s (opcodeOf c) x y z a r (call-arm c x y z) ∙ ap (λ (p : Plan State). perform both (refusing (shapesOf w)) s p w) (call-plan c s x y z)
 
-record Called (c : Call) (w : Window) (s : State) (x y z : ℕ) : Type 0 where
+record Called (c : Call) (w : Windows) (s : State) (x y z : ℕ) : Type 0 where
   good : admissible s ≡ true
-  fine : ruled (shapeOf w) ≡ true
-  fits : worst (refusing (shapeOf w)) (sp s rO) (hole s x + 1) ≡ 0
+  fine : ruled (shapesOf w) ≡ true
+  fits : worst (refusing (shapesOf w)) (sp s rO) (hole s x + 1) ≡ 0
 
-call-done : (c : Call) (w : Window) (s : State) (x y z : ℕ) → stepOf w s (opcodeOf c) x y z .reply ≡ 0 → Called c w s x y z
+call-done : (c : Call) (w : Windows) (s : State) (x y z : ℕ) → stepOf w s (opcodeOf c) x y z .reply ≡ 0 → Called c w s x y z
 call-done c w s x y z d =
-    let p : (admissible s ≡ true) × (ruled (shapeOf w) ≡ true) = step-done w s (opcodeOf c) x y z d in
-    record { good = p .0; fine = p .1; fits = fit (ap (λ (o : Outcome State Window). o .reply) (sym (call-open c w s x y z (p .0) (p .1))) ∙ d) }
+    let p : (admissible s ≡ true) × (ruled (shapesOf w) ≡ true) = step-done w s (opcodeOf c) x y z d in
+    record { good = p .0; fine = p .1; fits = fit (ap (λ (o : Outcome State Windows). o .reply) (sym (call-open c w s x y z (p .0) (p .1))) ∙ d) }
   where
-    fit : perform one (refusing (shapeOf w)) s (pushFrame s (hole s x) (targetOfCall c s y z)) w .reply ≡ 0 → worst (refusing (shapeOf w)) (sp s rO) (hole s x + 1) ≡ 0
-    fit = unfold pushFrame perform in (rw (length-tab (hole s x + 1) 0 (framed s (hole s x))) (go (eqb (worst (refusing (shapeOf w)) (sp s rO) (hole s x + 1)) 0) refl))
+    fit : perform both (refusing (shapesOf w)) s (pushFrame s (hole s x) (targetOfCall c s y z)) w .reply ≡ 0 → worst (refusing (shapesOf w)) (sp s rO) (hole s x + 1) ≡ 0
+    fit = unfold pushFrame perform in (rw (length-tab (hole s x + 1) 0 (framed s (hole s x))) (go (eqb (worst (refusing (shapesOf w)) (sp s rO) (hole s x + 1)) 0) refl))
       where
-        go : (b : Bool) → eqb (worst (refusing (shapeOf w)) (sp s rO) (hole s x + 1)) 0 ≡ b
-            → (cond {A = Outcome State Window} b (pushedOn w s (hole s x) (targetOfCall c s y z)) (record { reply = worst (refusing (shapeOf w)) (sp s rO) (hole s x + 1); state = s; memory = w })) .reply ≡ 0
-            → worst (refusing (shapeOf w)) (sp s rO) (hole s x + 1) ≡ 0
+        go : (b : Bool) → eqb (worst (refusing (shapesOf w)) (sp s rO) (hole s x + 1)) 0 ≡ b
+            → (cond {A = Outcome State Windows} b (pushedOn w s (hole s x) (targetOfCall c s y z)) (record { reply = worst (refusing (shapesOf w)) (sp s rO) (hole s x + 1); state = s; memory = w })) .reply ≡ 0
+            → worst (refusing (shapesOf w)) (sp s rO) (hole s x + 1) ≡ 0
         go true e f = eqb-true _ _ e
         go false e f = f
 
 -- ---- one run
 
-window-shape : (w : Window) (a : ℕ) (vs : List ℕ) → shapeOf (puts one w a vs) ≡ shapeOf w
+window-shape : (w : Windows) (a : ℕ) (vs : List ℕ) → shapesOf (puts both w a vs) ≡ shapesOf w
 unfolding one
-window-shape w a vs = puts-shape one one-lawful vs w a
+window-shape w a vs = puts-shape both one-lawful vs w a
 
 -- POP at the entry
-pop-open : (v : Window) (e : State) (x y z : ℕ) → admissible e ≡ true → ruled (shapeOf v) ≡ true
-    → stepOf v e 0xF8 x y z ≡ perform one (refusing (shapeOf v)) e (popFrame e x ((sp e rJ + 4 * yzOf y z) % 2 ^ 64)) v
+pop-open : (v : Windows) (e : State) (x y z : ℕ) → admissible e ≡ true → ruled (shapesOf v) ≡ true
+    → stepOf v e 0xF8 x y z ≡ perform both (refusing (shapesOf v)) e (popFrame e x ((sp e rJ + 4 * yzOf y z) % 2 ^ 64)) v
 unfolding planOf armOf refusalOf
 pop-open v e x y z a r = step-open v e 0xF8 x y z a r refl
 
-kept-shape : (F : ℕ → Type 0) (v w : Window) → Kept one F v w → shapeOf w ≡ shapeOf v
+kept-shape : (F : ℕ → Type 0) (v w : Windows) → Kept both F v w → shapesOf w ≡ shapesOf v
 unfolding one
 kept-shape F v w k = k .shape-kept
 
 place : (r o h : ℕ) → r ≡ (o + 8 * (h + 1)) % 2 ^ 64 → o < 2 ^ 64 → h ≤ 255 → stackStart < r → r ≡ o + 8 * (h + 1)
 place r o h q u m n = omega arith
 
-back-core : (w : Window) (s : State) (h u : ℕ) (is : List Item) → Words s → Good s → ruled (shapeOf w) ≡ true → h ≤ sp s rG
-    → worst (refusing (shapeOf w)) (sp s rO) (h + 1) ≡ 0
-    → All (Off (Within (sp s rO) (h + 1))) (runTouches one mmix (called s h u) (pushedOn w s h u .memory) is)
+back-core : (w : Windows) (s : State) (h u : ℕ) (is : List Item) → Words s → Good s → ruled (shapesOf w) ≡ true → h ≤ sp s rG
+    → worst (refusing (shapesOf w)) (sp s rO) (h + 1) ≡ 0
+    → All (Off (Within (sp s rO) (h + 1))) (runTouches both mmix (called s h u) (pushedOn w s h u .memory) is)
     → AtPop h (sp (called s h u) rO) (after (pushedOn w s h u) is .state) → (x y z : ℕ) → GivesBack h s (popAfter (after (pushedOn w s h u) is) x y z)
 back-core w s h u is words good fine hg fits touched at x y z =
     let e : State = after (pushedOn w s h u) is .state in
-    let v : Window = after (pushedOn w s h u) is .memory in
-    let ge : Good e = runs-always one one-lawful mmix Good mmix-good is (called s h u) (pushedOn w s h u .memory) (goes-good _ u (pushed-good s h good)) in
-    let k : Kept one (Within (sp s rO) (h + 1)) (pushedOn w s h u .memory) v
-    = runs-kept one one-lawful mmix (Within (sp s rO) (h + 1)) mmix-sound is (called s h u) (pushedOn w s h u .memory) touched in
-    let sh : shapeOf v ≡ shapeOf w = kept-shape (Within (sp s rO) (h + 1)) (pushedOn w s h u .memory) v k ∙ window-shape w (sp s rO) (tab 0 (h + 1) (framed s h)) in
+    let v : Windows = after (pushedOn w s h u) is .memory in
+    let ge : Good e = runs-always both one-lawful mmix Good mmix-good is (called s h u) (pushedOn w s h u .memory) (goes-good _ u (pushed-good s h good)) in
+    let k : Kept both (Within (sp s rO) (h + 1)) (pushedOn w s h u .memory) v
+    = runs-kept both one-lawful mmix (Within (sp s rO) (h + 1)) mmix-sound is (called s h u) (pushedOn w s h u .memory) touched in
+    let sh : shapesOf v ≡ shapesOf w = kept-shape (Within (sp s rO) (h + 1)) (pushedOn w s h u .memory) v k ∙ window-shape w (sp s rO) (tab 0 (h + 1) (framed s h)) in
     let gg : sp s rG ≤ 255 = good .admits .g-high in
     let small : h ≤ 255 = omega arith in
     let ro : sp e rO ≡ (sp s rO + 8 * (h + 1)) % 2 ^ 64 = at .back ∙ push-rO s h u (good .size .specials) in
@@ -119,19 +119,19 @@ back-core w s h u is words good fine hg fits touched at x y z =
     let b3 : sp e rO < 2 ^ 63 = rw (at .back) (at .below) in
     let b0 : sp e rO ≡ sp s rO + 8 * (h + 1) = place (sp e rO) (sp s rO) h ro (words .special-word rO) small b2 in
     let t : ℕ = (sp e rJ + 4 * yzOf y z) % 2 ^ 64 in
-    let op : stepOf v e 0xF8 x y z ≡ perform one (refusing (shapeOf w)) e (popFrame e x ((sp e rJ + 4 * yzOf y z) % 2 ^ 64)) v
-    = pop-open v e x y z (adm-of e (ge .admits)) (ap ruled sh ∙ fine) ∙ ap (λ (q : Shape). perform one (refusing q) e (popFrame e x ((sp e rJ + 4 * yzOf y z) % 2 ^ 64)) v) sh in
+    let op : stepOf v e 0xF8 x y z ≡ perform both (refusing (shapesOf w)) e (popFrame e x ((sp e rJ + 4 * yzOf y z) % 2 ^ 64)) v
+    = pop-open v e x y z (adm-of e (ge .admits)) (ap ruled sh ∙ fine) ∙ ap (λ (q : Shapes). perform both (refusing q) e (popFrame e x ((sp e rJ + 4 * yzOf y z) % 2 ^ 64)) v) sh in
     record {
-      done = ap (λ (o : Outcome State Window). o .reply) (op ∙ pop-is one one-lawful (refusing (shapeOf w)) s e h w v small (sound-at w) fits (words .general-word) k b0 b1 b2 b3 (at .reach) (ge .admits .g-high) (ge .size) x ((sp e rJ + 4 * yzOf y z) % 2 ^ 64));
-      locals = λ i l. ap (λ (o : Outcome State Window). reg (o .state) i) op
-          ∙ pop-reg one one-lawful (refusing (shapeOf w)) s e h w v small (sound-at w) fits (words .general-word) k b0 b1 b2 b3 (at .reach) (ge .admits .g-high) (ge .size) x ((sp e rJ + 4 * yzOf y z) % 2 ^ 64) i l;
+      done = ap (λ (o : Outcome State Windows). o .reply) (op ∙ pop-is both one-lawful (refusing (shapesOf w)) s e h w v small (sound-at w) fits (words .general-word) k b0 b1 b2 b3 (at .reach) (ge .admits .g-high) (ge .size) x ((sp e rJ + 4 * yzOf y z) % 2 ^ 64));
+      locals = λ i l. ap (λ (o : Outcome State Windows). reg (o .state) i) op
+          ∙ pop-reg both one-lawful (refusing (shapesOf w)) s e h w v small (sound-at w) fits (words .general-word) k b0 b1 b2 b3 (at .reach) (ge .admits .g-high) (ge .size) x ((sp e rJ + 4 * yzOf y z) % 2 ^ 64) i l;
     }
 
 -- no list changes the window's base or length
-end-shape : (w : Window) (s : State) (h u : ℕ) (is : List Item) → shapeOf (after (pushedOn w s h u) is .memory) ≡ shapeOf w
+end-shape : (w : Windows) (s : State) (h u : ℕ) (is : List Item) → shapesOf (after (pushedOn w s h u) is .memory) ≡ shapesOf w
 end-shape w s h u is =
     kept-shape (λ o. ⊥) (pushedOn w s h u .memory) _
-    (runs-kept one one-lawful mmix (λ o. ⊥) mmix-sound is (called s h u) (pushedOn w s h u .memory) (All-of _ (runTouches one mmix (called s h u) (pushedOn w s h u .memory) is) (λ b x. x)))
+    (runs-kept both one-lawful mmix (λ o. ⊥) mmix-sound is (called s h u) (pushedOn w s h u .memory) (All-of _ (runTouches both mmix (called s h u) (pushedOn w s h u .memory) is) (λ b x. x)))
     ∙ window-shape w (sp s rO) (tab 0 (h + 1) (framed s h))
 
 -- ---- two runs
@@ -155,30 +155,30 @@ admissible-alike : (s t : State) → s .special ≡ t .special → s .marks ≡ 
 unfolding admissible
 admissible-alike s t e f = rw (e, f)
 
-pair-core : (w : Window) (s t : State) (h u : ℕ) (is : List Item) → Words s → Words t → Good s → Good t → ruled (shapeOf w) ≡ true → h ≤ sp s rG → Alike h s t
-    → worst (refusing (shapeOf w)) (sp s rO) (h + 1) ≡ 0
+pair-core : (w : Windows) (s t : State) (h u : ℕ) (is : List Item) → Words s → Words t → Good s → Good t → ruled (shapesOf w) ≡ true → h ≤ sp s rG → Alike h s t
+    → worst (refusing (shapesOf w)) (sp s rO) (h + 1) ≡ 0
     → All (Off (Within (sp s rO) (h + 1))) (afterNeeds (pushedOn w s h u) is)
     → Private h s t (pushedOn w s h u) (pushedOn w t h u) is
 pair-core w s t h u is ws wt gs gt fine hg alike fits off =
     let os : sp s rO ≡ sp t rO = ap (λ (l : List ℕ). getD l rO 0) (alike .special-same) in
     let gse : sp s rG ≡ sp t rG = ap (λ (l : List ℕ). getD l rG 0) (alike .special-same) in
-    let fits-t : worst (refusing (shapeOf w)) (sp t rO) (h + 1) ≡ 0 = rw (← os) fits in
+    let fits-t : worst (refusing (shapesOf w)) (sp t rO) (h + 1) ≡ 0 = rw (← os) fits in
     let st : called s h u ≡ called t h u = called-alike s t h u (gs .size) (gt .size) hg alike in
-    let calls : Same one (Within (sp s rO) h) (pushedOn w s h u) (pushedOn w t h u)
-    = rw (push-is one one-lawful (refusing (shapeOf w)) s h u w fits, push-is one one-lawful (refusing (shapeOf w)) t h u w fits-t)
-    at (push-same one one-lawful (refusing (shapeOf w)) s t h u w (gs .size) (gt .size) hg alike (sound-at w) fits) in
-    let ms : Agree one (Within (sp s rO) h) (pushedOn w s h u .memory) (pushedOn w t h u .memory) = calls .memory-same in
-    let touched : All (Off (Within (sp s rO) (h + 1))) (runTouches one mmix (called s h u) (pushedOn w s h u .memory) is)
-    = runTouches-off one one-lawful mmix (Off (Within (sp s rO) (h + 1))) is (called s h u) (pushedOn w s h u .memory) off in
-    let near : All (Off (Within (sp s rO) h)) (runTouches one mmix (called s h u) (pushedOn w s h u .memory) is) = narrow (sp s rO) h _ touched in
-    let same : SameRun one mmix (Within (sp s rO) h) (after (pushedOn w s h u) is) (after (pushedOn w t h u) is)
-    = subst (λ (p : State). SameRun one mmix (Within (sp s rO) h) (after (pushedOn w s h u) is) (runs one mmix p (pushedOn w t h u .memory) is)) st
-    (runs-agree one one-lawful mmix (Within (sp s rO) h) mmix-sound is (called s h u) (pushedOn w s h u .memory) (pushedOn w t h u .memory) ms near) in
-    let te : runTouches one mmix (called s h u) (pushedOn w s h u .memory) is ≡ runTouches one mmix (called t h u) (pushedOn w t h u .memory) is
-    = runTouches-agree one one-lawful mmix (Within (sp s rO) h) mmix-sound is (called s h u) (pushedOn w s h u .memory) (pushedOn w t h u .memory) ms near
-    ∙ ap (λ (p : State). runTouches one mmix p (pushedOn w t h u .memory) is) st in
-    let touched-t : All (Off (Within (sp t rO) (h + 1))) (runTouches one mmix (called t h u) (pushedOn w t h u .memory) is)
-    = subst (λ (o : ℕ). All (Off (Within o (h + 1))) (runTouches one mmix (called t h u) (pushedOn w t h u .memory) is)) os
+    let calls : Same both (Within (sp s rO) h) (pushedOn w s h u) (pushedOn w t h u)
+    = rw (push-is both one-lawful (refusing (shapesOf w)) s h u w fits, push-is both one-lawful (refusing (shapesOf w)) t h u w fits-t)
+    at (push-same both one-lawful (refusing (shapesOf w)) s t h u w (gs .size) (gt .size) hg alike (sound-at w) fits) in
+    let ms : Agree both (Within (sp s rO) h) (pushedOn w s h u .memory) (pushedOn w t h u .memory) = calls .memory-same in
+    let touched : All (Off (Within (sp s rO) (h + 1))) (runTouches both mmix (called s h u) (pushedOn w s h u .memory) is)
+    = runTouches-off both one-lawful mmix (Off (Within (sp s rO) (h + 1))) is (called s h u) (pushedOn w s h u .memory) off in
+    let near : All (Off (Within (sp s rO) h)) (runTouches both mmix (called s h u) (pushedOn w s h u .memory) is) = narrow (sp s rO) h _ touched in
+    let same : SameRun both mmix (Within (sp s rO) h) (after (pushedOn w s h u) is) (after (pushedOn w t h u) is)
+    = subst (λ (p : State). SameRun both mmix (Within (sp s rO) h) (after (pushedOn w s h u) is) (runs both mmix p (pushedOn w t h u .memory) is)) st
+    (runs-agree both one-lawful mmix (Within (sp s rO) h) mmix-sound is (called s h u) (pushedOn w s h u .memory) (pushedOn w t h u .memory) ms near) in
+    let te : runTouches both mmix (called s h u) (pushedOn w s h u .memory) is ≡ runTouches both mmix (called t h u) (pushedOn w t h u .memory) is
+    = runTouches-agree both one-lawful mmix (Within (sp s rO) h) mmix-sound is (called s h u) (pushedOn w s h u .memory) (pushedOn w t h u .memory) ms near
+    ∙ ap (λ (p : State). runTouches both mmix p (pushedOn w t h u .memory) is) st in
+    let touched-t : All (Off (Within (sp t rO) (h + 1))) (runTouches both mmix (called t h u) (pushedOn w t h u .memory) is)
+    = subst (λ (o : ℕ). All (Off (Within o (h + 1))) (runTouches both mmix (called t h u) (pushedOn w t h u .memory) is)) os
     (subst (λ (xs : List ℕ). All (Off (Within (sp s rO) (h + 1))) xs) te touched) in
     let ee : after (pushedOn w s h u) is .state ≡ after (pushedOn w t h u) is .state = same .state-same in
     record {
@@ -203,22 +203,22 @@ demand3 w s t c x y z is ns nt ws wt alike done pcs =
     let gs : Good s = record { size = ns; admits = adm s (cs .good) } in
     let at : admissible t ≡ true = sym (admissible-alike s t (alike .special-same) (alike .marks-same)) ∙ cs .good in
     let gt : Good t = record { size = nt; admits = adm t at } in
-    let fits-t : worst (refusing (shapeOf w)) (sp t rO) (hole s x + 1) ≡ 0 = rw (← os) (cs .fits) in
+    let fits-t : worst (refusing (shapesOf w)) (sp t rO) (hole s x + 1) ≡ 0 = rw (← os) (cs .fits) in
     let la : stepOf w s (opcodeOf c) x y z ≡ pushedOn w s (hole s x) (targetOfCall c s y z)
-    = call-open c w s x y z (cs .good) (cs .fine) ∙ push-is one one-lawful (refusing (shapeOf w)) s (hole s x) (targetOfCall c s y z) w (cs .fits) in
+    = call-open c w s x y z (cs .good) (cs .fine) ∙ push-is both one-lawful (refusing (shapesOf w)) s (hole s x) (targetOfCall c s y z) w (cs .fits) in
     let lb : stepOf w t (opcodeOf c) x y z ≡ pushedOn w t (hole s x) (targetOfCall c t y z)
-    = call-open c w t x y z at (cs .fine) ∙ ap (λ (h : ℕ). perform one (refusing (shapeOf w)) t (pushFrame t h (targetOfCall c t y z)) w) hs
-    ∙ push-is one one-lawful (refusing (shapeOf w)) t (hole s x) (targetOfCall c t y z) w fits-t in
+    = call-open c w t x y z at (cs .fine) ∙ ap (λ (h : ℕ). perform both (refusing (shapesOf w)) t (pushFrame t h (targetOfCall c t y z)) w) hs
+    ∙ push-is both one-lawful (refusing (shapesOf w)) t (hole s x) (targetOfCall c t y z) w fits-t in
     let us : targetOfCall c t y z ≡ targetOfCall c s y z
-    = sym (ap (λ (o : Outcome State Window). o .state .pc) lb ∙ pushed-pc t (hole s x) (targetOfCall c t y z)) ∙ sym pcs
-    ∙ (ap (λ (o : Outcome State Window). o .state .pc) la ∙ pushed-pc s (hole s x) (targetOfCall c s y z)) in
+    = sym (ap (λ (o : Outcome State Windows). o .state .pc) lb ∙ pushed-pc t (hole s x) (targetOfCall c t y z)) ∙ sym pcs
+    ∙ (ap (λ (o : Outcome State Windows). o .state .pc) la ∙ pushed-pc s (hole s x) (targetOfCall c s y z)) in
     let lb2 : stepOf w t (opcodeOf c) x y z ≡ pushedOn w t (hole s x) (targetOfCall c s y z) = lb ∙ ap (λ (u : ℕ). pushedOn w t (hole s x) u) us in
-    subst (λ (a : Outcome State Window). All (Off (Within (sp s rO) (hole s x + 1))) (afterNeeds a is) → Private (hole s x) s t a (stepOf w t (opcodeOf c) x y z) is) (sym la)
-    (λ off. subst (λ (b : Outcome State Window). Private (hole s x) s t (pushedOn w s (hole s x) (targetOfCall c s y z)) b is) (sym lb2)
+    subst (λ (a : Outcome State Windows). All (Off (Within (sp s rO) (hole s x + 1))) (afterNeeds a is) → Private (hole s x) s t a (stepOf w t (opcodeOf c) x y z) is) (sym la)
+    (λ off. subst (λ (b : Outcome State Windows). Private (hole s x) s t (pushedOn w s (hole s x) (targetOfCall c s y z)) b is) (sym lb2)
     (pair-core w s t (hole s x) (targetOfCall c s y z) is ws wt gs gt (cs .fine) (hole-le s x (gs .admits)) alike (cs .fits) off))
 
 -- the wider needs hold the needs
 pub demand3-wider : Demand3Wider
 demand3-wider w s t c x y z is ns nt ws wt alike done pcs off =
     demand3 w s t c x y z is ns nt ws wt alike done pcs
-    (runWider-off one one-lawful mmix (Off (Within (sp s rO) (hole s x + 1))) is (stepOf w s (opcodeOf c) x y z .state) (stepOf w s (opcodeOf c) x y z .memory) off)
+    (runWider-off both one-lawful mmix (Off (Within (sp s rO) (hole s x + 1))) is (stepOf w s (opcodeOf c) x y z .state) (stepOf w s (opcodeOf c) x y z .memory) off)

@@ -10,7 +10,7 @@ use lib.Bits.{bitAnd, and-step, and-le-r}
 use lib.Count.{leadingZeros}
 use lib.ListN.{set}
 use lib.Seq.{set-getD, getD-set-other}
-use Rattle.model.specs.Registers.{rC, rO, rS, rI, rU, rK, sp, Words, MarginalZero, admissible, goes, next, halted, withSpecial, spilled}
+use Rattle.model.specs.Registers.{withParts, rC, rO, rS, rI, rU, rK, sp, Words, MarginalZero, admissible, goes, next, halted, withSpecial, spilled}
 use Rattle.model.specs.Opcodes.{register, immediate, Arm, branch, jump, getAddress, go, pushJump, pushGo, pop, put, get, save, unsave, sync, swym, trip, trap, none}
 use Rattle.model.specs.Said.{Said, say}
 use Rattle.model.specs.Trips.{wordOf, isLoaded, trapped, trapRule, trapOf, enables, enabled, leftmost, added, exactUnderflow, addedRule, withAdded, raised}
@@ -125,7 +125,7 @@ count-none : (s : State) → Words s → counted 0 0 0 s ≡ s
 unfolding counted withSpecial
 count-none s h =
     rw (stays-up (sp s rC) (h .special-word rC), stays-up (sp s rU) (h .special-word rU), stays-down (sp s rI) (h .special-word rI))
-    (λ i. record { general = s .general; special = same i; pc = s .pc; halt = s .halt; marks = s .marks })
+    (λ i. withParts s (s .general) (same i))
   where
     same : set (set (set (s .special) rC (sp s rC)) rU (sp s rU)) rI (sp s rI) ≡ s .special
     same = rw (set-getD (s .special) rC 0, set-getD (s .special) rU 0) (set-getD (s .special) rI 0)

@@ -1,7 +1,7 @@
 -- The entries once 1 to 5 have passed; the window's judge; a ruled window; and windows equal octabyte by octabyte, which are equal byte by byte.
 use mathlib.Core.Path.{_≡_, refl, sym, ap, _∙_, subst}
 use mathlib.Core.Logic.{_⊎_, inl, inr}
-use mathlib.Core.Bool.{true, _&&_}
+use mathlib.Core.Bool.{true, _&&_, Bool, cond, false}
 use mathlib.Core.List.{List, []}
 use Prim.Native.Nat.{ℕ, zero, suc, _+_, _-_, _*_, _/_, _%_, _^_, _≤_, _<_}
 use native.Mathlib.Omega.{arith}
@@ -10,12 +10,12 @@ use lib.ListN.{length, getD, List·getD-eq-default}
 use lib.Dec.{leb, ltb, eqb}
 use borrow.Author.Tests.{eqb-true, ltb-true, leb-true}
 use Rattle.model.specs.Octa.{octa, part}
-use Rattle.model.specs.Memory.{Window, Shape, shapeOf, ruled, offset, has, octaBytes, one}
+use Rattle.model.specs.Memory.{Windows, Shapes, shapesOf, shapeOf, ruled, offset, inside, octaAt, octaBytes, both, one}
 use Rattle.model.specs.Plan.{Plan, answer, Outcome, perform, worst, clear, puts, Off, Agree}
 use Rattle.model.specs.Registers.{admissible}
 use Rattle.model.specs.Opcodes.{Arm, armOf}
 use Rattle.model.specs.Said.{tell}
-use Rattle.model.specs.Step.{refusalOf, judged, refusing, planOf, stepPlan, stepOf, Item, mmix}
+use Rattle.model.specs.Step.{refusalOf, unruledBy, judged, refusing, planOf, guarded, fromThree, stepPlan, stepOf, Item, mmix}
 use Rattle.model.specs.Demand.{SameOutside}
 use Rattle.model.specs.declared.State.{State}
 use Rattle.model.proofs.Bools.{and-left, and-right, on}
@@ -25,78 +25,74 @@ use Rattle.model.proofs.Plan.{Sound}
 -- ---- judging
 
 -- a plan performed on a window, and that all n octabytes from a lie inside it
-abbrev pub performOn : {S : Type 0} → Window → S → Plan S → Outcome S Window
-performOn w s p = perform one (refusing (shapeOf w)) s p w
+abbrev pub performOn : {S : Type 0} → Windows → S → Plan S → Outcome S Windows
+performOn w s p = perform both (refusing (shapesOf w)) s p w
 
-abbrev pub Inside : Window → ℕ → ℕ → Type 0
-Inside w a n = worst (refusing (shapeOf w)) a n ≡ 0
+abbrev pub Inside : Windows → ℕ → ℕ → Type 0
+Inside w a n = worst (refusing (shapesOf w)) a n ≡ 0
 
 -- an answer that stores nothing
-pub said : {S : Type 0} (w : Window) (s t : S) (r : ℕ) → performOn w s (answer r t 0 []) ≡ record { reply = r; state = t; memory = w }
+pub said : {S : Type 0} (w : Windows) (s t : S) (r : ℕ) → performOn w s (answer r t 0 []) ≡ record { reply = r; state = t; memory = w }
 unfolding perform worst puts
 said w s t r = refl
 
-pub said-reply : {S : Type 0} (w : Window) (s t : S) (r : ℕ) → performOn w s (answer r t 0 []) .reply ≡ r
-said-reply w s t r = ap (λ (o : Outcome _ Window). o .reply) (said w s t r)
+pub said-reply : {S : Type 0} (w : Windows) (s t : S) (r : ℕ) → performOn w s (answer r t 0 []) .reply ≡ r
+said-reply w s t r = ap (λ (o : Outcome _ Windows). o .reply) (said w s t r)
 
 -- an answer that is done has room for all that it stores
-pub answered : (j : ℕ → ℕ) (s t : State) (r a : ℕ) (vs : List ℕ) (w : Window) → perform one j s (answer r t a vs) w .reply ≡ 0 → worst j a (length vs) ≡ 0
+pub answered : (j : ℕ → ℕ) (s t : State) (r a : ℕ) (vs : List ℕ) (w : Windows) → perform both j s (answer r t a vs) w .reply ≡ 0 → worst j a (length vs) ≡ 0
 unfolding perform
 answered j s t r a vs w =
-    on {A = Outcome State Window} (λ o. o .reply ≡ 0 → worst j a (length vs) ≡ 0) (clear j a (length vs)) (λ e h. eqb-true _ _ e) (λ e h. h)
+    on {A = Outcome State Windows} (λ o. o .reply ≡ 0 → worst j a (length vs) ≡ 0) (clear j a (length vs)) (λ e h. eqb-true _ _ e) (λ e h. h)
 
 -- the step is its arm's plan
-pub step-open : (w : Window) (s : State) (op x y z : ℕ) → admissible s ≡ true → ruled (shapeOf w) ≡ true → refusalOf (armOf op) x y z ≡ 0
+pub step-open : (w : Windows) (s : State) (op x y z : ℕ) → admissible s ≡ true → ruled (shapesOf w) ≡ true → refusalOf (armOf op) x y z ≡ 0
     → stepOf w s op x y z ≡ performOn w s (planOf s (armOf op) op x y z)
-unfolding stepOf stepPlan judged
+unfolding stepOf stepPlan guarded unruledBy fromThree
 step-open w s op x y z a r e = rw (a, r, e)
 
--- what judging passes is neither 1 nor 2
-judged-passes : (s : State) (w : Shape) (a : Arm) (x y z : ℕ) → judged s w a x y z ≡ 0 → (admissible s ≡ true) × (ruled w ≡ true)
-unfolding judged
-judged-passes s w a x y z =
-    on (λ (n : ℕ). n ≡ 0 → (admissible s ≡ true) × (ruled w ≡ true)) (admissible s)
-    (λ e. on (λ (n : ℕ). n ≡ 0 → (admissible s ≡ true) × (ruled w ≡ true)) (ruled w) (λ f h. (e, f)) (λ f h. absurd (omega arith)))
-    (λ e h. absurd (omega arith))
-
--- and so of a step that is done
-pub step-done : (w : Window) (s : State) (op x y z : ℕ) → stepOf w s op x y z .reply ≡ 0 → (admissible s ≡ true) × (ruled (shapeOf w) ≡ true)
-unfolding stepOf stepPlan tell
-step-done w s op x y z h =
-    judged-passes s (shapeOf w) (armOf op) x y z
-    (on (λ (p : Plan State). performOn w s p .reply ≡ 0 → judged s (shapeOf w) (armOf op) x y z ≡ 0)
-    (eqb (judged s (shapeOf w) (armOf op) x y z) 0) (λ e d. eqb-true _ _ e) (λ e d. sym (said-reply w s s _) ∙ d) h)
+-- a step that is done met neither 1 nor 2
+pub step-done : (w : Windows) (s : State) (op x y z : ℕ) → stepOf w s op x y z .reply ≡ 0 → (admissible s ≡ true) × (ruled (shapesOf w) ≡ true)
+unfolding stepOf stepPlan guarded unruledBy
+step-done w s op x y z = go (admissible s) (ruled (shapesOf w))
+  where
+    go : (b c : Bool)
+        → performOn w s (cond b (cond (eqb (cond c 0 2) 0) (fromThree s (armOf op) op x y z) (answer (cond c 0 2) s 0 [])) (answer 1 s 0 [])) .reply ≡ 0
+        → (b ≡ true) × (c ≡ true)
+    go true true h = (refl, refl)
+    go true false h = absurd (omega (arith, said-reply w s s 2))
+    go false c h = absurd (omega (arith, said-reply w s s 1))
 
 -- the judge passes just what lies in the window
-pub judged-inside : (w : Shape) (a : ℕ) → refusing w a ≡ 0 → has w a ≡ true
+pub judged-inside : (w : Shapes) (a : ℕ) → refusing w a ≡ 0 → inside w a ≡ true
 unfolding refusing
-judged-inside w a = on (λ (n : ℕ). n ≡ 0 → has w a ≡ true) (has w a) (λ e f. e) (λ e f. absurd (omega arith))
+judged-inside w a = on (λ (n : ℕ). n ≡ 0 → inside w a ≡ true) (inside w a) (λ e f. e) (λ e f. absurd (omega arith))
 
-pub inside-judged : (w : Shape) (a : ℕ) → has w a ≡ true → refusing w a ≡ 0
+pub inside-judged : (w : Shapes) (a : ℕ) → inside w a ≡ true → refusing w a ≡ 0
 unfolding refusing
 inside-judged w a e = rw e
 
-pub sound : (w : Shape) → Sound one (refusing w) w
+pub sound : (w : Shapes) → Sound both (refusing w) w
 unfolding one
 sound w a = judged-inside w a
 
-pub sound-at : (w : Window) → Sound one (refusing (shapeOf w)) (one .shape w)
+pub sound-at : (w : Windows) → Sound both (refusing (shapesOf w)) (both .shape w)
 unfolding one
-sound-at w = sound (shapeOf w)
+sound-at w = sound (shapesOf w)
 
-pub mmix-sound : (s : State) (w : Shape) (i : Item) → Sound one (mmix .judge s w i) w
+pub mmix-sound : (s : State) (w : Shapes) (i : Item) → Sound both (mmix .judge s w i) w
 unfolding mmix
 mmix-sound s w i = sound w
 
 -- ---- a ruled window
 
-pub record Ruled (w : Shape) : Type 0 where
+pub record Ruled (w : Shapes) : Type 0 where
   pub base-aligned : w .from % 8 ≡ 0
   pub base-word : w .from < 2 ^ 64
   pub size-octas : w .size % 8 ≡ 0
   pub size-most : w .size ≤ 65536
 
-pub ruled-facts : (w : Shape) → ruled w ≡ true → Ruled w
+pub ruled-facts : (w : Shapes) → ruled w ≡ true → Ruled w
 unfolding ruled
 ruled-facts w e =
     let e1 : (ltb (w .from) (2 ^ 64) && (eqb (w .size % 8) 0 && leb (w .size) 65536)) ≡ true = and-right (eqb (w .from % 8) 0) _ e in
@@ -127,26 +123,26 @@ offset-byte b i al wo l =
     rw (e, m) (distance (b / 8) (i / 8) (omega arith) (omega arith) (decLt (b / 8 + i / 8) (2 ^ 61)))
 
 -- byte i of a window is byte i % 8 of the octabyte that its address names
-pub byte-of : (w : Window) (i : ℕ) → Ruled (shapeOf w) → i < length (w .bytes) → getD (w .bytes) i 0 ≡ getD (octaBytes w (w .base + i)) (i % 8) 0
+pub byte-of : (w : Windows) (i : ℕ) → Ruled (shapesOf w) → i < length (w .bytes) → getD (w .bytes) i 0 ≡ getD (octaAt w (w .base + i)) (i % 8) 0
 unfolding octaBytes shapeOf
 byte-of w i r l =
     let n : length (w .bytes) ≤ 65536 = r .size-most in
     let e : offset (w .base) (w .base + i) ≡ 8 * (i / 8) = offset-byte (w .base) i (r .base-aligned) (r .base-word) (omega arith) in
     ap (λ (k : ℕ). getD (w .bytes) k 0) (omega arith) ∙ sym (getD-part 8 (w .bytes) (offset (w .base) (w .base + i)) (i % 8) (omega arith))
 
-pub bytes-agree : (F : ℕ → Type 0) (v w : Window) → Ruled (shapeOf v) → Agree one F v w → SameOutside F v w
+pub bytes-agree : (F : ℕ → Type 0) (v w : Windows) → Ruled (shapesOf v) → Agree both F v w → SameOutside F v w
 unfolding one
 bytes-agree F v w r g = record { base-same = bs; length-same = ls; byte-same = λ i off. byte i off (lt-or-le i (length (v .bytes))) }
   where
     bs : v .base ≡ w .base
-    bs = unfold shapeOf in (ap (λ (s : Shape). s .from) (g .shape-same))
+    bs = unfold shapeOf in (ap (λ (s : Shapes). s .from) (g .shape-same))
 
     ls : length (v .bytes) ≡ length (w .bytes)
-    ls = unfold shapeOf in (ap (λ (s : Shape). s .size) (g .shape-same))
+    ls = unfold shapeOf in (ap (λ (s : Shapes). s .size) (g .shape-same))
 
     byte : (i : ℕ) → Off F (v .base + i) → (i < length (v .bytes)) ⊎ (length (v .bytes) ≤ i) → getD (v .bytes) i 0 ≡ getD (w .bytes) i 0
     byte i off (inl l) =
-        let rw' : Ruled (shapeOf w) = subst Ruled (g .shape-same) r in
+        let rw' : Ruled (shapesOf w) = subst Ruled (g .shape-same) r in
         byte-of v i r l ∙ ap (λ (bs : List ℕ). getD bs (i % 8) 0) (g .rest-same (v .base + i) off)
-        ∙ ap (λ (b : ℕ). getD (octaBytes w (b + i)) (i % 8) 0) bs ∙ sym (byte-of w i rw' (omega (arith, ls)))
+        ∙ ap (λ (b : ℕ). getD (octaAt w (b + i)) (i % 8) 0) bs ∙ sym (byte-of w i rw' (omega (arith, ls)))
     byte i off (inr l) = List·getD-eq-default (v .bytes) 0 l ∙ sym (List·getD-eq-default (w .bytes) 0 (omega (arith, ls)))

@@ -5,7 +5,7 @@ use mathlib.Core.List.{List}
 use Prim.Native.Nat.{ℕ, _≤_}
 use lib.Dec.{eqb}
 use Rattle.model.specs.Registers.{rG, rL, rA, sp, admissible, goes, halted, withSpecial, setRegister, putLocals, putGlobals}
-use Rattle.model.specs.Memory.{Window, Shape, one}
+use Rattle.model.specs.Memory.{Windows, Shapes, both}
 use Rattle.model.specs.Plan.{Plan, answer, read}
 use Rattle.model.specs.Opcodes.{armOf}
 use Rattle.model.specs.Said.{tell}
@@ -73,7 +73,7 @@ module _ (P : State → Type 0) (k : Keeps P) where
 
 -- what Q gives, where Q is kept and an admissible state has it, every state keeps: one that is not admissible is refused by 1
 pub item-keeps : (P Q : State → Type 0) → Keeps Q → ((t : State) → Q t → P t)
-    → (s : State) (w : Shape) (i : Item) → (admissible s ≡ true → Q s) → P s → Always P (itemPlan s w i)
+    → (s : State) (w : Shapes) (i : Item) → (admissible s ≡ true → Q s) → P s → Always P (itemPlan s w i)
 unfolding itemPlan tell Always
 item-keeps P Q k f s w (step op x y z) q h =
     answers-always P (stepPlan s w op x y z) (step-meets s w Any (λ r t vs. P t) (λ n a b. h) op x y z (λ e. answers-map P Q f (planOf s (armOf op) op x y z)
@@ -85,6 +85,6 @@ item-keeps P Q k f s w (exception g op x y z u v) q h =
       record { trips = λ a b. f _ (k .at-pc _ a (k .trips _ _ u v (k .adds s g (q e)))); trips-not = f _ (k .at-halt _ (k .trips _ _ u v (k .adds s g (q e)))) },
     ))
 
-pub item-always : (P : State → Type 0) (w : Window) (s : State) (i : Item) → P s → Always P (itemPlan s (one .shape w) i) → P (stepOn one mmix s w i .state)
+pub item-always : (P : State → Type 0) (w : Windows) (s : State) (i : Item) → P s → Always P (itemPlan s (both .shape w) i) → P (stepOn both mmix s w i .state)
 unfolding stepOn mmix
-item-always P w s i h a = perform-always one one-lawful P _ s (itemPlan s (one .shape w) i) w h a
+item-always P w s i h a = perform-always both one-lawful P _ s (itemPlan s (both .shape w) i) w h a

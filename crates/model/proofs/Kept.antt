@@ -2,7 +2,7 @@
 use mathlib.Core.Path.{_≡_}
 use mathlib.Core.Bool.{true}
 use Rattle.model.specs.Registers.{Sized, admissible, MarginalZero}
-use Rattle.model.specs.Memory.{one}
+use Rattle.model.specs.Memory.{both}
 use Rattle.model.specs.Keeps.{ItemsKeep}
 use Rattle.model.specs.declared.State.{State}
 use Rattle.model.proofs.Keeps.{Keeps, item-keeps, item-always}
@@ -33,10 +33,10 @@ good s n e = record { size = n; admits = adm s e }
 
 pub items-keep : ItemsKeep
 items-keep = record {
-  sized = λ w s i n. item-always Sized w s i n (item-keeps Sized Good good-keeps (λ t g. g .size) s (one .shape w) i (good s n) n);
-  admitted = λ w s i n e. item-always (λ t. admissible t ≡ true) w s i e (item-keeps (λ t. admissible t ≡ true) Good good-keeps (λ t g. adm-of t (g .admits)) s (one .shape w) i (good s n) e);
+  sized = λ w s i n. item-always Sized w s i n (item-keeps Sized Good good-keeps (λ t g. g .size) s (both .shape w) i (good s n) n);
+  admitted = λ w s i n e. item-always (λ t. admissible t ≡ true) w s i e (item-keeps (λ t. admissible t ≡ true) Good good-keeps (λ t g. adm-of t (g .admits)) s (both .shape w) i (good s n) e);
   marginal = λ w s i n m. item-always MarginalZero w s i m
-      (item-keeps MarginalZero Calm calm-keeps (λ t c. record { zero-at = c .zero-at }) s (one .shape w) i (λ e. record { good = good s n e; zero-at = m .zero-at }) m);
+      (item-keeps MarginalZero Calm calm-keeps (λ t c. record { zero-at = c .zero-at }) s (both .shape w) i (λ e. record { good = good s n e; zero-at = m .zero-at }) m);
   words = item-words;
   bytes = item-bytes;
 }

@@ -10,7 +10,7 @@ use lib.ListN.{length, set, length-set}
 use lib.Seq.{getD-set-same, getD-set-other}
 use borrow.Author.Tests.{eqb-true, eqb-false}
 use Rattle.model.specs.Registers.{rB, rJ, rBB, rA, rW, rX, rY, rZ, rWW, rXX, rYY, rZZ, sp, reg, following, Sized, goes, halted, withSpecial, cleared, claimLocal, stored, setRegister, putLocals, putGlobals, isMarginal, spilled}
-use Rattle.model.specs.Memory.{Window, shapeOf, ruled, one}
+use Rattle.model.specs.Memory.{Windows, shapesOf, ruled, both}
 use Rattle.model.specs.Plan.{puts}
 use Rattle.model.specs.Opcodes.{armOf}
 use Rattle.model.specs.Frames.{slide, pushedRule, pushed, unslide, popped}
@@ -156,11 +156,11 @@ answered-trip s op x y z n = record {
   trips-not = as-tripped s op x y z _ (trips s (wordOf op x y z) (reg s y) (reg s z) n);
 }
 
-stored-none : (w : Window) (a : ℕ) (vs : List ℕ) → vs ≡ [] → puts one w a vs ≡ w
+stored-none : (w : Windows) (a : ℕ) (vs : List ℕ) → vs ≡ [] → puts both w a vs ≡ w
 stored-none w a vs e = rw e (unfold puts in refl)
 
-leaves-of : (w : Window) (s : State) (op x y z : ℕ) (r : ℕ) (t : State) (a : ℕ) (vs : List ℕ) → Answered s op x y z r t vs
-    → StepLeaves w s op x y z (record { reply = r; state = t; memory = puts one w a vs })
+leaves-of : (w : Windows) (s : State) (op x y z : ℕ) (r : ℕ) (t : State) (a : ℕ) (vs : List ℕ) → Answered s op x y z r t vs
+    → StepLeaves w s op x y z (record { reply = r; state = t; memory = puts both w a vs })
 leaves-of w s op x y z r t a vs h = record {
   most = h .most;
   one-to-six = λ p q. (h .one-to-six p q .0, stored-none w a vs (h .one-to-six p q .1));
@@ -170,7 +170,7 @@ leaves-of w s op x y z r t a vs h = record {
   done = h .done;
 }
 
-step-leaves : (w : Window) (s : State) (op x y z : ℕ) → Sized s → StepLeaves w s op x y z (stepOf w s op x y z)
+step-leaves : (w : Windows) (s : State) (op x y z : ℕ) → Sized s → StepLeaves w s op x y z (stepOf w s op x y z)
 unfolding stepOf
 step-leaves w s op x y z n =
     perform-meets w s Any (Answered s op x y z) (StepLeaves w s op x y z)
@@ -182,8 +182,8 @@ step-leaves w s op x y z n =
       twenty = λ p. absurd (omega arith);
       done = λ p. absurd (omega arith);
     })
-    (leaves-of w s op x y z) (λ a k. tt) (stepPlan s (shapeOf w) op x y z)
-    (step-meets s (shapeOf w) Any (Answered s op x y z) (as-refused s op x y z) op x y z
+    (leaves-of w s op x y z) (λ a k. tt) (stepPlan s (shapesOf w) op x y z)
+    (step-meets s (shapesOf w) Any (Answered s op x y z) (as-refused s op x y z) op x y z
     (λ e. plan-meets s Any Any (Answered s op x y z) (answered s op x y z) (armOf op) op x y z tt (answered-trip s op x y z n)
     (as-trapped s op x y z _ (traps s (wordOf op x y z) (reg s y) (reg s z) n))))
 
@@ -245,10 +245,10 @@ one-of r (inr b) = go (eqb r 14) (eqb r 15) refl refl
         let m : r ≢ 15 = eqb-false _ _ f in
         inr (inr (inr (inr (inr (omega arith)))))
 
-reader-leaves : (w : Window) (p : ℕ) → ReaderLeaves w (readContext w p)
+reader-leaves : (w : Windows) (p : ℕ) → ReaderLeaves w (readContext w p)
 unfolding readContext
 reader-leaves w p =
-    on (ReaderLeaves w) (ruled (shapeOf w))
+    on (ReaderLeaves w) (ruled (shapesOf w))
     (λ e. perform-meets w emptyPart Any Found (ReaderLeaves w)
     (record { among = inr (inr (inl refl)); refused = λ n. refl; unchanged = refl })
     (λ r t a vs h. record { among = one-of r (h .among); refused = h .refused; unchanged = stored-none w a vs (h .none) })

@@ -13,16 +13,16 @@ use lib.Count.{leadingZeros, leading-le}
 use borrow.Author.Tests.{leb-true, ltb-false, eqb-true, eqb-false}
 use Rattle.model.specs.Fill.{tab}
 use Rattle.model.specs.Registers.{rG, rL, rA, rJ, sp, reg, admissible, goes, following, next, halted, withSpecial, setRegister, putLocals, putGlobals}
-use Rattle.model.specs.Memory.{Window, Shape, shapeOf, ruled, has, one}
+use Rattle.model.specs.Memory.{Windows, Shapes, shapesOf, ruled, inside, both}
 use Rattle.model.specs.Plan.{Plan, answer, read, Outcome, perform, worst, clear, looks, puts, named}
 use Rattle.model.specs.Opcodes.{Arm, Way, forward, backward, Operand, register, immediate, branch, jump, getAddress, go, pushJump, pushGo, pop, put, get, save, unsave, sync, swym, trip, trap, none, armOf}
-use Rattle.model.specs.Said.{Said, tell}
+use Rattle.model.specs.Said.{say, Said, tell}
 use Rattle.model.specs.Control.{targetOf, near, far, yzOf, xyzOf, sumOf, operandOf, holds}
 use Rattle.model.specs.Frames.{hole, framed, pushed, pushFrame, popped, popTo, popRule, noFrame, misplaced, popFrame}
 use Rattle.model.specs.Contexts.{extent, saved, savedState, saveContext, unsaved, contextRest, contextCount, contextAt, unsaveContext}
 use Rattle.model.specs.System.{isPrivileged, isIllegal, putRefusal, putState, putSpecial, got, syncOf}
 use Rattle.model.specs.Trips.{wordOf, tripped, trapped, isLoaded, tripRule, tripTo, trapOf, enabled, withAdded, raised}
-use Rattle.model.specs.Step.{isNamed, refusalOf, judged, refusing, planOf, stepPlan, exceptionOf}
+use Rattle.model.specs.Step.{isNamed, refusalOf, unruledBy, judged, refusing, planOf, guarded, fromThree, stepPlan, exceptionOf}
 use Rattle.model.specs.declared.State.{State}
 use Rattle.model.proofs.Bools.{and-left, and-right, or-left, or-right, eqb-swap, on}
 
@@ -214,18 +214,42 @@ refusal-most sync x y z = omega arith
 refusal-most swym x y z = omega arith
 refusal-most trip x y z = omega arith
 
-pub judged-most : (s : State) (w : Shape) (a : Arm) (x y z : ℕ) → judged s w a x y z ≤ 5
-unfolding judged
+pub judged-most : (s : State) (w : Shapes) (a : Arm) (x y z : ℕ) → judged s w a x y z ≤ 5
+unfolding judged unruledBy
 judged-most s w a x y z =
-    on (λ (n : ℕ). n ≤ 5) (admissible s) (λ e. on (λ (n : ℕ). n ≤ 5) (ruled w) (λ f. refusal-most a x y z) (λ f. omega arith)) (λ e. omega arith)
+    on (λ (n : ℕ). n ≤ 5) (admissible s)
+    (λ e. on (λ (n : ℕ). n ≤ 5) (eqb (unruledBy w) 0) (λ f. refusal-most a x y z) (λ f. on (λ (n : ℕ). n ≤ 5) (ruled w) (λ g. omega arith) (λ g. omega arith)))
+    (λ e. omega arith)
+
+-- the step by the number that judging gives
+pub step-judged : (s : State) (w : Shapes) (op x y z : ℕ)
+    → stepPlan s w op x y z ≡ cond (eqb (judged s w (armOf op) x y z) 0) (planOf s (armOf op) op x y z) (tell (say (judged s w (armOf op) x y z) s))
+unfolding stepPlan guarded fromThree judged tell
+step-judged s w op x y z = go (admissible s) (eqb (unruledBy w) 0) refl
+  where
+    n : ℕ
+    n = unruledBy w
+
+    r : ℕ
+    r = refusalOf (armOf op) x y z
+
+    p : Plan State
+    p = planOf s (armOf op) op x y z
+
+    go : (b c : Bool) → eqb n 0 ≡ c
+        → cond b (cond c (cond (eqb r 0) p (answer r s 0 [])) (answer n s 0 [])) (answer 1 s 0 [])
+        ≡ cond (eqb (cond b (cond c r n) 1) 0) p (answer (cond b (cond c r n) 1) s 0 [])
+    go false c e = refl
+    go true true e = refl
+    go true false e = rw e
 
 -- 1 to 5 in order, then the arm; the arm is met only where the state was admissible
-pub step-meets : (s : State) (w : Shape) (Read : List ℕ → Type 0) (R : ℕ → State → List ℕ → Type 0) → ((n : ℕ) → 1 ≤ n → n ≤ 5 → R n s [])
+pub step-meets : (s : State) (w : Shapes) (Read : List ℕ → Type 0) (R : ℕ → State → List ℕ → Type 0) → ((n : ℕ) → 1 ≤ n → n ≤ 5 → R n s [])
     → (op x y z : ℕ) → (admissible s ≡ true → Answers Read R (planOf s (armOf op) op x y z)) → Answers Read R (stepPlan s w op x y z)
-unfolding stepPlan tell Answers
+unfolding tell Answers
 step-meets s w Read R refuses op x y z met =
-    on (Answers Read R) (eqb (judged s w (armOf op) x y z) 0) (λ e. met (passed (eqb-true _ _ e)))
-    (λ e. refuses _ (nonzero (judged s w (armOf op) x y z) (eqb-false _ _ e)) (judged-most s w (armOf op) x y z))
+    rw (step-judged s w op x y z) (on (Answers Read R) (eqb (judged s w (armOf op) x y z) 0) (λ e. met (passed (eqb-true _ _ e)))
+    (λ e. refuses _ (nonzero (judged s w (armOf op) x y z) (eqb-false _ _ e)) (judged-most s w (armOf op) x y z)))
   where
     nonzero : (n : ℕ) → (n ≡ 0 → ⊥) → 1 ≤ n
     nonzero n f = omega arith
@@ -233,7 +257,7 @@ step-meets s w Read R refuses op x y z met =
     passed : judged s w (armOf op) x y z ≡ 0 → admissible s ≡ true
     passed = unfold judged in (go (admissible s))
       where
-        go : (b : Bool) → cond b (cond (ruled w) (refusalOf (armOf op) x y z) 2) 1 ≡ 0 → b ≡ true
+        go : (b : Bool) → cond b (cond (eqb (unruledBy w) 0) (refusalOf (armOf op) x y z) (unruledBy w)) 1 ≡ 0 → b ≡ true
         go true e = refl
         go false e = absurd (omega arith)
 
@@ -252,9 +276,9 @@ exception-meets s W R f op x y z u v word refused met =
 
 -- ---- what a plan comes to
 
-six-head : (w : Shape) (a : ℕ) → (refusing w a ≡ 0) ⊎ (refusing w a ≡ 6)
+six-head : (w : Shapes) (a : ℕ) → (refusing w a ≡ 0) ⊎ (refusing w a ≡ 6)
 unfolding refusing
-six-head w a = on (λ (n : ℕ). (n ≡ 0) ⊎ (n ≡ 6)) (has w a) (λ e. inl refl) (λ e. inr refl)
+six-head w a = on (λ (n : ℕ). (n ≡ 0) ⊎ (n ≡ 6)) (inside w a) (λ e. inl refl) (λ e. inr refl)
 
 six-both : (p q : ℕ) → (p ≡ 0) ⊎ (p ≡ 6) → (q ≡ 0) ⊎ (q ≡ 6) → (max p q ≡ 0) ⊎ (max p q ≡ 6)
 six-both p q (inl f) (inl g) = inl (omega arith)
@@ -262,13 +286,13 @@ six-both p q (inl f) (inr g) = inr (omega arith)
 six-both p q (inr f) (inl g) = inr (omega arith)
 six-both p q (inr f) (inr g) = inr (omega arith)
 
-six-run : (w : Shape) (n a : ℕ) → (worst (refusing w) a n ≡ 0) ⊎ (worst (refusing w) a n ≡ 6)
+six-run : (w : Shapes) (n a : ℕ) → (worst (refusing w) a n ≡ 0) ⊎ (worst (refusing w) a n ≡ 6)
 unfolding worst
 six-run w zero a = inl refl
 six-run w (suc n) a = six-both (refusing w a) (worst (refusing w) (a + 8) n) (six-head w a) (six-run w n (a + 8))
 
 -- a run that does not pass is refused by 6
-pub worst-six : (w : Shape) (n a : ℕ) → eqb (worst (refusing w) a n) 0 ≡ false → worst (refusing w) a n ≡ 6
+pub worst-six : (w : Shapes) (n a : ℕ) → eqb (worst (refusing w) a n) 0 ≡ false → worst (refusing w) a n ≡ 6
 worst-six w n a e = pick (worst (refusing w) a n) (eqb-false _ _ e) (six-run w n a)
   where
     pick : (r : ℕ) → (r ≡ 0 → ⊥) → (r ≡ 0) ⊎ (r ≡ 6) → r ≡ 6
@@ -276,16 +300,16 @@ worst-six w n a e = pick (worst (refusing w) a n) (eqb-false _ _ e) (six-run w n
     pick r f (inr g) = g
 
 -- an outcome is 6 with nothing changed, or an answer that was met
-module _ {S : Type 0} (w : Window) (s : S) (Read : List ℕ → Type 0) (R : ℕ → S → List ℕ → Type 0) (Q : Outcome S Window → Type 0)
-    (six : Q (record { reply = 6; state = s; memory = w })) (met : (r : ℕ) (t : S) (a : ℕ) (vs : List ℕ) → R r t vs → Q (record { reply = r; state = t; memory = puts one w a vs }))
-    (reads : (a n : ℕ) → Read (looks one w a n)) where
+module _ {S : Type 0} (w : Windows) (s : S) (Read : List ℕ → Type 0) (R : ℕ → S → List ℕ → Type 0) (Q : Outcome S Windows → Type 0)
+    (six : Q (record { reply = 6; state = s; memory = w })) (met : (r : ℕ) (t : S) (a : ℕ) (vs : List ℕ) → R r t vs → Q (record { reply = r; state = t; memory = puts both w a vs }))
+    (reads : (a n : ℕ) → Read (looks both w a n)) where
   missed : (r : ℕ) → r ≡ 6 → Q (record { reply = r; state = s; memory = w })
   missed r e = rw e six
 
-  pub perform-meets : (p : Plan S) → Answers Read R p → Q (perform one (refusing (shapeOf w)) s p w)
+  pub perform-meets : (p : Plan S) → Answers Read R p → Q (perform both (refusing (shapesOf w)) s p w)
   unfolding perform Answers
   perform-meets (answer r t a vs) h =
-      on Q (clear (refusing (shapeOf w)) a (length vs)) (λ e. met r t a vs h) (λ e. missed (worst (refusing (shapeOf w)) a (length vs)) (worst-six (shapeOf w) (length vs) a e))
+      on Q (clear (refusing (shapesOf w)) a (length vs)) (λ e. met r t a vs h) (λ e. missed (worst (refusing (shapesOf w)) a (length vs)) (worst-six (shapesOf w) (length vs) a e))
   perform-meets (read q a n k) h =
-      on Q (clear (refusing (shapeOf w)) a n) (λ e. perform-meets (k (looks one w a n)) (h .1 (looks one w a n) (reads a n)))
-      (λ e. missed (named q (worst (refusing (shapeOf w)) a n)) (ap (λ (c : ℕ). named q c) (worst-six (shapeOf w) n a e) ∙ (unfold named in (h .0))))
+      on Q (clear (refusing (shapesOf w)) a n) (λ e. perform-meets (k (looks both w a n)) (h .1 (looks both w a n) (reads a n)))
+      (λ e. missed (named q (worst (refusing (shapesOf w)) a n)) (ap (λ (c : ℕ). named q c) (worst-six (shapesOf w) n a e) ∙ (unfold named in (h .0))))

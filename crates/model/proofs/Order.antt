@@ -9,7 +9,7 @@ use lib.ListN.{length, getD}
 use borrow.Author.Tests.{le-ltb, lt-ltb, le-leb, lt-leb, ne-eqb}
 use Rattle.model.specs.Fill.{tab}
 use Rattle.model.specs.Registers.{rJ, rO, rG, sp, reg, admissible, goes, next, halted, withSpecial}
-use Rattle.model.specs.Memory.{Window, shapeOf, ruled, has, one}
+use Rattle.model.specs.Memory.{Windows, shapesOf, ruled, inside, both}
 use Rattle.model.specs.Plan.{Plan, answer, read, clear, named, looks, perform}
 use Rattle.model.specs.Opcodes.{armOf}
 use Rattle.model.specs.Said.{say, tell}
@@ -17,7 +17,7 @@ use Rattle.model.specs.Control.{yzOf}
 use Rattle.model.specs.Frames.{noFrame, misplaced, popRule, popFrame}
 use Rattle.model.specs.Contexts.{extent, saved, savedState, saveContext, below, unsaved, contextRest, contextCount, contextAt, unsaveContext}
 use Rattle.model.specs.Trips.{enabled, isLoaded, withAdded, tripTo, raised}
-use Rattle.model.specs.Step.{refusalOf, judged, refusing, planOf, stepPlan, stepOf, exceptionOf}
+use Rattle.model.specs.Step.{refusalOf, unruledBy, refusing, planOf, guarded, fromThree, stepPlan, stepOf, exceptionOf}
 use Rattle.model.specs.Order.{refusedBy, haltedBy, Passes, Packed, Counted, StepsInOrder}
 use Rattle.model.specs.declared.State.{State}
 use Rattle.model.proofs.Runs.{length-tab}
@@ -27,66 +27,66 @@ use Rattle.model.proofs.Rules.{has-clear}
 
 -- ---- 1 to 5
 
-one-first : (w : Window) (s : State) (op x y z : ℕ) → admissible s ≡ false → stepOf w s op x y z ≡ refusedBy 1 w s
-unfolding stepOf stepPlan judged tell
+one-first : (w : Windows) (s : State) (op x y z : ℕ) → admissible s ≡ false → stepOf w s op x y z ≡ refusedBy 1 w s
+unfolding stepOf stepPlan guarded unruledBy fromThree tell
 one-first w s op x y z e = rw e (said w s s 1)
 
-two-next : (w : Window) (s : State) (op x y z : ℕ) → admissible s ≡ true → ruled (shapeOf w) ≡ false → stepOf w s op x y z ≡ refusedBy 2 w s
-unfolding stepOf stepPlan judged tell
+two-next : (w : Windows) (s : State) (op x y z : ℕ) → admissible s ≡ true → ruled (shapesOf w) ≡ false → stepOf w s op x y z ≡ refusedBy 2 w s
+unfolding stepOf stepPlan guarded unruledBy fromThree tell
 two-next w s op x y z a e = rw (a, e) (said w s s 2)
 
-three-to-five : (w : Window) (s : State) (op x y z : ℕ) → Passes w s → refusalOf (armOf op) x y z ≢ 0 → stepOf w s op x y z ≡ refusedBy (refusalOf (armOf op) x y z) w s
-unfolding stepOf stepPlan judged tell
+three-to-five : (w : Windows) (s : State) (op x y z : ℕ) → Passes w s → refusalOf (armOf op) x y z ≢ 0 → stepOf w s op x y z ≡ refusedBy (refusalOf (armOf op) x y z) w s
+unfolding stepOf stepPlan guarded unruledBy fromThree tell
 three-to-five w s op x y z h n = rw (h .admitted, h .windowed, ne-eqb (refusalOf (armOf op) x y z) 0 n) (said w s s (refusalOf (armOf op) x y z))
 
 -- ---- runs
 
-there : (w : Window) (s : State) (a n : ℕ) (k : List ℕ → Plan State) → clear (refusing (shapeOf w)) a n ≡ true
-    → performOn w s (read 6 a n k) ≡ performOn w s (k (looks one w a n))
+there : (w : Windows) (s : State) (a n : ℕ) (k : List ℕ → Plan State) → clear (refusing (shapesOf w)) a n ≡ true
+    → performOn w s (read 6 a n k) ≡ performOn w s (k (looks both w a n))
 unfolding perform
 there w s a n k e = rw e
 
-missed : (w : Window) (s : State) (a n : ℕ) (k : List ℕ → Plan State) → clear (refusing (shapeOf w)) a n ≡ false → performOn w s (read 6 a n k) ≡ refusedBy 6 w s
+missed : (w : Windows) (s : State) (a n : ℕ) (k : List ℕ → Plan State) → clear (refusing (shapesOf w)) a n ≡ false → performOn w s (read 6 a n k) ≡ refusedBy 6 w s
 unfolding perform named
-missed w s a n k e = rw (e, worst-six (shapeOf w) n a e)
+missed w s a n k e = rw (e, worst-six (shapesOf w) n a e)
 
-missed-store : (w : Window) (s t : State) (a : ℕ) (vs : List ℕ) → clear (refusing (shapeOf w)) a (length vs) ≡ false → performOn w s (answer 0 t a vs) ≡ refusedBy 6 w s
+missed-store : (w : Windows) (s t : State) (a : ℕ) (vs : List ℕ) → clear (refusing (shapesOf w)) a (length vs) ≡ false → performOn w s (answer 0 t a vs) ≡ refusedBy 6 w s
 unfolding perform
-missed-store w s t a vs e = rw (e, worst-six (shapeOf w) (length vs) a e)
+missed-store w s t a vs e = rw (e, worst-six (shapesOf w) (length vs) a e)
 
-one-there : (w : Window) (a : ℕ) (b : Bool) → has (shapeOf w) a ≡ b → clear (refusing (shapeOf w)) a 1 ≡ b
-one-there w a b e = has-clear (shapeOf w) a ∙ e
+one-there : (w : Windows) (a : ℕ) (b : Bool) → inside (shapesOf w) a ≡ b → clear (refusing (shapesOf w)) a 1 ≡ b
+one-there w a b e = has-clear (shapesOf w) a ∙ e
 
 -- ---- SAVE
 
-save-open : (w : Window) (s : State) (x y z : ℕ) → Passes w s → stepOf w s 0xFA x y z ≡ performOn w s (saveContext s x)
+save-open : (w : Windows) (s : State) (x y z : ℕ) → Passes w s → stepOf w s 0xFA x y z ≡ performOn w s (saveContext s x)
 unfolding planOf refusalOf armOf
 save-open w s x y z h = step-open w s 0xFA x y z (h .admitted) (h .windowed) refl
 
-save-thirteen : (w : Window) (s : State) (x y z : ℕ) → Passes w s → x < sp s rG → stepOf w s 0xFA x y z ≡ haltedBy 13 w s
+save-thirteen : (w : Windows) (s : State) (x y z : ℕ) → Passes w s → x < sp s rG → stepOf w s 0xFA x y z ≡ haltedBy 13 w s
 unfolding saveContext tell
 save-thirteen w s x y z h l = save-open w s x y z h ∙ rw (lt-ltb x (sp s rG) l) (said w s (halted s) 13)
 
-save-six : (w : Window) (s : State) (x y z : ℕ) → Passes w s → sp s rG ≤ x → clear (refusing (shapeOf w)) (sp s rO) (extent s) ≡ false → stepOf w s 0xFA x y z ≡ refusedBy 6 w s
+save-six : (w : Windows) (s : State) (x y z : ℕ) → Passes w s → sp s rG ≤ x → clear (refusing (shapesOf w)) (sp s rO) (extent s) ≡ false → stepOf w s 0xFA x y z ≡ refusedBy 6 w s
 unfolding saveContext
 save-six w s x y z h l e =
     save-open w s x y z h ∙ rw (le-ltb x (sp s rG) l) (missed-store w s (next (savedState s x)) (sp s rO) (tab 0 (extent s) (saved s)) (rw (length-tab (extent s) 0 (saved s)) e))
 
 -- ---- POP
 
-pop-open : (w : Window) (s : State) (x y z : ℕ) → Passes w s → stepOf w s 0xF8 x y z ≡ performOn w s (popFrame s x ((sp s rJ + 4 * yzOf y z) % 2 ^ 64))
+pop-open : (w : Windows) (s : State) (x y z : ℕ) → Passes w s → stepOf w s 0xF8 x y z ≡ performOn w s (popFrame s x ((sp s rJ + 4 * yzOf y z) % 2 ^ 64))
 unfolding planOf refusalOf armOf
 pop-open w s x y z h = step-open w s 0xF8 x y z (h .admitted) (h .windowed) refl
 
-pop-no-frame : (w : Window) (s : State) (x y z : ℕ) → Passes w s → noFrame s ≡ true → stepOf w s 0xF8 x y z ≡ refusedBy 0 w (goes s ((sp s rJ + 4 * yzOf y z) % 2 ^ 64))
+pop-no-frame : (w : Windows) (s : State) (x y z : ℕ) → Passes w s → noFrame s ≡ true → stepOf w s 0xF8 x y z ≡ refusedBy 0 w (goes s ((sp s rJ + 4 * yzOf y z) % 2 ^ 64))
 unfolding popFrame tell
 pop-no-frame w s x y z h e = pop-open w s x y z h ∙ rw e (said w s (goes s ((sp s rJ + 4 * yzOf y z) % 2 ^ 64)) 0)
 
-pop-twelve : (w : Window) (s : State) (x y z : ℕ) → Passes w s → noFrame s ≡ false → misplaced s ≡ true → stepOf w s 0xF8 x y z ≡ haltedBy 12 w s
+pop-twelve : (w : Windows) (s : State) (x y z : ℕ) → Passes w s → noFrame s ≡ false → misplaced s ≡ true → stepOf w s 0xF8 x y z ≡ haltedBy 12 w s
 unfolding popFrame tell
 pop-twelve w s x y z h a b = pop-open w s x y z h ∙ rw (a, b) (said w s (halted s) 12)
 
-pop-six : (w : Window) (s : State) (x y z : ℕ) → Passes w s → noFrame s ≡ false → misplaced s ≡ false → has (shapeOf w) (sp s rO - 8) ≡ false → stepOf w s 0xF8 x y z ≡ refusedBy 6 w s
+pop-six : (w : Windows) (s : State) (x y z : ℕ) → Passes w s → noFrame s ≡ false → misplaced s ≡ false → inside (shapesOf w) (sp s rO - 8) ≡ false → stepOf w s 0xF8 x y z ≡ refusedBy 6 w s
 unfolding popFrame popRule
 pop-six w s x y z h a b e = pop-open w s x y z h ∙ rw (a, b) (missed w s (sp s rO - 8) 1 _ (one-there w (sp s rO - 8) false e))
 
@@ -95,42 +95,42 @@ pop-six w s x y z h a b e = pop-open w s x y z h ∙ rw (a, b) (missed w s (sp s
 found : State → ℕ → ℕ → ℕ → ℕ → List ℕ → State
 found s o g a l vs = next (unsaved s o g a l vs)
 
-unsave-open : (w : Window) (s : State) (x y z : ℕ) → Passes w s → stepOf w s 0xFB x y z ≡ performOn w s (unsaveContext s (reg s z))
+unsave-open : (w : Windows) (s : State) (x y z : ℕ) → Passes w s → stepOf w s 0xFB x y z ≡ performOn w s (unsaveContext s (reg s z))
 unfolding planOf refusalOf armOf
 unsave-open w s x y z h = step-open w s 0xFB x y z (h .admitted) (h .windowed) refl
 
-unsave-packed : (w : Window) (s : State) (x y z : ℕ) → Passes w s → has (shapeOf w) (reg s z) ≡ false → stepOf w s 0xFB x y z ≡ refusedBy 6 w s
+unsave-packed : (w : Windows) (s : State) (x y z : ℕ) → Passes w s → inside (shapesOf w) (reg s z) ≡ false → stepOf w s 0xFB x y z ≡ refusedBy 6 w s
 unfolding unsaveContext contextAt
 unsave-packed w s x y z h e = unsave-open w s x y z h ∙ missed w s (reg s z) 1 _ (one-there w (reg s z) false e)
 
 -- the packed octabyte is there: what follows it
-packed-open : (w : Window) (s : State) (x y z g a : ℕ) → Passes w s → Packed w (reg s z) g a
+packed-open : (w : Windows) (s : State) (x y z g a : ℕ) → Passes w s → Packed w (reg s z) g a
     → stepOf w s 0xFB x y z ≡ performOn w s (contextCount (halted s) (found s) (reg s z) g a)
 unfolding unsaveContext contextAt looks found
 packed-open w s x y z g a h p =
     unsave-open w s x y z h ∙ there w s (reg s z) 1 _ (one-there w (reg s z) true (p .there))
     ∙ rw (p .threshold, p .status)
 
-unsave-fourteen : (w : Window) (s : State) (x y z g a : ℕ) → Passes w s → Packed w (reg s z) g a → g < 32 → stepOf w s 0xFB x y z ≡ haltedBy 14 w s
+unsave-fourteen : (w : Windows) (s : State) (x y z g a : ℕ) → Passes w s → Packed w (reg s z) g a → g < 32 → stepOf w s 0xFB x y z ≡ haltedBy 14 w s
 unfolding contextCount
 unsave-fourteen w s x y z g a h p l = packed-open w s x y z g a h p ∙ rw (lt-leb 32 g l) (said w s (halted s) 14)
 
-unsave-fifteen : (w : Window) (s : State) (x y z g a : ℕ) → Passes w s → Packed w (reg s z) g a → 32 ≤ g → g ≤ 255 → 0x3FFFF < a → stepOf w s 0xFB x y z ≡ haltedBy 15 w s
+unsave-fifteen : (w : Windows) (s : State) (x y z g a : ℕ) → Passes w s → Packed w (reg s z) g a → 32 ≤ g → g ≤ 255 → 0x3FFFF < a → stepOf w s 0xFB x y z ≡ haltedBy 15 w s
 unfolding contextCount
 unsave-fifteen w s x y z g a h p l m b = packed-open w s x y z g a h p ∙ rw (le-leb 32 g l, le-leb g 255 m, lt-leb a 0x3FFFF b) (said w s (halted s) 15)
 
 -- rG and rA pass: the count
-count-open : (w : Window) (s : State) (x y z g a : ℕ) → Passes w s → Packed w (reg s z) g a → 32 ≤ g → g ≤ 255 → a ≤ 0x3FFFF
+count-open : (w : Windows) (s : State) (x y z g a : ℕ) → Passes w s → Packed w (reg s z) g a → 32 ≤ g → g ≤ 255 → a ≤ 0x3FFFF
     → stepOf w s 0xFB x y z ≡ performOn w s (read 6 (below (reg s z) (269 - g)) 1 (λ v. contextRest (halted s) (found s) (reg s z) g a (getD v 0 0)))
 unfolding contextCount
 count-open w s x y z g a h p l m b = packed-open w s x y z g a h p ∙ rw (le-leb 32 g l, le-leb g 255 m, le-leb a 0x3FFFF b)
 
-unsave-count : (w : Window) (s : State) (x y z g a : ℕ) → Passes w s → Packed w (reg s z) g a → 32 ≤ g → g ≤ 255 → a ≤ 0x3FFFF
-    → has (shapeOf w) (below (reg s z) (269 - g)) ≡ false → stepOf w s 0xFB x y z ≡ refusedBy 6 w s
+unsave-count : (w : Windows) (s : State) (x y z g a : ℕ) → Passes w s → Packed w (reg s z) g a → 32 ≤ g → g ≤ 255 → a ≤ 0x3FFFF
+    → inside (shapesOf w) (below (reg s z) (269 - g)) ≡ false → stepOf w s 0xFB x y z ≡ refusedBy 6 w s
 unsave-count w s x y z g a h p l m b e =
     count-open w s x y z g a h p l m b ∙ missed w s (below (reg s z) (269 - g)) 1 _ (one-there w (below (reg s z) (269 - g)) false e)
 
-rest-open : (w : Window) (s : State) (x y z g a l : ℕ) → Passes w s → Counted w (reg s z) g a l
+rest-open : (w : Windows) (s : State) (x y z g a l : ℕ) → Passes w s → Counted w (reg s z) g a l
     → stepOf w s 0xFB x y z ≡ performOn w s (contextRest (halted s) (found s) (reg s z) g a l)
 unfolding looks
 rest-open w s x y z g a l h p =
@@ -138,12 +138,12 @@ rest-open w s x y z g a l h p =
     ∙ there w s (below (reg s z) (269 - g)) 1 _ (one-there w (below (reg s z) (269 - g)) true (p .count-there))
     ∙ ap (λ (n : ℕ). performOn w s (contextRest (halted s) (found s) (reg s z) g a n)) (p .count)
 
-unsave-sixteen : (w : Window) (s : State) (x y z g a l : ℕ) → Passes w s → Counted w (reg s z) g a l → g < l → stepOf w s 0xFB x y z ≡ haltedBy 16 w s
+unsave-sixteen : (w : Windows) (s : State) (x y z g a l : ℕ) → Passes w s → Counted w (reg s z) g a l → g < l → stepOf w s 0xFB x y z ≡ haltedBy 16 w s
 unfolding contextRest
 unsave-sixteen w s x y z g a l h p b = rest-open w s x y z g a l h p ∙ rw (lt-leb l g b) (said w s (halted s) 16)
 
-unsave-rest : (w : Window) (s : State) (x y z g a l : ℕ) → Passes w s → Counted w (reg s z) g a l → l ≤ g
-    → clear (refusing (shapeOf w)) (below (reg s z) (l + 269 - g)) (l + 270 - g) ≡ false → stepOf w s 0xFB x y z ≡ refusedBy 6 w s
+unsave-rest : (w : Windows) (s : State) (x y z g a l : ℕ) → Passes w s → Counted w (reg s z) g a l → l ≤ g
+    → clear (refusing (shapesOf w)) (below (reg s z) (l + 269 - g)) (l + 270 - g) ≡ false → stepOf w s 0xFB x y z ≡ refusedBy 6 w s
 unfolding contextRest
 unsave-rest w s x y z g a l h p b e = rest-open w s x y z g a l h p ∙ rw (le-leb l g b) (missed w s (below (reg s z) (l + 269 - g)) (l + 270 - g) _ e)
 

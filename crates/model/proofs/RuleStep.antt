@@ -1,6 +1,7 @@
 -- Outside the departures the rule of each arm is its plan, and so Knuth's step is the step. Rules has the laws of each rule.
 use mathlib.Core.Path.{_≡_, refl, sym, ap, _∙_}
 use mathlib.Core.Bool.{Bool, true, false, cond}
+use mathlib.Core.List.{[]}
 use Prim.Native.Nat.{ℕ, _+_, _-_, _*_, _%_, _^_, _≤_}
 use native.Mathlib.Omega.{arith}
 use lib.Dec.{leb, eqb}
@@ -9,8 +10,8 @@ use lib.Seq.{set-getD}
 use borrow.Author.Tests.{leb-true, le-ltb, lt-leb}
 use Rattle.model.specs.Fill.{tab}
 use Rattle.model.specs.Octa.{octa}
-use Rattle.model.specs.Registers.{rJ, rO, rS, rG, sp, reg, admissible, next, withSpecial, spilled}
-use Rattle.model.specs.Memory.{Window, shapeOf, ruled, one}
+use Rattle.model.specs.Registers.{withParts, rJ, rO, rS, rG, sp, reg, admissible, next, withSpecial, spilled}
+use Rattle.model.specs.Memory.{Windows, shapesOf, ruled, both}
 use Rattle.model.specs.Plan.{Plan, answer, Outcome, perform, mapPlan, mapOutcome}
 use Rattle.model.specs.Opcodes.{Operand, register, immediate, Arm, branch, jump, getAddress, go, pushJump, pushGo, pop, put, get, save, unsave, sync, swym, trip, trap, none, armOf}
 use Rattle.model.specs.Said.{say, tell}
@@ -19,8 +20,8 @@ use Rattle.model.specs.Frames.{popRule, noFrame, misplaced, popFrame}
 use Rattle.model.specs.Contexts.{extent, saved, savedState, saveContext}
 use Rattle.model.specs.System.{putRefusal, putState, putSpecial, syncOf}
 use Rattle.model.specs.Trips.{wordOf, isLoaded, tripRule, tripTo}
-use Rattle.model.specs.Step.{refusalOf, judged, refusing, planOf, stepPlan, stepOf}
-use Rattle.model.specs.Rules.{operandRule, sumRule, After, goesOn, interrupts, unsaveRestRule, unsaveCountRule, unsaveRule, ruleOf, judgedRule, stepRule, settled, settledRule}
+use Rattle.model.specs.Step.{refusalOf, unruledBy, refusing, planOf, guarded, fromThree, stepPlan, stepOf}
+use Rattle.model.specs.Rules.{operandRule, sumRule, After, goesOn, interrupts, unsaveRestRule, unsaveCountRule, unsaveRule, ruleOf, stepRule, settled, settledRule}
 use Rattle.model.specs.Departures.{ReadsZero, ReadsAlike, contextTaken, Outside, AtTop}
 use Rattle.model.specs.declared.State.{State}
 use Rattle.model.proofs.Plan.{perform-map, perform-left}
@@ -28,19 +29,15 @@ use Rattle.model.proofs.Rules.{got-same, pop-plans, push-plans, unsave-
 
 -- ---- each arm
 
--- what follows 1 and 2
-abbrev armPlan : State → Arm → ℕ → ℕ → ℕ → ℕ → Plan State
-armPlan s a op x y z = cond (eqb (refusalOf a x y z) 0) (planOf s a op x y z) (tell (say (refusalOf a x y z) s))
-
-ArmSame : Window → State → Arm → ℕ → ℕ → ℕ → ℕ → Type 0
+ArmSame : Windows → State → Arm → ℕ → ℕ → ℕ → ℕ → Type 0
 ArmSame w s a op x y z =
-    perform one (refusing (shapeOf w)) (goesOn s) (mapPlan (settled a) (ruleOf s a op x y z)) w
-    ≡ mapOutcome goesOn (perform one (refusing (shapeOf w)) s (armPlan s a op x y z) w)
+    perform both (refusing (shapesOf w)) (goesOn s) (mapPlan (settled a) (ruleOf s a op x y z)) w
+    ≡ mapOutcome goesOn (perform both (refusing (shapesOf w)) s (fromThree s a op x y z) w)
 
-by-plans : (w : Window) (s : State) (a : Arm) (op x y z : ℕ) → mapPlan (settled a) (ruleOf s a op x y z) ≡ mapPlan goesOn (armPlan s a op x y z) → ArmSame w s a op x y z
+by-plans : (w : Windows) (s : State) (a : Arm) (op x y z : ℕ) → mapPlan (settled a) (ruleOf s a op x y z) ≡ mapPlan goesOn (fromThree s a op x y z) → ArmSame w s a op x y z
 unfolding ArmSame
 by-plans w s a op x y z e =
-    ap (λ (p : Plan After). perform one (refusing (shapeOf w)) (goesOn s) p w) e ∙ perform-map one goesOn (refusing (shapeOf w)) s (armPlan s a op x y z) w
+    ap (λ (p : Plan After). perform both (refusing (shapesOf w)) (goesOn s) p w) e ∙ perform-map both goesOn (refusing (shapesOf w)) s (fromThree s a op x y z) w
 
 sum-same : (s : State) (o : Operand) (y z : ℕ) → ReadsZero s y → operandOf s o z ≡ operandRule s o z → sumRule s o y z ≡ sumOf s o y z
 sum-same s o y z e h = rw (e, h)
@@ -70,14 +67,14 @@ pub trip-same : (s : State) (k word u v : ℕ) → isLoaded s k ≡ true → tri
 unfolding tripTo
 trip-same s k word u v e = rw e
 
-unsave-arm : (w : Window) (s : State) (op x y z : ℕ) → x ≡ 0 → y ≡ 0 → ReadsZero s z → octa (reg s z) ≡ reg s z → contextTaken w (reg s z) ≡ true
+unsave-arm : (w : Windows) (s : State) (op x y z : ℕ) → x ≡ 0 → y ≡ 0 → ReadsZero s z → octa (reg s z) ≡ reg s z → contextTaken w (reg s z) ≡ true
     → ArmSame w s unsave op x y z
-unfolding ArmSame ruleOf planOf refusalOf mapPlan settled unsaveRule unsaveCountRule unsaveRestRule
+unfolding ArmSame ruleOf planOf refusalOf fromThree mapPlan settled unsaveRule unsaveCountRule unsaveRestRule
 unsave-arm w s op x y z a b r o e =
-    rw (a, b, ← r) (perform-map one goesOn (refusing (shapeOf w)) s (unsaveRule s (reg s z)) w ∙ ap (λ (q : Outcome State Window). mapOutcome goesOn q) (sym (unsave-same w s (reg s z) o e)))
+    rw (a, b, ← r) (perform-map both goesOn (refusing (shapesOf w)) s (unsaveRule s (reg s z)) w ∙ ap (λ (q : Outcome State Windows). mapOutcome goesOn q) (sym (unsave-same w s (reg s z) o e)))
 
-arm-same : (w : Window) (s : State) (a : Arm) (op x y z : ℕ) → Outside w s a x y z → ArmSame w s a op x y z
-unfolding ruleOf planOf refusalOf mapPlan settled tell ReadsAlike
+arm-same : (w : Windows) (s : State) (a : Arm) (op x y z : ℕ) → Outside w s a x y z → ArmSame w s a op x y z
+unfolding ruleOf planOf refusalOf fromThree mapPlan settled tell ReadsAlike
 arm-same w s (branch c d) op x y z h = by-plans w s (branch c d) op x y z (rw (h .reads))
 arm-same w s (jump d) op x y z h = by-plans w s (jump d) op x y z refl
 arm-same w s (getAddress d) op x y z h = by-plans w s (getAddress d) op x y z refl
@@ -99,26 +96,28 @@ arm-same w s none op x y z h = by-plans w s none op x y z refl
 
 -- ---- the step
 
-pub step-same : (w : Window) (s : State) (op x y z : ℕ) → Outside w s (armOf op) x y z → mapOutcome goesOn (stepOf w s op x y z) ≡ settledRule w s op x y z
-unfolding stepOf stepPlan judged settledRule judgedRule
-step-same w s op x y z h = go (admissible s) (ruled (shapeOf w))
+pub step-same : (w : Windows) (s : State) (op x y z : ℕ) → Outside w s (armOf op) x y z → mapOutcome goesOn (stepOf w s op x y z) ≡ settledRule w s op x y z
+unfolding stepOf stepPlan settledRule guarded mapPlan
+step-same w s op x y z h = go (admissible s) (eqb (unruledBy (shapesOf w)) 0)
   where
     a : Arm
     a = armOf op
 
+    n : ℕ
+    n = unruledBy (shapesOf w)
+
     go : (b c : Bool)
-        → mapOutcome goesOn (perform one (refusing (shapeOf w)) s
-        (cond (eqb (cond b (cond c (refusalOf a x y z) 2) 1) 0) (planOf s a op x y z) (tell (say (cond b (cond c (refusalOf a x y z) 2) 1) s))) w)
-        ≡ perform one (refusing (shapeOf w)) (goesOn s)
-        (cond b (cond c (mapPlan (settled a) (ruleOf s a op x y z)) (mapPlan goesOn (tell (say 2 s)))) (mapPlan goesOn (tell (say 1 s)))) w
+        → mapOutcome goesOn (perform both (refusing (shapesOf w)) s (cond b (cond c (fromThree s a op x y z) (answer n s 0 [])) (answer 1 s 0 [])) w)
+        ≡ perform both (refusing (shapesOf w)) (goesOn s)
+        (cond b (cond c (mapPlan (settled a) (ruleOf s a op x y z)) (answer n (goesOn s) 0 [])) (answer 1 (goesOn s) 0 [])) w
     go true true = sym (unfold ArmSame in arm-same w s a op x y z h)
-    go true false = sym (perform-map one goesOn (refusing (shapeOf w)) s (tell (say 2 s)) w)
-    go false c = sym (perform-map one goesOn (refusing (shapeOf w)) s (tell (say 1 s)) w)
+    go true false = sym (perform-map both goesOn (refusing (shapesOf w)) s (answer n s 0 []) w)
+    go false c = sym (perform-map both goesOn (refusing (shapesOf w)) s (answer 1 s 0 []) w)
 
 -- where rS is rO nothing is to be settled
 pub spilled-same : (s : State) → sp s rS ≡ sp s rO → spilled s ≡ s
 unfolding spilled withSpecial
-spilled-same s e = λ i. record { general = s .general; special = same i; pc = s .pc; halt = s .halt; marks = s .marks }
+spilled-same s e = λ i. withParts s (s .general) (same i)
   where
     same : set (s .special) rS (sp s rO) ≡ s .special
     same = rw (← e) (set-getD (s .special) rS 0)
@@ -145,23 +144,24 @@ settled-top trip t h = refl
 settled-top trap t h = refl
 settled-top none t h = refl
 
-pub rule-settled : (w : Window) (s : State) (op x y z : ℕ) → AtTop (stepRule w s op x y z .state) → settledRule w s op x y z ≡ stepRule w s op x y z
-unfolding stepRule settledRule judgedRule
-rule-settled w s op x y z = go (admissible s) (ruled (shapeOf w))
+pub rule-settled : (w : Windows) (s : State) (op x y z : ℕ) → AtTop (stepRule w s op x y z .state) → settledRule w s op x y z ≡ stepRule w s op x y z
+unfolding stepRule settledRule guarded
+rule-settled w s op x y z = go (admissible s) (eqb (unruledBy (shapesOf w)) 0)
   where
-    two : Plan After
-    two = mapPlan goesOn (tell (say 2 s))
+    refused : ℕ → Plan After
+    refused n = answer n (goesOn s) 0 []
 
-    one' : Plan After
-    one' = mapPlan goesOn (tell (say 1 s))
+    n : ℕ
+    n = unruledBy (shapesOf w)
 
     r : Plan After
     r = ruleOf s (armOf op) op x y z
 
-    at : Plan After → Outcome After Window
-    at p = perform one (refusing (shapeOf w)) (goesOn s) p w
+    at : Plan After → Outcome After Windows
+    at p = perform both (refusing (shapesOf w)) (goesOn s) p w
 
-    go : (b c : Bool) → AtTop (at (cond b (cond c r two) one') .state) → at (cond b (cond c (mapPlan (settled (armOf op)) r) two) one') ≡ at (cond b (cond c r two) one')
-    go true true h = perform-left one (settled (armOf op)) (refusing (shapeOf w)) (goesOn s) r w (settled-top (armOf op) (at r .state) h)
+    go : (b c : Bool) → AtTop (at (cond b (cond c r (refused n)) (refused 1)) .state)
+        → at (cond b (cond c (mapPlan (settled (armOf op)) r) (refused n)) (refused 1)) ≡ at (cond b (cond c r (refused n)) (refused 1))
+    go true true h = perform-left both (settled (armOf op)) (refusing (shapesOf w)) (goesOn s) r w (settled-top (armOf op) (at r .state) h)
     go true false h = refl
     go false c h = refl

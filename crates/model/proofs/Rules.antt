@@ -11,8 +11,8 @@ use lib.Seq.{set-set, getD-set-other}
 use borrow.Author.Tests.{leb-true, leb-false, ltb-true, eqb-true, lt-ltb, le-leb, lt-leb, eq-eqb, not-false}
 use Rattle.model.specs.Fill.{over, tab}
 use Rattle.model.specs.Octa.{octa}
-use Rattle.model.specs.Registers.{rO, rG, rL, stackStart, sp, reg, goes, next, halted, withSpecial, spilled, cleared, claimLocal, isMarginal, MarginalZero}
-use Rattle.model.specs.Memory.{Window, Shape, shapeOf, has, one}
+use Rattle.model.specs.Registers.{withParts, rO, rG, rL, stackStart, sp, reg, goes, next, halted, withSpecial, spilled, cleared, claimLocal, isMarginal, MarginalZero}
+use Rattle.model.specs.Memory.{Windows, Shapes, shapesOf, inside, both}
 use Rattle.model.specs.Plan.{Plan, answer, read, Outcome, worst, clear, look, looks, perform, mapPlan}
 use Rattle.model.specs.Opcodes.{go, pop}
 use Rattle.model.specs.Frames.{hole, framed, framedRule, pushed, pushFrame, unslide, popped, popTo, popRule, countOf, noFrame, misplaced}
@@ -112,7 +112,7 @@ top-below s k a b = omega arith
 
 popped-same : (s : State) (x h : ℕ) (ls : List ℕ) → 8 * (h + 1) ≤ sp s rO → sp s rO < 2 ^ 64 → poppedRule s x h ls ≡ unslide s x h ls
 unfolding poppedRule withSpecial unslide
-popped-same s x h ls a b = λ i. record { general = unslide s x h ls .general; special = same i; pc = s .pc; halt = s .halt; marks = s .marks }
+popped-same s x h ls a b = λ i. withParts s (unslide s x h ls .general) (same i)
   where
     same : set (set (set (s .special) rL (min (h + countOf s x) (sp s rG))) rO (sp s rO - 8 * (h + 1))) rO (belowTop s (h + 1))
         ≡ set (set (s .special) rL (min (h + countOf s x) (sp s rG))) rO (sp s rO - 8 * (h + 1))
@@ -148,9 +148,9 @@ push-plans s x t h = λ i. answer 0 (goesOn (goes (pushed s (hole s x)) t)) (sp 
 
 -- ---- UNSAVE
 
-pub has-clear : (v : Shape) (a : ℕ) → clear (refusing v) a 1 ≡ has v a
+pub has-clear : (v : Shapes) (a : ℕ) → clear (refusing v) a 1 ≡ inside v a
 unfolding refusing worst
-has-clear v a = go (has v a)
+has-clear v a = go (inside v a)
   where
     go : (b : Bool) → eqb (max (cond b 0 6) 0) 0 ≡ b
     go true = refl
@@ -162,13 +162,9 @@ special-rl s o g a l vs = refl
 
 unsaved-same : (s : State) (o g a l : ℕ) (vs : List ℕ) → l ≤ g → unsavedRule s o g a l vs ≡ unsaved s o g a l vs
 unfolding unsavedRule unsaved unsavedUnspilled unsavedGeneralRule unsavedGeneral unsavedSpecialRule
-unsaved-same s o g a l vs h = λ i. spilled (record {
-  general = over (λ k. general-at k i) 0 256 (s .general);
-  special = over (λ k. special-at k i) 0 32 (s .special);
-  pc = s .pc;
-  halt = s .halt;
-  marks = s .marks;
-})
+unsaved-same s o g a l vs h = λ i. spilled (withParts s
+    (over (λ k. general-at k i) 0 256 (s .general))
+    (over (λ k. special-at k i) 0 32 (s .special)))
   where
     least : min l g ≡ l
     least = omega arith
@@ -183,11 +179,11 @@ unsaved-same s o g a l vs h = λ i. spilled (record {
     special-at k = rw least (on (λ (v : ℕ). v ≡ unsavedSpecial s o g a l vs k) (eqb k rL) (λ e. at-rl k (eqb-true k rL e)) (λ e. refl))
 
 -- two plans that read the same run and agree on what is there
-read-same : (j : ℕ → ℕ) (s : State) (q a n : ℕ) (k l : List ℕ → Plan State) (w : Window)
-    → (clear j a n ≡ true → perform one j s (k (looks one w a n)) w ≡ perform one j s (l (looks one w a n)) w)
-    → perform one j s (read q a n k) w ≡ perform one j s (read q a n l) w
+read-same : (j : ℕ → ℕ) (s : State) (q a n : ℕ) (k l : List ℕ → Plan State) (w : Windows)
+    → (clear j a n ≡ true → perform both j s (k (looks both w a n)) w ≡ perform both j s (l (looks both w a n)) w)
+    → perform both j s (read q a n k) w ≡ perform both j s (read q a n l) w
 unfolding perform
-read-same j s q a n k l w h = on-both (λ (x y : Outcome State Window). x ≡ y) (clear j a n) h (λ e. refl)
+read-same j s q a n k l w h = on-both (λ (x y : Outcome State Windows). x ≡ y) (clear j a n) h (λ e. refl)
 
 rest-plans : (s : State) (p g a l : ℕ) → leb l g ≡ true → contextRest (halted s) (λ o g a l vs. next (unsaved s o g a l vs)) p g a l ≡ unsaveRestRule s p g a l
 unfolding contextRest unsaveRestRule
@@ -197,37 +193,37 @@ rest-plans s p g a l e = rw e (λ i. read 6 (below p (l + 269 - g)) (l + 270 - g
 byte-count : (g l : ℕ) → leb l g ≡ true → leb g 255 ≡ true → l % 256 ≡ l
 byte-count g l e c = let a : l ≤ g = leb-true _ _ e in let b : g ≤ 255 = leb-true _ _ c in omega arith
 
-module _ (w : Window) (s : State) where
+module _ (w : Windows) (s : State) where
   count-same : (p g a : ℕ) → leb 32 g ≡ true → leb g 255 ≡ true → leb a 0x3FFFF ≡ true → countTaken w p g ≡ true
-      → perform one (refusing (shapeOf w)) s (contextCount (halted s) (λ o g a l vs. next (unsaved s o g a l vs)) p g a) w
-      ≡ perform one (refusing (shapeOf w)) s (unsaveCountRule s p g a) w
+      → perform both (refusing (shapesOf w)) s (contextCount (halted s) (λ o g a l vs. next (unsaved s o g a l vs)) p g a) w
+      ≡ perform both (refusing (shapesOf w)) s (unsaveCountRule s p g a) w
   unfolding contextCount unsaveCountRule looks countTaken
-  count-same p g a b c d e = rw (b, c, d) (read-same (refusing (shapeOf w)) s 6 (below p (269 - g)) 1
+  count-same p g a b c d e = rw (b, c, d) (read-same (refusing (shapesOf w)) s 6 (below p (269 - g)) 1
       (λ v. contextRest (halted s) (λ o g a l vs. next (unsaved s o g a l vs)) p g a (getD v 0 0)) (λ v. unsaveRestRule s p g a (getD v 0 0 % 256)) w
-      (λ t. let m : leb (look one w (below p (269 - g))) g ≡ true = rw (sym (has-clear (shapeOf w) (below p (269 - g))) ∙ t) at e in
-      ap (λ (q : Plan State). perform one (refusing (shapeOf w)) s q w) (rest-plans s p g a (look one w (below p (269 - g))) m
-      ∙ ap (λ (l : ℕ). unsaveRestRule s p g a l) (sym (byte-count g (look one w (below p (269 - g))) m c)))))
+      (λ t. let m : leb (look both w (below p (269 - g))) g ≡ true = rw (sym (has-clear (shapesOf w) (below p (269 - g))) ∙ t) at e in
+      ap (λ (q : Plan State). perform both (refusing (shapesOf w)) s q w) (rest-plans s p g a (look both w (below p (269 - g))) m
+      ∙ ap (λ (l : ℕ). unsaveRestRule s p g a l) (sym (byte-count g (look both w (below p (269 - g))) m c)))))
 
   pub unsave-same : (p : ℕ) → octa p ≡ p → contextTaken w p ≡ true
-      → perform one (refusing (shapeOf w)) s (unsaveContext s p) w ≡ perform one (refusing (shapeOf w)) s (unsaveRule s p) w
+      → perform both (refusing (shapesOf w)) s (unsaveContext s p) w ≡ perform both (refusing (shapesOf w)) s (unsaveRule s p) w
   unfolding unsaveContext contextAt unsaveRule looks contextTaken
-  unsave-same p o e = rw o (read-same (refusing (shapeOf w)) s 6 p 1
+  unsave-same p o e = rw o (read-same (refusing (shapesOf w)) s 6 p 1
       (λ v. contextCount (halted s) (λ o g a l vs. next (unsaved s o g a l vs)) p (getD v 0 0 / 2 ^ 56) (getD v 0 0 % 2 ^ 56))
       (λ v. unsaveCountRule s p (getD v 0 0 / 2 ^ 56) (getD v 0 0 % 2 ^ 18)) w
-      (λ t. taken (rw (sym (has-clear (shapeOf w) p) ∙ t) at e)))
+      (λ t. taken (rw (sym (has-clear (shapesOf w) p) ∙ t) at e)))
     where
       v : ℕ
-      v = look one w p
+      v = look both w p
 
       mask : v % 2 ^ 56 ≤ 0x3FFFF → v % 2 ^ 56 ≡ v % 2 ^ 18
       mask h = omega arith
 
       taken : (leb 32 (v / 2 ^ 56) && (leb (v / 2 ^ 56) 255 && (leb (v % 2 ^ 56) 0x3FFFF && countTaken w p (v / 2 ^ 56)))) ≡ true
-          → perform one (refusing (shapeOf w)) s (contextCount (halted s) (λ o g a l vs. next (unsaved s o g a l vs)) p (v / 2 ^ 56) (v % 2 ^ 56)) w
-          ≡ perform one (refusing (shapeOf w)) s (unsaveCountRule s p (v / 2 ^ 56) (v % 2 ^ 18)) w
+          → perform both (refusing (shapesOf w)) s (contextCount (halted s) (λ o g a l vs. next (unsaved s o g a l vs)) p (v / 2 ^ 56) (v % 2 ^ 56)) w
+          ≡ perform both (refusing (shapesOf w)) s (unsaveCountRule s p (v / 2 ^ 56) (v % 2 ^ 18)) w
       taken h =
           let h1 : (leb (v / 2 ^ 56) 255 && (leb (v % 2 ^ 56) 0x3FFFF && countTaken w p (v / 2 ^ 56))) ≡ true = and-right (leb 32 (v / 2 ^ 56)) _ h in
           let h2 : (leb (v % 2 ^ 56) 0x3FFFF && countTaken w p (v / 2 ^ 56)) ≡ true = and-right (leb (v / 2 ^ 56) 255) _ h1 in
           let m : leb (v % 2 ^ 56) 0x3FFFF ≡ true = and-left _ _ h2 in
           count-same p (v / 2 ^ 56) (v % 2 ^ 56) (and-left _ _ h) (and-left _ _ h1) m (and-right (leb (v % 2 ^ 56) 0x3FFFF) _ h2)
-          ∙ ap (λ (a : ℕ). perform one (refusing (shapeOf w)) s (unsaveCountRule s p (v / 2 ^ 56) a) w) (mask (leb-true _ _ m))
+          ∙ ap (λ (a : ℕ). perform both (refusing (shapesOf w)) s (unsaveCountRule s p (v / 2 ^ 56) a) w) (mask (leb-true _ _ m))

@@ -7,7 +7,7 @@ use native.Mathlib.Omega.{arith}
 use lib.Dec.{leb, ltb, eqb}
 use Rattle.model.specs.Fill.{tab}
 use Rattle.model.specs.Registers.{rO, rG, rL, sp, reg, admissible, goes, next, halted}
-use Rattle.model.specs.Memory.{Window, shapeOf, ruled, one}
+use Rattle.model.specs.Memory.{Windows, shapesOf, ruled, both, one}
 use Rattle.model.specs.Plan.{Plan, answer, read, Outcome, perform, ups, worst, clear, look, looks, needs}
 use Rattle.model.specs.Opcodes.{Arm, forward, backward, register, immediate, branch, jump, getAddress, go, pushJump, pushGo, pop, put, get, save, unsave, sync, swym, trip, trap, none, armOf}
 use Rattle.model.specs.Said.{Said, say, refuse, tell}
@@ -15,20 +15,20 @@ use Rattle.model.specs.Control.{near, sumOf}
 use Rattle.model.specs.Frames.{hole, framed, pushed, pushFrame, popTo, popRule, noFrame, misplaced, popFrame}
 use Rattle.model.specs.Contexts.{extent, saved, savedState, saveContext, below, unsaved, contextRest, contextCount, contextAt, unsaveContext}
 use Rattle.model.specs.Lists.{needsOf}
-use Rattle.model.specs.Step.{refusalOf, judged, refusing, planOf, stepPlan, stepOf, stepNeeds, exceptionOf, itemPlan, mmix}
+use Rattle.model.specs.Step.{refusalOf, unruledBy, judged, refusing, planOf, guarded, fromThree, stepPlan, stepOf, stepNeeds, exceptionOf, itemPlan, mmix}
 use Rattle.model.specs.StepNeeds.{run, popNeeds, unsaveNeedsRest, unsaveNeedsCount, unsaveNeeds, armNeeds, NeedsAre, BytesUnused}
 use Rattle.model.specs.declared.State.{State}
 use Rattle.model.proofs.Bools.{on, on-both}
 use Rattle.model.proofs.Runs.{length-tab}
-use Rattle.model.proofs.Meets.{worst-six}
+use Rattle.model.proofs.Meets.{step-judged, worst-six}
 use Rattle.model.proofs.Entry.{step-open, step-done}
 
 abbrev unsavedNext : State → ℕ → ℕ → ℕ → ℕ → List ℕ → State
 unsavedNext s o g a l vs = next (unsaved s o g a l vs)
 
-module _ (w : Window) where
+module _ (w : Windows) where
   abbrev by : Plan State → List ℕ
-  by p = needs one (refusing (shapeOf w)) p w
+  by p = needs both (refusing (shapesOf w)) p w
 
   tell-none : (d : Said) → by (tell d) ≡ []
   unfolding needs tell worst ups
@@ -38,7 +38,7 @@ module _ (w : Window) where
   by-cond true p q = refl
   by-cond false p q = refl
 
-  by-read : (a n : ℕ) (k : List ℕ → Plan State) → by (read 6 a n k) ≡ run w a n (by (k (looks one w a n)))
+  by-read : (a n : ℕ) (k : List ℕ → Plan State) → by (read 6 a n k) ≡ run w a n (by (k (looks both w a n)))
   unfolding needs
   by-read a n k = refl
 
@@ -71,12 +71,12 @@ module _ (w : Window) where
       by-cond (leb 32 g && leb g 255) _ _
       ∙ on-both (λ (a b : List ℕ). a ≡ b) (leb 32 g && leb g 255)
       (λ e. by-cond (leb a 0x3FFFF) _ _
-      ∙ on-both (λ (a b : List ℕ). a ≡ b) (leb a 0x3FFFF) (λ f. rw (← rest-needs s p g a (look one w (below p (269 - g))))) (λ f. refl))
+      ∙ on-both (λ (a b : List ℕ). a ≡ b) (leb a 0x3FFFF) (λ f. rw (← rest-needs s p g a (look both w (below p (269 - g))))) (λ f. refl))
       (λ e. refl)
 
   unsave-needs : (s : State) (p : ℕ) → by (unsaveContext s p) ≡ unsaveNeeds w p
   unfolding unsaveContext contextAt unsaveNeeds needs looks
-  unsave-needs s p = rw (← count-needs s p (look one w p / 2 ^ 56) (look one w p % 2 ^ 56))
+  unsave-needs s p = rw (← count-needs s p (look both w p / 2 ^ 56) (look both w p % 2 ^ 56))
 
   arm-needs : (s : State) (a : Arm) (op x y z : ℕ) → by (planOf s a op x y z) ≡ armNeeds w s a x y z
   unfolding planOf armNeeds
@@ -97,55 +97,56 @@ module _ (w : Window) where
   arm-needs s trap op x y z = tell-none _
   arm-needs s none op x y z = tell-none _
 
-step-needs : (w : Window) (s : State) (op x y z : ℕ)
-    → stepNeeds w s op x y z ≡ cond (eqb (judged s (shapeOf w) (armOf op) x y z) 0) (armNeeds w s (armOf op) x y z) []
-unfolding stepNeeds stepPlan
+step-needs : (w : Windows) (s : State) (op x y z : ℕ)
+    → stepNeeds w s op x y z ≡ cond (eqb (judged s (shapesOf w) (armOf op) x y z) 0) (armNeeds w s (armOf op) x y z) []
+unfolding stepNeeds
 step-needs w s op x y z =
-    by-cond w (eqb (judged s (shapeOf w) (armOf op) x y z) 0) (planOf s (armOf op) op x y z) (tell (say (judged s (shapeOf w) (armOf op) x y z) s))
-    ∙ rw (arm-needs w s (armOf op) op x y z, tell-none w (say (judged s (shapeOf w) (armOf op) x y z) s))
+    ap (λ (p : Plan State). needs both (refusing (shapesOf w)) p w) (step-judged s (shapesOf w) op x y z)
+    ∙ by-cond w (eqb (judged s (shapesOf w) (armOf op) x y z) 0) (planOf s (armOf op) op x y z) (tell (say (judged s (shapesOf w) (armOf op) x y z) s))
+    ∙ rw (arm-needs w s (armOf op) op x y z, tell-none w (say (judged s (shapesOf w) (armOf op) x y z) s))
 
 -- a plan that stores and is done: its run passed
-stored-done : (w : Window) (s t : State) (a n : ℕ) (f : ℕ → ℕ) → perform one (refusing (shapeOf w)) s (answer 0 t a (tab 0 n f)) w .reply ≡ 0
-    → needs one (refusing (shapeOf w)) (answer 0 t a (tab 0 n f)) w ≡ ups a n
+stored-done : (w : Windows) (s t : State) (a n : ℕ) (f : ℕ → ℕ) → perform both (refusing (shapesOf w)) s (answer 0 t a (tab 0 n f)) w .reply ≡ 0
+    → needs both (refusing (shapesOf w)) (answer 0 t a (tab 0 n f)) w ≡ ups a n
 unfolding perform needs
 stored-done w s t a n f =
-    rw (length-tab n 0 f) (on-both {A = Outcome State Window} (λ o xs. o .reply ≡ 0 → xs ≡ ups a n) (clear (refusing (shapeOf w)) a n)
-    (λ e d. refl) (λ e d. absurd (let z : worst (refusing (shapeOf w)) a n ≡ 6 = worst-six (shapeOf w) n a e in omega arith)))
+    rw (length-tab n 0 f) (on-both {A = Outcome State Windows} (λ o xs. o .reply ≡ 0 → xs ≡ ups a n) (clear (refusing (shapesOf w)) a n)
+    (λ e d. refl) (λ e d. absurd (let z : worst (refusing (shapesOf w)) a n ≡ 6 = worst-six (shapesOf w) n a e in omega arith)))
 
 -- at the entry, for an arm that does nothing but store
-entry-stored : (w : Window) (s t : State) (op x y z a n : ℕ) (f : ℕ → ℕ) → refusalOf (armOf op) x y z ≡ 0
+entry-stored : (w : Windows) (s t : State) (op x y z a n : ℕ) (f : ℕ → ℕ) → refusalOf (armOf op) x y z ≡ 0
     → (admissible s ≡ true → stepOf w s op x y z .reply ≡ 0 → planOf s (armOf op) op x y z ≡ answer 0 t a (tab 0 n f))
     → stepOf w s op x y z .reply ≡ 0 → stepNeeds w s op x y z ≡ ups a n
-unfolding stepNeeds stepPlan judged
+unfolding stepNeeds stepPlan guarded unruledBy fromThree
 entry-stored w s t op x y z a n f e p d =
-    let j : (admissible s ≡ true) × (ruled (shapeOf w) ≡ true) = step-done w s op x y z d in
+    let j : (admissible s ≡ true) × (ruled (shapesOf w) ≡ true) = step-done w s op x y z d in
     let q : planOf s (armOf op) op x y z ≡ answer 0 t a (tab 0 n f) = p (j .0) d in
     rw (j .0, j .1, e, q) (stored-done w s t a n f
-    (ap (λ (k : Plan State). perform one (refusing (shapeOf w)) s k w .reply) (sym q) ∙ sym (ap (λ (o : Outcome State Window). o .reply) (step-open w s op x y z (j .0) (j .1) e)) ∙ d))
+    (ap (λ (k : Plan State). perform both (refusing (shapesOf w)) s k w .reply) (sym q) ∙ sym (ap (λ (o : Outcome State Windows). o .reply) (step-open w s op x y z (j .0) (j .1) e)) ∙ d))
 
 -- the four calls have one plan
-push-done : (w : Window) (s : State) (op x y z t : ℕ) → refusalOf (armOf op) x y z ≡ 0 → planOf s (armOf op) op x y z ≡ pushFrame s (hole s x) t
+push-done : (w : Windows) (s : State) (op x y z t : ℕ) → refusalOf (armOf op) x y z ≡ 0 → planOf s (armOf op) op x y z ≡ pushFrame s (hole s x) t
     → stepOf w s op x y z .reply ≡ 0 → stepNeeds w s op x y z ≡ ups (sp s rO) (hole s x + 1)
 unfolding pushFrame
 push-done w s op x y z t e p d = entry-stored w s (goes (pushed s (hole s x)) t) op x y z (sp s rO) _ (framed s (hole s x)) e (λ a b. p) d
 
 -- a SAVE that is done was not refused by 13
-pub save-global : (w : Window) (s : State) (x : ℕ) → perform one (refusing (shapeOf w)) s (saveContext s x) w .reply ≡ 0
+pub save-global : (w : Windows) (s : State) (x : ℕ) → perform both (refusing (shapesOf w)) s (saveContext s x) w .reply ≡ 0
     → saveContext s x ≡ answer 0 (next (savedState s x)) (sp s rO) (tab 0 (extent s) (saved s))
 unfolding saveContext
 save-global w s x =
-    on (λ (p : Plan State). perform one (refusing (shapeOf w)) s p w .reply ≡ 0 → p ≡ answer 0 (next (savedState s x)) (sp s rO) (tab 0 (extent s) (saved s))) (ltb x (sp s rG))
+    on (λ (p : Plan State). perform both (refusing (shapesOf w)) s p w .reply ≡ 0 → p ≡ answer 0 (next (savedState s x)) (sp s rO) (tab 0 (extent s) (saved s))) (ltb x (sp s rG))
     (λ e d. absurd (let z : _≡_ {A = ℕ} 13 0 = sym (told w s (refuse 13 s)) ∙ d in omega arith)) (λ e d. refl)
   where
-    told : (w : Window) (s : State) (d : Said) → perform one (refusing (shapeOf w)) s (tell d) w .reply ≡ d .reply
+    told : (w : Windows) (s : State) (d : Said) → perform both (refusing (shapesOf w)) s (tell d) w .reply ≡ d .reply
     told w s d = unfold tell perform worst in refl
 
-save-done : (w : Window) (s : State) (x y z : ℕ) → stepOf w s 0xFA x y z .reply ≡ 0 → stepNeeds w s 0xFA x y z ≡ ups (sp s rO) (sp s rL + 270 - sp s rG)
+save-done : (w : Windows) (s : State) (x y z : ℕ) → stepOf w s 0xFA x y z .reply ≡ 0 → stepNeeds w s 0xFA x y z ≡ ups (sp s rO) (sp s rL + 270 - sp s rG)
 unfolding planOf armOf refusalOf
 save-done w s x y z d =
-    let j : (admissible s ≡ true) × (ruled (shapeOf w) ≡ true) = step-done w s 0xFA x y z d in
+    let j : (admissible s ≡ true) × (ruled (shapesOf w) ≡ true) = step-done w s 0xFA x y z d in
     entry-stored w s (next (savedState s x)) 0xFA x y z (sp s rO) (extent s) (saved s) refl
-    (λ a b. save-global w s x (ap (λ (o : Outcome State Window). o .reply) (sym (step-open w s 0xFA x y z (j .0) (j .1) refl)) ∙ d)) d
+    (λ a b. save-global w s x (ap (λ (o : Outcome State Windows). o .reply) (sym (step-open w s 0xFA x y z (j .0) (j .1) refl)) ∙ d)) d
 
 pub needs-are : NeedsAre
 unfolding needsOf mmix itemPlan planOf armOf refusalOf one
@@ -160,7 +161,7 @@ needs-are = record {
 }
 
 pub bytes-unused : BytesUnused
-unfolding stepOf stepNeeds stepPlan judged refusalOf planOf armOf
+unfolding stepOf stepNeeds stepPlan guarded fromThree refusalOf planOf armOf
 bytes-unused = record {
   save-yz = λ w s x y z y' z'. record { outcome-same = refl; needs-same = refl };
   unsave-xy = λ w s x y z x' y'. record { outcome-same = refl; needs-same = refl };

@@ -11,7 +11,7 @@ use lib.ListN.{length, getD}
 use lib.Seq.{getD-set-same}
 use borrow.Author.Tests.{ltb-false, le-leb, lt-ltb, le-ltb, lt-leb, eq-eqb, ne-eqb}
 use Rattle.model.specs.Fill.{over, tab}
-use Rattle.model.specs.Memory.{Window, Shape, shapeOf, ruled, one}
+use Rattle.model.specs.Memory.{Windows, Shapes, shapesOf, ruled, both, one}
 use Rattle.model.specs.Plan.{Plan, answer, Outcome, perform, worst, look, looks, puts}
 use Rattle.model.specs.Registers.{rO, rG, rL, rA, rP, rR, sp, reg, Sized, Words, admissible, next, halted, withSpecial, stored, spilled}
 use Rattle.model.specs.Opcodes.{armOf}
@@ -31,35 +31,35 @@ use Rattle.model.proofs.Entry.{performOn, Inside, said, said-reply, ans
 -- ---- a context that is found
 
 -- its octabytes in w, from the first local up
-abbrev pub octasOf : Window → ℕ → ℕ → ℕ → List ℕ
-octasOf w p g l = looks one w (below p (l + 269 - g)) (l + 270 - g)
+abbrev pub octasOf : Windows → ℕ → ℕ → ℕ → List ℕ
+octasOf w p g l = looks both w (below p (l + 269 - g)) (l + 270 - g)
 
 -- the window holds the whole of a context at p, of threshold g, rA a and l locals, all in range
-pub record Context (w : Window) (p g a l : ℕ) : Type 0 where
+pub record Context (w : Windows) (p g a l : ℕ) : Type 0 where
   pub packed : Inside w p 1
-  pub threshold-is : look one w p / 2 ^ 56 ≡ g
-  pub status-is : look one w p % 2 ^ 56 ≡ a
+  pub threshold-is : look both w p / 2 ^ 56 ≡ g
+  pub status-is : look both w p % 2 ^ 56 ≡ a
   pub g-low : 32 ≤ g
   pub g-high : g ≤ 255
   pub a-high : a ≤ 0x3FFFF
   pub count : Inside w (below p (269 - g)) 1
-  pub count-is : look one w (below p (269 - g)) ≡ l
+  pub count-is : look both w (below p (269 - g)) ≡ l
   pub l-g : l ≤ g
   pub rest : Inside w (below p (l + 269 - g)) (l + 270 - g)
 
-pub looked : (w : Window) (b : ℕ) → getD (looks one w b 1) 0 0 ≡ look one w b
+pub looked : (w : Windows) (b : ℕ) → getD (looks both w b 1) 0 0 ≡ look both w b
 unfolding looks
 looked w b = refl
 
-module _ {S : Type 0} (w : Window) (s bad : S) (found : ℕ → ℕ → ℕ → ℕ → List ℕ → S) (p g a l : ℕ) where
-  abbrev foundAt : Outcome S Window
+module _ {S : Type 0} (w : Windows) (s bad : S) (found : ℕ → ℕ → ℕ → ℕ → List ℕ → S) (p g a l : ℕ) where
+  abbrev foundAt : Outcome S Windows
   foundAt = record { reply = 0; state = found (below p (l + 269 - g) % 2 ^ 64) g a l (octasOf w p g l); memory = w }
 
   rest-found : l ≤ g → Inside w (below p (l + 269 - g)) (l + 270 - g) → performOn w s (contextRest bad found p g a l) ≡ foundAt
   unfolding contextRest
   rest-found h r =
       rw (le-leb l g h)
-      (perform-read one one-lawful (refusing (shapeOf w)) s 6 (below p (l + 269 - g)) (l + 270 - g)
+      (perform-read both one-lawful (refusing (shapesOf w)) s 6 (below p (l + 269 - g)) (l + 270 - g)
       (λ vs. answer 0 (found (below p (l + 269 - g) % 2 ^ 64) g a l vs) 0 []) w r
       ∙ said w s (found (below p (l + 269 - g) % 2 ^ 64) g a l (octasOf w p g l)) 0)
 
@@ -67,46 +67,46 @@ module _ {S : Type 0} (w : Window) (s bad : S) (found : ℕ → ℕ → ℕ → 
   unfolding contextCount
   count-found c =
       rw (le-leb 32 g (c .g-low), le-leb g 255 (c .g-high), le-leb a 0x3FFFF (c .a-high))
-      (perform-read one one-lawful (refusing (shapeOf w)) s 6 (below p (269 - g)) 1 (λ v. contextRest bad found p g a (getD v 0 0)) w (c .count)
+      (perform-read both one-lawful (refusing (shapesOf w)) s 6 (below p (269 - g)) 1 (λ v. contextRest bad found p g a (getD v 0 0)) w (c .count)
       ∙ rw (looked w (below p (269 - g)), c .count-is) (rest-found (c .l-g) (c .rest)))
 
   pub context-found : Context w p g a l → performOn w s (contextAt bad found p) ≡ foundAt
   unfolding contextAt
   context-found c =
-      perform-read one one-lawful (refusing (shapeOf w)) s 6 p 1 (λ v. contextCount bad found p (getD v 0 0 / 2 ^ 56) (getD v 0 0 % 2 ^ 56)) w (c .packed)
+      perform-read both one-lawful (refusing (shapesOf w)) s 6 p 1 (λ v. contextCount bad found p (getD v 0 0 / 2 ^ 56) (getD v 0 0 % 2 ^ 56)) w (c .packed)
       ∙ rw (looked w p, c .threshold-is, c .status-is) (count-found c)
 
 -- ---- a SAVE that is done
 
 -- what the window holds then
-abbrev pub savedOn : Window → State → Window
-savedOn w s = puts one w (sp s rO) (tab 0 (extent s) (saved s))
+abbrev pub savedOn : Windows → State → Windows
+savedOn w s = puts both w (sp s rO) (tab 0 (extent s) (saved s))
 
-pub record Saves (w : Window) (s : State) (x : ℕ) : Type 0 where
+pub record Saves (w : Windows) (s : State) (x : ℕ) : Type 0 where
   pub admits : Adm s
-  pub fine : ruled (shapeOf w) ≡ true
+  pub fine : ruled (shapesOf w) ≡ true
   pub global : sp s rG ≤ x
   pub fits : Inside w (sp s rO) (extent s)
 
-save-open : (w : Window) (s : State) (x y z : ℕ) → admissible s ≡ true → ruled (shapeOf w) ≡ true → stepOf w s 0xFA x y z ≡ performOn w s (saveContext s x)
+save-open : (w : Windows) (s : State) (x y z : ℕ) → admissible s ≡ true → ruled (shapesOf w) ≡ true → stepOf w s 0xFA x y z ≡ performOn w s (saveContext s x)
 unfolding planOf armOf refusalOf
 save-open w s x y z a r = step-open w s 0xFA x y z a r refl
 
-save-fits : (w : Window) (s : State) (x : ℕ) → performOn w s (saveContext s x) .reply ≡ 0 → (sp s rG ≤ x) × Inside w (sp s rO) (extent s)
+save-fits : (w : Windows) (s : State) (x : ℕ) → performOn w s (saveContext s x) .reply ≡ 0 → (sp s rG ≤ x) × Inside w (sp s rO) (extent s)
 unfolding saveContext tell
 save-fits w s x =
     on (λ (p : Plan State). performOn w s p .reply ≡ 0 → (sp s rG ≤ x) × Inside w (sp s rO) (extent s)) (ltb x (sp s rG))
     (λ e h. absurd (omega (arith, said-reply w s (halted s) 13, h)))
-    (λ e h. (ltb-false _ _ e, rw (length-tab (extent s) 0 (saved s)) at (answered (refusing (shapeOf w)) s (next (savedState s x)) 0 (sp s rO) (tab 0 (extent s) (saved s)) w h)))
+    (λ e h. (ltb-false _ _ e, rw (length-tab (extent s) 0 (saved s)) at (answered (refusing (shapesOf w)) s (next (savedState s x)) 0 (sp s rO) (tab 0 (extent s) (saved s)) w h)))
 
-pub save-done : (w : Window) (s : State) (x y z : ℕ) → stepOf w s 0xFA x y z .reply ≡ 0 → Saves w s x
+pub save-done : (w : Windows) (s : State) (x y z : ℕ) → stepOf w s 0xFA x y z .reply ≡ 0 → Saves w s x
 save-done w s x y z h =
-    let j : (admissible s ≡ true) × (ruled (shapeOf w) ≡ true) = step-done w s 0xFA x y z h in
+    let j : (admissible s ≡ true) × (ruled (shapesOf w) ≡ true) = step-done w s 0xFA x y z h in
     let f : (sp s rG ≤ x) × Inside w (sp s rO) (extent s)
-    = save-fits w s x (ap (λ (o : Outcome State Window). o .reply) (sym (save-open w s x y z (j .0) (j .1))) ∙ h) in
+    = save-fits w s x (ap (λ (o : Outcome State Windows). o .reply) (sym (save-open w s x y z (j .0) (j .1))) ∙ h) in
     record { admits = adm s (j .0); fine = j .1; global = f .0; fits = f .1 }
 
-pub save-is : (w : Window) (s : State) (x y z : ℕ) → Saves w s x → stepOf w s 0xFA x y z ≡ record { reply = 0; state = next (savedState s x); memory = savedOn w s }
+pub save-is : (w : Windows) (s : State) (x y z : ℕ) → Saves w s x → stepOf w s 0xFA x y z ≡ record { reply = 0; state = next (savedState s x); memory = savedOn w s }
 save-is w s x y z c = save-open w s x y z (adm-of s (c .admits)) (c .fine) ∙ performed
   where
     performed : performOn w s (saveContext s x) ≡ record { reply = 0; state = next (savedState s x); memory = savedOn w s }
@@ -187,12 +187,12 @@ below-is o m k i e h = omega arith
 pub further : (a b i k : ℕ) → b % 2 ^ 64 ≡ (a + 8 * i) % 2 ^ 64 → (b + 8 * k) % 2 ^ 64 ≡ (a + 8 * (i + k)) % 2 ^ 64
 further a b i k e = omega arith
 
-pub refusing-mod : (w : Shape) (a b : ℕ) → a % 2 ^ 64 ≡ b % 2 ^ 64 → refusing w a ≡ refusing w b
+pub refusing-mod : (w : Shapes) (a b : ℕ) → a % 2 ^ 64 ≡ b % 2 ^ 64 → refusing w a ≡ refusing w b
 unfolding refusing
 refusing-mod w a b e = rw (has-octa w a b (octa-mod a b e))
 
 -- a part of a run that passes, under any addresses that name it
-pub part-passes : (w : Shape) (a n b m i : ℕ) → worst (refusing w) a n ≡ 0 → b % 2 ^ 64 ≡ (a + 8 * i) % 2 ^ 64 → i + m ≤ n → worst (refusing w) b m ≡ 0
+pub part-passes : (w : Shapes) (a n b m i : ℕ) → worst (refusing w) a n ≡ 0 → b % 2 ^ 64 ≡ (a + 8 * i) % 2 ^ 64 → i + m ≤ n → worst (refusing w) b m ≡ 0
 part-passes w a n b m i h e l =
     of-worst (refusing w) m b (λ k q. refusing-mod w (b + 8 * k) (a + 8 * (i + k)) (further a b i k e) ∙ worst-of (refusing w) n a (i + k) h (omega arith))
 
@@ -207,29 +207,29 @@ abbrev pub withContext : State → State → List ℕ → State
 withContext s e vs = unsaved e (sp s rO) (sp s rG) (sp s rA) (sp s rL) vs
 
 -- an UNSAVE on e and v that finds what SAVE stored of s: it is done, and the octabytes read are those stored
-pub record Unsaves (s e : State) (v : Window) (o : Outcome State Window) : Type 0 where
+pub record Unsaves (s e : State) (v : Windows) (o : Outcome State Windows) : Type 0 where
   pub octas : List ℕ
   pub octas-are : (i : ℕ) → i < extent s → getD octas i 0 ≡ saved s i
   pub outcome-is : o ≡ record { reply = 0; state = next (withContext s e octas); memory = v }
 
-pub unsave-open : (w : Window) (s : State) (x y z : ℕ) → admissible s ≡ true → ruled (shapeOf w) ≡ true
+pub unsave-open : (w : Windows) (s : State) (x y z : ℕ) → admissible s ≡ true → ruled (shapesOf w) ≡ true
     → stepOf w s 0xFB x y z ≡ performOn w s (contextAt (halted s) (unsavedNext s) (reg s z))
 unfolding planOf armOf refusalOf unsaveContext
 unsave-open w s x y z a r = step-open w s 0xFB x y z a r refl
 
 -- v is any window that keeps all that the SAVE stored
-module _ (w v : Window) (s : State) (x : ℕ) (done : Saves w s x) (words : Words s) (kept : Kept one (Within (sp s rO) (extent s)) (savedOn w s) v) where
-  shape-same : shapeOf v ≡ shapeOf w
+module _ (w v : Windows) (s : State) (x : ℕ) (done : Saves w s x) (words : Words s) (kept : Kept both (Within (sp s rO) (extent s)) (savedOn w s) v) where
+  shape-same : shapesOf v ≡ shapesOf w
   unfolding one
-  shape-same = kept .shape-kept ∙ puts-shape one one-lawful (tab 0 (extent s) (saved s)) w (sp s rO)
+  shape-same = kept .shape-kept ∙ puts-shape both one-lawful (tab 0 (extent s) (saved s)) w (sp s rO)
 
-  stored-at : (i a : ℕ) → i < extent s → a % 2 ^ 64 ≡ (sp s rO + 8 * i) % 2 ^ 64 → look one v a ≡ saved s i
+  stored-at : (i a : ℕ) → i < extent s → a % 2 ^ 64 ≡ (sp s rO + 8 * i) % 2 ^ 64 → look both v a ≡ saved s i
   unfolding one
   stored-at i a l e =
-      stands one one-lawful (refusing (shapeOf w)) (extent s) (saved s) w v (sp s rO) (sound (shapeOf w)) (done .fits) (omega (arith, done .admits .l-g))
+      stands both one-lawful (refusing (shapesOf w)) (extent s) (saved s) w v (sp s rO) (sound (shapesOf w)) (done .fits) (omega (arith, done .admits .l-g))
       (λ k q. saved-word s (done .admits) words k) kept i a l e
 
-  packed-is : look one v (contextAddress s) ≡ sp s rG * 2 ^ 56 + sp s rA
+  packed-is : look both v (contextAddress s) ≡ sp s rG * 2 ^ 56 + sp s rA
   packed-is = let b : Adm s = done .admits in
       stored-at (sp s rL + 269 - sp s rG) (contextAddress s) (omega arith) (omega arith) ∙ saved-packed s b
 
@@ -250,7 +250,7 @@ module _ (w v : Window) (s : State) (x : ℕ) (done : Saves w s x) (words : Word
       }
     where
       passes : (a n i : ℕ) → a % 2 ^ 64 ≡ (sp s rO + 8 * i) % 2 ^ 64 → i + n ≤ extent s → Inside v a n
-      passes a n i e l = rw shape-same (part-passes (shapeOf w) (sp s rO) (extent s) a n i (done .fits) e l)
+      passes a n i e l = rw shape-same (part-passes (shapesOf w) (sp s rO) (extent s) a n i (done .fits) e l)
 
   pub unsave-back : (e : State) (i j z : ℕ) → admissible e ≡ true → reg e z ≡ contextAddress s → Unsaves s e v (stepOf v e 0xFB i j z)
   unsave-back e i j z a p =
@@ -260,7 +260,7 @@ module _ (w v : Window) (s : State) (x : ℕ) (done : Saves w s x) (words : Word
       let o : below (contextAddress s) (sp s rL + 269 - sp s rG) % 2 ^ 64 ≡ sp s rO = omega (arith, words .special-word rO) in
       record {
         octas = octasOf v (contextAddress s) (sp s rG) (sp s rL);
-        octas-are = λ k l. getD-looks one one-lawful (extent s) v (below (contextAddress s) (sp s rL + 269 - sp s rG)) k l
+        octas-are = λ k l. getD-looks both one-lawful (extent s) v (below (contextAddress s) (sp s rL + 269 - sp s rG)) k l
             ∙ stored-at k _ l (further (sp s rO) (below (contextAddress s) (sp s rL + 269 - sp s rG)) 0 k first ∙ rw (zero-add k));
         outcome-is = unsave-open v e i j z a (rw shape-same (done .fine))
             ∙ rw p (context-found v e (halted e) (unsavedNext e) (contextAddress s) (sp s rG) (sp s rA) (sp s rL) stored-context ∙ rw o);

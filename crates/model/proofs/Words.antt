@@ -15,7 +15,7 @@ use borrow.Author.Tests.{ltb-true}
 use Rattle.model.specs.Fill.{over}
 use Rattle.model.specs.Octa.{part, written, valueOf, bytesOf}
 use Rattle.model.specs.Registers.{rB, rJ, rBB, rO, rS, rG, rL, rA, rR, rP, rW, rX, rY, rZ, rWW, rXX, rYY, rZZ, sp, reg, following, Words, goes, halted, withSpecial, cleared, claimLocal, isMarginal, stored, setRegister, putLocals, putGlobals, spilled}
-use Rattle.model.specs.Memory.{Window, shapeOf, offset, octaBytes, writeOcta, one}
+use Rattle.model.specs.Memory.{Windows, shapesOf, offset, octaBytes, writeOcta, both, one}
 use Rattle.model.specs.Plan.{Plan, answer, read, Outcome, perform, clear, look, looks, puts}
 use Rattle.model.specs.Opcodes.{armOf}
 use Rattle.model.specs.Said.{tell}
@@ -205,11 +205,11 @@ value-small (suc n) l o v b h p =
     turn : (b n : ℕ) → (b * 256) * 256 ^ n ≡ b * 256 ^ suc n
     turn b n = mul-assoc b 256 (256 ^ n) ∙ ap (λ (k : ℕ). b * k) (sym (pow-succ' 256 n))
 
-look-word : (w : Window) (a : ℕ) → Bytes w → Word (look one w a)
+look-word : (w : Windows) (a : ℕ) → Bytes w → Word (look both w a)
 unfolding look one octaBytes
 look-word w a h = value-small 8 (w .bytes) (offset (w .base) a) 0 1 (record { at = h .byte }) (omega arith)
 
-looks-words : (n : ℕ) (w : Window) (a : ℕ) → Bytes w → Below (2 ^ 64) (looks one w a n)
+looks-words : (n : ℕ) (w : Windows) (a : ℕ) → Bytes w → Below (2 ^ 64) (looks both w a n)
 unfolding looks
 looks-words zero w a h = record { at = λ k. omega arith }
 looks-words (suc n) w a h = cons-below (2 ^ 64) _ _ (look-word w a h) (looks-words n w (a + 8) h)
@@ -227,21 +227,21 @@ written-below-bound b (x ∷ xs) (suc o) vs h g = cons-below b x _ (h .at 0) (wr
 written-below-bound b (x ∷ xs) zero [] h g = h
 written-below-bound b (x ∷ xs) zero (v ∷ vs) h g = cons-below b v _ (g .at 0) (written-below-bound b xs zero vs (tail-below b x xs h) (tail-below b v vs g))
 
-puts-bytes : (vs : List ℕ) (w : Window) (a : ℕ) → Bytes w → Bytes (puts one w a vs)
+puts-bytes : (vs : List ℕ) (w : Windows) (a : ℕ) → Bytes w → Bytes (puts both w a vs)
 unfolding puts one writeOcta
 puts-bytes [] w a h = h
 puts-bytes (v ∷ vs) w a h = puts-bytes vs _ (a + 8) (record { byte = written-below-bound 256 (w .bytes) (offset (w .base) a) (bytesOf v) (record { at = h .byte }) (bytes-byte v) .at })
 
-perform-bytes : {S : Type 0} (j : ℕ → ℕ) (s : S) (p : Plan S) (w : Window) → Bytes w → Bytes (perform one j s p w .memory)
+perform-bytes : {S : Type 0} (j : ℕ → ℕ) (s : S) (p : Plan S) (w : Windows) → Bytes w → Bytes (perform both j s p w .memory)
 unfolding perform
-perform-bytes {S} j s (answer r t a vs) w h = on {A = Outcome S Window} (λ o. Bytes (o .memory)) (clear j a (length vs)) (λ e. puts-bytes vs w a h) (λ e. h)
-perform-bytes {S} j s (read q a n k) w h = on {A = Outcome S Window} (λ o. Bytes (o .memory)) (clear j a n) (λ e. perform-bytes j s (k (looks one w a n)) w h) (λ e. h)
+perform-bytes {S} j s (answer r t a vs) w h = on {A = Outcome S Windows} (λ o. Bytes (o .memory)) (clear j a (length vs)) (λ e. puts-bytes vs w a h) (λ e. h)
+perform-bytes {S} j s (read q a n k) w h = on {A = Outcome S Windows} (λ o. Bytes (o .memory)) (clear j a n) (λ e. perform-bytes j s (k (looks both w a n)) w h) (λ e. h)
 
 -- ---- every step and every exception
 
-pub item-bytes : (w : Window) (s : State) (i : Item) → Bytes w → Bytes (stepOn one mmix s w i .memory)
+pub item-bytes : (w : Windows) (s : State) (i : Item) → Bytes w → Bytes (stepOn both mmix s w i .memory)
 unfolding stepOn mmix
-item-bytes w s i h = perform-bytes _ s (itemPlan s (one .shape w) i) w h
+item-bytes w s i h = perform-bytes _ s (itemPlan s (both .shape w) i) w h
 
 word-small : (op x y z : ℕ) → InstructionFits op x y z → Word (wordOf op x y z)
 word-small op x y z f =
@@ -272,11 +272,11 @@ meets-trip s n u v p q r h = record {
   trips-not = halted-words _ (interrupted-words s rB rW rX rY rZ n u v p q r h);
 }
 
-pub item-words : (w : Window) (s : State) (i : Item) → Fits i → Bytes w → Words s → Words (stepOn one mmix s w i .state)
+pub item-words : (w : Windows) (s : State) (i : Item) → Fits i → Bytes w → Words s → Words (stepOn both mmix s w i .state)
 unfolding stepOn mmix itemPlan Fits one
 item-words w s (step op x y z) f b h =
-    perform-meets w s (Below (2 ^ 64)) (λ r t vs. Words t) (λ o. Words (o .state)) h (λ r t a vs k. k) (λ a n. looks-words n w a b) (stepPlan s (shapeOf w) op x y z)
-    (step-meets s (shapeOf w) (Below (2 ^ 64)) (λ r t vs. Words t) (λ n c d. h) op x y z
+    perform-meets w s (Below (2 ^ 64)) (λ r t vs. Words t) (λ o. Words (o .state)) h (λ r t a vs k. k) (λ a n. looks-words n w a b) (stepPlan s (shapesOf w) op x y z)
+    (step-meets s (shapesOf w) (Below (2 ^ 64)) (λ r t vs. Words t) (λ n c d. h) op x y z
     (λ e. let z-word : Word z = let c : z < 256 = f .z-byte in omega arith in
     plan-meets s Word (Below (2 ^ 64)) (λ r t vs. Words t) (meets-words s h) (armOf op) op x y z z-word
     (meets-trip s (wordOf op x y z) (reg s y) (reg s z) (word-small op x y z f) (h .general-word y) (h .general-word z) h)

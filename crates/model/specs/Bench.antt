@@ -6,7 +6,7 @@ use mathlib.Core.Bool.{Bool, true, false, _&&_}
 use mathlib.Core.List.{List, [], _∷_, _++_}
 use lib.Dec.{eqb}
 use lib.ListN.{replicate}
-use Rattle.model.specs.Memory.{Window, writeOcta, one}
+use Rattle.model.specs.Memory.{Windows, putOcta, both}
 use Rattle.model.specs.Lists.{Ran, runs}
 use Rattle.model.specs.Registers.{rJ, rO, rS, rL, rA, rW, rX, stackStart, fresh, goes, halted, withSpecial, stored}
 use Rattle.model.specs.Step.{Item, step, exception, mmix}
@@ -14,11 +14,11 @@ use Rattle.model.specs.declared.State.{State}
 
 pub record Point : Type 0 where
   pub begin : State
-  pub window : Window
+  pub window : Windows
   pub items : List Item
   pub replies : List ℕ
   pub end : State
-  pub left : Window
+  pub left : Windows
 
 -- ---- what it is to be met
 
@@ -33,14 +33,14 @@ sameState s t =
     sameList (s .general) (t .general)
     && (sameList (s .special) (t .special) && (eqb (s .pc) (t .pc) && (eqb (s .halt) (t .halt) && eqb (s .marks) (t .marks))))
 
-abbrev pub sameWindow : Window → Window → Bool
+abbrev pub sameWindow : Windows → Windows → Bool
 sameWindow v w = eqb (v .base) (w .base) && sameList (v .bytes) (w .bytes)
 
-unfoldable pub shows : Point → Ran State Window → Bool
+unfoldable pub shows : Point → Ran State Windows → Bool
 shows c r = sameList (r .answers) (c .replies) && (sameState (r .state) (c .end) && sameWindow (r .memory) (c .left))
 
 unfoldable pub met : Point → Bool
-met c = shows c (runs one mmix (c .begin) (c .window) (c .items))
+met c = shows c (runs both mmix (c .begin) (c .window) (c .items))
 
 unfoldable pub allMet : List Point → Bool
 allMet [] = true
@@ -53,15 +53,15 @@ unfoldable pub start : State
 start = record { general = fresh .general; special = fresh .special; pc = 0; halt = 0; marks = 0x1FF }
 
 -- a window of n zero bytes at the stack's start
-abbrev zeros : ℕ → Window
+abbrev zeros : ℕ → Windows
 zeros n = record { base = stackStart; bytes = replicate n 0 }
 
-abbrev program : Window
+abbrev program : Windows
 program = zeros 2048
 
 -- octabyte number k of the window becomes v
-abbrev holding : Window → ℕ → ℕ → Window
-holding w k v = writeOcta w (stackStart + 8 * k) v
+abbrev holding : Windows → ℕ → ℕ → Windows
+holding w k v = putOcta w (stackStart + 8 * k) v
 
 -- rO and rS are k octabytes up the stack
 abbrev grown : State → ℕ → State
@@ -75,7 +75,7 @@ two a b = stored (stored (withSpecial start rL 2) 0 a) 1 b
 abbrev three : State
 three = stored (stored (stored (withSpecial start rL 3) 0 1) 1 2) 2 3
 
-abbrev point : State → Window → List Item → List ℕ → State → Window → Point
+abbrev point : State → Windows → List Item → List ℕ → State → Windows → Point
 point s w is rs t v = record { begin = s; window = w; items = is; replies = rs; end = t; left = v }
 
 -- one item in the program's window that is done: the state that it leaves
@@ -87,11 +87,11 @@ abbrev refuses : State → Item → ℕ → Point
 refuses s i n = point s program (i ∷ []) (n ∷ []) (halted s) program
 
 -- what SAVE $255 stores of the start with $255 = v: octabytes 0 to 237, where 0 is rL, 224 is $255 and 237 is rG and rA
-abbrev parked : Window → ℕ → Window
+abbrev parked : Windows → ℕ → Windows
 parked w v = holding (holding w 224 v) 237 (32 * 2 ^ 56)
 
 -- a context at the program's window whose local count is n, and the state whose $255 has its address
-abbrev counted : ℕ → Window
+abbrev counted : ℕ → Windows
 counted n = holding (parked program 0) 0 n
 
 abbrev addressed : State

@@ -7,7 +7,7 @@ use lib.ListN.{getD, set}
 use Rattle.model.specs.Fill.{over, tab}
 use Rattle.model.specs.Plan.{Plan, answer, read}
 use Rattle.model.specs.Said.{refuse, tell}
-use Rattle.model.specs.Registers.{rR, rO, rG, rL, rA, rP, rZ, sp, reg, next, halted, stored, spilled}
+use Rattle.model.specs.Registers.{withParts, rR, rO, rG, rL, rA, rP, rZ, sp, reg, next, halted, stored, spilled}
 use Rattle.model.specs.declared.State.{State}
 
 -- ---- SAVE
@@ -35,13 +35,9 @@ contextAddress s = (sp s rO + 8 * (sp s rL + 269 - sp s rG)) % 2 ^ 64
 
 -- "$X gets the last one's address .., registers below rG become 0, rL 0, rO .. follow it", rS apart
 unfoldable pub savedUnspilled : State → ℕ → State
-savedUnspilled s x = stored (record {
-  general = over (λ i. 0) 0 (sp s rG) (s .general);
-  special = set (set (s .special) rL 0) rO ((sp s rO + 8 * extent s) % 2 ^ 64);
-  pc = s .pc;
-  halt = s .halt;
-  marks = s .marks;
-}) x (contextAddress s)
+savedUnspilled s x = stored (withParts s
+    (over (λ i. 0) 0 (sp s rG) (s .general))
+    (set (set (s .special) rL 0) rO ((sp s rO + 8 * extent s) % 2 ^ 64))) x (contextAddress s)
 
 -- ".. and rS follow it": mmix-sim's SAVE too ends with all registers in memory, rS = rO
 unfoldable pub savedState : State → ℕ → State
@@ -70,13 +66,9 @@ unsavedSpecial s o g a l vs k =
 
 -- o, the address of the first local, is the restored rO; rS apart
 unfoldable pub unsavedUnspilled : State → ℕ → ℕ → ℕ → ℕ → List ℕ → State
-unsavedUnspilled s o g a l vs = record {
-  general = over (unsavedGeneral g l vs) 0 256 (s .general);
-  special = over (unsavedSpecial s o g a l vs) 0 32 (s .special);
-  pc = s .pc;
-  halt = s .halt;
-  marks = s .marks;
-}
+unsavedUnspilled s o g a l vs = withParts s
+    (over (unsavedGeneral g l vs) 0 256 (s .general))
+    (over (unsavedSpecial s o g a l vs) 0 32 (s .special))
 
 -- "rS becomes the restored rO": in mmix-sim too
 unfoldable pub unsaved : State → ℕ → ℕ → ℕ → ℕ → List ℕ → State

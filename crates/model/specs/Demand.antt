@@ -5,7 +5,7 @@ use mathlib.Core.Path.{_≡_}
 use mathlib.Core.List.{List}
 use lib.ListN.{length, getD}
 use Rattle.model.specs.Octa.{octa}
-use Rattle.model.specs.Memory.{Window, one}
+use Rattle.model.specs.Memory.{Windows, both}
 use Rattle.model.specs.Plan.{Outcome, All, Off}
 use Rattle.model.specs.Lists.{Ran, runs, runNeeds, runWiderNeeds}
 use Rattle.model.specs.Registers.{rO, rG, stackStart, sp, reg, Sized, Words}
@@ -41,7 +41,7 @@ pub record Alike (h : ℕ) (s t : State) : Type 0 where
   pub rest-same : (i : ℕ) → h ≤ i → reg s i ≡ reg t i
 
 -- equal byte by byte outside the octabytes of F
-pub record SameOutside (F : ℕ → Type 0) (v w : Window) : Type 0 where
+pub record SameOutside (F : ℕ → Type 0) (v w : Windows) : Type 0 where
   pub base-same : v .base ≡ w .base
   pub length-same : length (v .bytes) ≡ length (w .bytes)
   pub byte-same : (i : ℕ) → Off F (v .base + i) → getD (v .bytes) i 0 ≡ getD (w .bytes) i 0
@@ -56,26 +56,26 @@ pub record AtPop (h ro : ℕ) (s : State) : Type 0 where
   pub reach : h ≤ sp s rG
 
 -- "a POP as the next step, whatever its X and YZ, succeeds, and those locals hold exactly what they held before the call"
-pub record GivesBack (h : ℕ) (s : State) (o : Outcome State Window) : Type 0 where
+pub record GivesBack (h : ℕ) (s : State) (o : Outcome State Windows) : Type 0 where
   pub done : o .reply ≡ 0
   pub locals : (i : ℕ) → i < h → reg (o .state) i ≡ reg s i
 
 -- the list after a call, its needs, and the POP after it
-abbrev pub after : Outcome State Window → List Item → Ran State Window
-after o is = runs one mmix (o .state) (o .memory) is
+abbrev pub after : Outcome State Windows → List Item → Ran State Windows
+after o is = runs both mmix (o .state) (o .memory) is
 
-abbrev pub afterNeeds : Outcome State Window → List Item → List ℕ
-afterNeeds o is = runNeeds one mmix (o .state) (o .memory) is
+abbrev pub afterNeeds : Outcome State Windows → List Item → List ℕ
+afterNeeds o is = runNeeds both mmix (o .state) (o .memory) is
 
-abbrev pub afterWiderNeeds : Outcome State Window → List Item → List ℕ
-afterWiderNeeds o is = runWiderNeeds one mmix (o .state) (o .memory) is
+abbrev pub afterWiderNeeds : Outcome State Windows → List Item → List ℕ
+afterWiderNeeds o is = runWiderNeeds both mmix (o .state) (o .memory) is
 
-abbrev pub popAfter : Ran State Window → ℕ → ℕ → ℕ → Outcome State Window
+abbrev pub popAfter : Ran State Windows → ℕ → ℕ → ℕ → Outcome State Windows
 popAfter r x y z = stepOf (r .memory) (r .state) 0xF8 x y z
 
 -- what holds of the two runs, a and b their outcomes of the call: "the same answers in the same order, the same registers, PC, halt
 -- code and marks, and the same memory outside those locals"; and the POP in each
-pub record Private (h : ℕ) (s t : State) (a b : Outcome State Window) (is : List Item) : Type 0 where
+pub record Private (h : ℕ) (s t : State) (a b : Outcome State Windows) (is : List Item) : Type 0 where
   pub call-same : b .reply ≡ a .reply
   pub answers-same : after a is .answers ≡ after b is .answers
   pub state-same : after a is .state ≡ after b is .state
@@ -86,8 +86,8 @@ pub record Private (h : ℕ) (s t : State) (a b : Outcome State Window) (is : Li
 -- the claim, for a reading of the needs: "take every list of steps and exceptions on the same window, refused ones included, that
 -- needs no octabyte of the call's frame"; "two runs that began alike in all but the locals pushed below the hole, with equal call
 -- targets"; "It is enough that the first run's needs keep off the frame"
-abbrev pub Claim : (Outcome State Window → List Item → List ℕ) → Type 0
-Claim needed = (w : Window) (s t : State) (c : Call) (x y z : ℕ) (is : List Item)
+abbrev pub Claim : (Outcome State Windows → List Item → List ℕ) → Type 0
+Claim needed = (w : Windows) (s t : State) (c : Call) (x y z : ℕ) (is : List Item)
     → Sized s → Sized t → Words s → Words t
     → Alike (hole s x) s t
     → stepOf w s (opcodeOf c) x y z .reply ≡ 0

@@ -6,7 +6,7 @@ use mathlib.Core.List.{List, [], _∷_, _++_}
 use lib.Dec.{eqb}
 use lib.ListN.{replicate}
 use Rattle.model.specs.Registers.{rJ, rO, rS, rT, rK, rG, rL, rA, rW, rX, rWW, rXX, stackStart, sp, fresh, goes, halted, withSpecial, stored}
-use Rattle.model.specs.Memory.{Window, writeOcta}
+use Rattle.model.specs.Memory.{Windows, putOcta}
 use Rattle.model.specs.Plan.{Outcome}
 use Rattle.model.specs.Said.{Said}
 use Rattle.model.specs.Step.{stepOf, exceptionOf}
@@ -17,17 +17,17 @@ use Rattle.model.specs.declared.State.{State}
 -- a step: what it leaves here, and in Knuth's machine
 pub record Example : Type 0 where
   pub begin : State
-  pub window : Window
+  pub window : Windows
   pub op : ℕ
   pub x : ℕ
   pub y : ℕ
   pub z : ℕ
   pub reply : ℕ
   pub end : State
-  pub left : Window
+  pub left : Windows
   pub knuth-reply : ℕ
   pub knuth : After
-  pub knuth-left : Window
+  pub knuth-left : Windows
 
 -- an exception with these flags, of an instruction 0 with operands 0
 pub record ExampleException : Type 0 where
@@ -45,10 +45,10 @@ sameAfter (goesOn s) interrupts = false
 sameAfter interrupts (goesOn t) = false
 sameAfter interrupts interrupts = true
 
-abbrev here : Example → Outcome State Window → Bool
+abbrev here : Example → Outcome State Windows → Bool
 here e o = eqb (o .reply) (e .reply) && (sameState (o .state) (e .end) && sameWindow (o .memory) (e .left))
 
-abbrev there : Example → Outcome After Window → Bool
+abbrev there : Example → Outcome After Windows → Bool
 there e o = eqb (o .reply) (e .knuth-reply) && (sameAfter (o .state) (e .knuth) && sameWindow (o .memory) (e .knuth-left))
 
 unfoldable pub shown : Example → Bool
@@ -74,21 +74,21 @@ allShownExceptions (e ∷ es) = shownException e && allShownExceptions es
 
 -- ---- the examples
 
-abbrev zeros : ℕ → ℕ → Window
+abbrev zeros : ℕ → ℕ → Windows
 zeros base n = record { base = base; bytes = replicate n 0 }
 
-abbrev nowhere : Window
+abbrev nowhere : Windows
 nowhere = zeros stackStart 0
 
 -- octabyte number k of a window at the stack's start becomes v
-abbrev holding : Window → ℕ → ℕ → Window
-holding w k v = writeOcta w (stackStart + 8 * k) v
+abbrev holding : Windows → ℕ → ℕ → Windows
+holding w k v = putOcta w (stackStart + 8 * k) v
 
-abbrev example : State → Window → ℕ → ℕ → ℕ → ℕ → ℕ → State → Window → After → Window → Example
+abbrev example : State → Windows → ℕ → ℕ → ℕ → ℕ → ℕ → State → Windows → After → Windows → Example
 example s w op x y z r t v k u = record { begin = s; window = w; op = op; x = x; y = y; z = z; reply = r; end = t; left = v; knuth-reply = 0; knuth = k; knuth-left = u }
 
 -- nothing is stored
-abbrev plain : State → Window → ℕ → ℕ → ℕ → ℕ → ℕ → State → After → Example
+abbrev plain : State → Windows → ℕ → ℕ → ℕ → ℕ → ℕ → State → After → Example
 plain s w op x y z r t k = example s w op x y z r t w k w
 
 -- refused here by a number from 7 to 18, and by an interrupt there
@@ -105,7 +105,7 @@ spillExample = plain start (zeros stackStart 8) 0xF2 0 0 1 0
     (goes (withSpecial (topAt start (stackStart + 8) (stackStart + 8)) rJ 4) 4) (goesOn (goes (withSpecial (topAt start (stackStart + 8) stackStart) rJ 4) 4))
 
 -- the octabytes below and at the stack's start, all 0
-abbrev around : Window
+abbrev around : Windows
 around = zeros 0x5FFFFFFFFFFFFFF8 16
 
 -- POP 0,0 without a frame, and with a misplaced rO
@@ -128,14 +128,14 @@ abbrev getExample : Example
 getExample = plain start nowhere 0xFE 0 0 20 0 (goes (withSpecial start rL 1) 4) (goesOn (goes (stored (withSpecial start rL 1) 0 1) 4))
 
 -- a context of 15 octabytes at the stack's start, rG 255: rG and rA packed at the end, the local count first
-abbrev context : ℕ → ℕ → Window
+abbrev context : ℕ → ℕ → Windows
 context n a = holding (holding (zeros stackStart 120) 0 n) 14 (255 * 2 ^ 56 + a)
 
 abbrev last : ℕ
 last = stackStart + 112
 
 -- UNSAVE $255 where $255 is p
-abbrev unsaving : Window → ℕ → ℕ → State → State → Example
+abbrev unsaving : Windows → ℕ → ℕ → State → State → Example
 unsaving w p r t k = plain (stored start 255 p) w 0xFB 0 0 255 r t (goesOn k)
 
 abbrev unsaveExamples : List Example

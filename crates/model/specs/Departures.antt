@@ -9,7 +9,7 @@ use lib.Dec.{leb, ltb, eqb}
 use lib.Count.{leadingZeros}
 use Rattle.model.specs.Octa.{octa}
 use Rattle.model.specs.Registers.{rC, rO, rS, rI, rU, rG, rL, rK, sp, reg, Sized, Words, MarginalZero, isMarginal, spilled}
-use Rattle.model.specs.Memory.{Window, shapeOf, has, one}
+use Rattle.model.specs.Memory.{Windows, shapesOf, inside, both}
 use Rattle.model.specs.Plan.{look, mapOutcome, perform}
 use Rattle.model.specs.Opcodes.{Operand, register, immediate, Arm, branch, jump, getAddress, go, pushJump, pushGo, pop, put, get, save, unsave, sync, swym, trip, trap, none, armOf}
 use Rattle.model.specs.Said.{say}
@@ -52,20 +52,20 @@ ReadsAlike s trap x y z = ReadsZero s y × ReadsZero s z
 ReadsAlike s none x y z = Unit {0}
 
 -- the context whose packed octabyte is at p passes what UNSAVE asks of the octabytes that it finds: 14, 15 and 16 are not met
-abbrev savedThreshold : Window → ℕ → ℕ
-savedThreshold w p = look one w p / 2 ^ 56
+abbrev savedThreshold : Windows → ℕ → ℕ
+savedThreshold w p = look both w p / 2 ^ 56
 
-unfoldable pub countTaken : Window → ℕ → ℕ → Bool
-countTaken w p g = cond (has (shapeOf w) (below p (269 - g))) (leb (look one w (below p (269 - g))) g) true
+unfoldable pub countTaken : Windows → ℕ → ℕ → Bool
+countTaken w p g = cond (inside (shapesOf w) (below p (269 - g))) (leb (look both w (below p (269 - g))) g) true
 
-unfoldable pub contextTaken : Window → ℕ → Bool
+unfoldable pub contextTaken : Windows → ℕ → Bool
 contextTaken w p =
-    cond (has (shapeOf w) p)
-    (leb 32 (savedThreshold w p) && (leb (savedThreshold w p) 255 && (leb (look one w p % 2 ^ 56) 0x3FFFF && countTaken w p (savedThreshold w p))))
+    cond (inside (shapesOf w) p)
+    (leb 32 (savedThreshold w p) && (leb (savedThreshold w p) 255 && (leb (look both w p % 2 ^ 56) 0x3FFFF && countTaken w p (savedThreshold w p))))
     true
 
 -- No departure is met by arm a with X, Y, Z in state s on window w, but that rS moves with rO. One field a condition.
-pub record Outside (w : Window) (s : State) (a : Arm) (x y z : ℕ) : Type 0 where
+pub record Outside (w : Windows) (s : State) (a : Arm) (x y z : ℕ) : Type 0 where
   -- no marginal register that is not zero is read
   pub reads : ReadsAlike s a x y z
   -- bytes that Knuth wants to be zero are zero
@@ -109,9 +109,9 @@ AtTop interrupts = Unit {0}
 
 pub record Departures : Type 0 where
   -- THE STEP is Knuth's, outside the conditions, rS apart; and whole, where his rS has caught up with rO
-  pub by-step : (w : Window) (s : State) (op x y z : ℕ) → Outside w s (armOf op) x y z
+  pub by-step : (w : Windows) (s : State) (op x y z : ℕ) → Outside w s (armOf op) x y z
       → mapOutcome goesOn (stepOf w s op x y z) ≡ settledRule w s op x y z
-  pub by-step-whole : (w : Window) (s : State) (op x y z : ℕ) → Outside w s (armOf op) x y z → AtTop (stepRule w s op x y z .state)
+  pub by-step-whole : (w : Windows) (s : State) (op x y z : ℕ) → Outside w s (armOf op) x y z → AtTop (stepRule w s op x y z .state)
       → mapOutcome goesOn (stepOf w s op x y z) ≡ stepRule w s op x y z
   -- and so is THE EXCEPTION
   pub by-exception : (s : State) (f op x y z u v : ℕ) → OutsideException s f → exceptionOf s f op x y z u v ≡ exceptionRule s f op x y z u v
@@ -128,8 +128,8 @@ pub record Departures : Type 0 where
   -- POP without a frame, and with a misplaced rO
   pub pop-frame : (s : State) (x t : ℕ) → noFrame s ≡ false → misplaced s ≡ false → popFrame s x t ≡ popRule s x t
   -- UNSAVE: 14, 15 and 16, and the low bits of the address
-  pub unsave-taken : (w : Window) (s : State) (p : ℕ) → octa p ≡ p → contextTaken w p ≡ true
-      → perform one (refusing (shapeOf w)) s (unsaveContext s p) w ≡ perform one (refusing (shapeOf w)) s (unsaveRule s p) w
+  pub unsave-taken : (w : Windows) (s : State) (p : ℕ) → octa p ≡ p → contextTaken w p ≡ true
+      → perform both (refusing (shapesOf w)) s (unsaveContext s p) w ≡ perform both (refusing (shapesOf w)) s (unsaveRule s p) w
   -- GET of rL into a marginal register
   pub get-local : (s : State) (x z : ℕ) → (eqb z rL && isMarginal s x) ≡ false → got s x z ≡ gotRule s x z
   -- enabled exceptions after the taken one, and U without X: only where there are any

@@ -8,7 +8,7 @@ use lib.ListN.{getD, set}
 use Rattle.model.specs.Fill.{over, tab}
 use Rattle.model.specs.Plan.{Plan, answer, read}
 use Rattle.model.specs.Said.{say, refuse, tell}
-use Rattle.model.specs.Registers.{rJ, rO, rG, rL, stackStart, sp, reg, following, goes, withSpecial, claimLocal, spilled}
+use Rattle.model.specs.Registers.{withParts, rJ, rO, rG, rL, stackStart, sp, reg, following, goes, withSpecial, claimLocal, spilled}
 use Rattle.model.specs.declared.State.{State}
 
 -- ---- PUSH
@@ -32,13 +32,9 @@ slid s n i = cond (ltb i (sp s rL - n)) (reg s (n + i)) 0
 
 -- "rL is max(0, rL − H − 1) .. rO .. grow by 8 × (H + 1)", n for H + 1
 unfoldable pub slide : State → ℕ → State
-slide s n = record {
-  general = over (slid s n) 0 (sp s rG) (s .general);
-  special = set (set (s .special) rL (sp s rL - n)) rO ((sp s rO + 8 * n) % 2 ^ 64);
-  pc = s .pc;
-  halt = s .halt;
-  marks = s .marks;
-}
+slide s n = withParts s
+    (over (slid s n) 0 (sp s rG) (s .general))
+    (set (set (s .special) rL (sp s rL - n)) rO ((sp s rO + 8 * n) % 2 ^ 64))
 
 -- Knuth's PUSH with hole h: ".. rJ is @ + 4"
 unfoldable pub pushedRule : State → ℕ → State
@@ -69,13 +65,9 @@ restored s x h ls i = cond (ltb i h) (getD ls i 0) (cond (eqb i h) (lastOutput s
 
 -- "Registers at or above rG are never written. rL is min(H + count, rG); rO .. become rO − 8 × (H + 1)"
 unfoldable pub unslide : State → ℕ → ℕ → List ℕ → State
-unslide s x h ls = record {
-  general = over (restored s x h ls) 0 (sp s rG) (s .general);
-  special = set (set (s .special) rL (min (h + countOf s x) (sp s rG))) rO (sp s rO - 8 * (h + 1));
-  pc = s .pc;
-  halt = s .halt;
-  marks = s .marks;
-}
+unslide s x h ls = withParts s
+    (over (restored s x h ls) 0 (sp s rG) (s .general))
+    (set (set (s .special) rL (min (h + countOf s x) (sp s rG))) rO (sp s rO - 8 * (h + 1)))
 
 -- the step: rS moves with rO
 unfoldable pub popped : State → ℕ → ℕ → List ℕ → State

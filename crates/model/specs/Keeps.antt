@@ -3,7 +3,7 @@ use Prim.Native.Nat.{ℕ, _<_, _^_}
 use mathlib.Core.Path.{_≡_}
 use mathlib.Core.Bool.{true}
 use lib.ListN.{getD}
-use Rattle.model.specs.Memory.{Window, one}
+use Rattle.model.specs.Memory.{Windows, both}
 use Rattle.model.specs.Lists.{stepOn}
 use Rattle.model.specs.Registers.{Sized, Words, admissible, MarginalZero}
 use Rattle.model.specs.Step.{Item, step, exception, mmix}
@@ -21,13 +21,13 @@ Fits (step op x y z) = InstructionFits op x y z
 Fits (exception f op x y z u v) = InstructionFits op x y z × (u < 2 ^ 64) × (v < 2 ^ 64)
 
 -- each byte of the window is one
-pub record Bytes (w : Window) : Type 0 where
+pub record Bytes (w : Windows) : Type 0 where
   pub byte : (i : ℕ) → getD (w .bytes) i 0 < 256
 
 pub record ItemsKeep : Type 0 where
-  pub sized : (w : Window) (s : State) (i : Item) → Sized s → Sized (stepOn one mmix s w i .state)
-  pub admitted : (w : Window) (s : State) (i : Item) → Sized s → admissible s ≡ true → admissible (stepOn one mmix s w i .state) ≡ true
+  pub sized : (w : Windows) (s : State) (i : Item) → Sized s → Sized (stepOn both mmix s w i .state)
+  pub admitted : (w : Windows) (s : State) (i : Item) → Sized s → admissible s ≡ true → admissible (stepOn both mmix s w i .state) ≡ true
   -- "once all zero, they stay zero through every step and every exception"
-  pub marginal : (w : Window) (s : State) (i : Item) → Sized s → MarginalZero s → MarginalZero (stepOn one mmix s w i .state)
-  pub words : (w : Window) (s : State) (i : Item) → Fits i → Bytes w → Words s → Words (stepOn one mmix s w i .state)
-  pub bytes : (w : Window) (s : State) (i : Item) → Bytes w → Bytes (stepOn one mmix s w i .memory)
+  pub marginal : (w : Windows) (s : State) (i : Item) → Sized s → MarginalZero s → MarginalZero (stepOn both mmix s w i .state)
+  pub words : (w : Windows) (s : State) (i : Item) → Fits i → Bytes w → Words s → Words (stepOn both mmix s w i .state)
+  pub bytes : (w : Windows) (s : State) (i : Item) → Bytes w → Bytes (stepOn both mmix s w i .memory)

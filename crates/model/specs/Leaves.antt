@@ -2,7 +2,7 @@
 use Prim.Native.Nat.{ℕ, _≤_}
 use mathlib.Core.Path.{_≡_}
 use mathlib.Core.Logic.{_⊎_, _≢_}
-use Rattle.model.specs.Memory.{Window}
+use Rattle.model.specs.Memory.{Windows}
 use Rattle.model.specs.Plan.{Outcome}
 use Rattle.model.specs.Registers.{rB, rJ, rBB, rW, rX, rY, rZ, rWW, rXX, rYY, rZZ, sp, reg, following, Sized, halted}
 use Rattle.model.specs.Said.{Said}
@@ -32,7 +32,7 @@ abbrev pub Trapped : State → State → ℕ → ℕ → ℕ → Type 0
 Trapped s t word u v = Interrupted s t rBB rWW rXX rYY rZZ word u v
 
 -- what a step leaves
-pub record StepLeaves (w : Window) (s : State) (op x y z : ℕ) (o : Outcome State Window) : Type 0 where
+pub record StepLeaves (w : Windows) (s : State) (op x y z : ℕ) (o : Outcome State Windows) : Type 0 where
   pub most : o .reply ≤ 20
   pub one-to-six : 1 ≤ o .reply → o .reply ≤ 6 → (o .state ≡ s) × (o .memory ≡ w)
   pub seven-to-eighteen : 7 ≤ o .reply → o .reply ≤ 18 → (o .state ≡ halted s) × (o .memory ≡ w)
@@ -48,12 +48,12 @@ pub record ExceptionLeaves (s : State) (f op x y z u v : ℕ) (d : Said) : Type 
   pub done : d .reply ≡ 0 → d .state .halt ≡ s .halt
 
 -- what the reader leaves
-pub record ReaderLeaves (w : Window) (o : Outcome Part Window) : Type 0 where
+pub record ReaderLeaves (w : Windows) (o : Outcome Part Windows) : Type 0 where
   pub among : (o .reply ≡ 0) ⊎ ((o .reply ≡ 2) ⊎ ((o .reply ≡ 6) ⊎ ((o .reply ≡ 14) ⊎ ((o .reply ≡ 15) ⊎ (o .reply ≡ 16)))))
   pub refused : o .reply ≢ 0 → o .state ≡ emptyPart
   pub unchanged : o .memory ≡ w
 
 pub record RepliesLeave : Type 0 where
-  pub by-step : (w : Window) (s : State) (op x y z : ℕ) → Sized s → StepLeaves w s op x y z (stepOf w s op x y z)
+  pub by-step : (w : Windows) (s : State) (op x y z : ℕ) → Sized s → StepLeaves w s op x y z (stepOf w s op x y z)
   pub by-exception : (s : State) (f op x y z u v : ℕ) → Sized s → ExceptionLeaves s f op x y z u v (exceptionOf s f op x y z u v)
-  pub by-reader : (w : Window) (p : ℕ) → ReaderLeaves w (readContext w p)
+  pub by-reader : (w : Windows) (p : ℕ) → ReaderLeaves w (readContext w p)

@@ -51,3 +51,30 @@ pub record Store (M Sh : Type 0) : Type 0 where
 
 unfoldable pub one : Store Window Shape
 one = record { shape = shapeOf; inside = has; raw = octaBytes; put = writeOcta }
+
+-- ---- the memory that a host lends: one window. What follows speaks of it by these names
+
+abbrev pub Windows : Type 0
+Windows = Window
+
+-- base and length of what is lent
+abbrev pub Shapes : Type 0
+Shapes = Shape
+
+abbrev pub shapesOf : Windows → Shapes
+shapesOf = shapeOf
+
+-- the octabyte that a names is lent
+abbrev pub inside : Shapes → ℕ → Bool
+inside = has
+
+-- its eight bytes
+abbrev pub octaAt : Windows → ℕ → List ℕ
+octaAt = octaBytes
+
+-- it becomes v
+abbrev pub putOcta : Windows → ℕ → ℕ → Windows
+putOcta = writeOcta
+
+abbrev pub both : Store Windows Shapes
+both = one

@@ -7,7 +7,7 @@ use mathlib.Core.Logic.{_≢_}
 use mathlib.Core.Bool.{true, false}
 use lib.Count.{leadingZeros}
 use Rattle.model.specs.Registers.{rJ, rO, rG, sp, reg, admissible, goes, halted}
-use Rattle.model.specs.Memory.{Window, shapeOf, ruled, has, one}
+use Rattle.model.specs.Memory.{Windows, shapesOf, ruled, inside, both}
 use Rattle.model.specs.Plan.{Outcome, clear, look}
 use Rattle.model.specs.Opcodes.{armOf}
 use Rattle.model.specs.Said.{say}
@@ -19,59 +19,59 @@ use Rattle.model.specs.Step.{refusalOf, refusing, stepOf, exceptionOf}
 use Rattle.model.specs.declared.State.{State}
 
 -- refused by n: nothing changes; or the halt code becomes 1
-abbrev pub refusedBy : ℕ → Window → State → Outcome State Window
+abbrev pub refusedBy : ℕ → Windows → State → Outcome State Windows
 refusedBy n w s = record { reply = n; state = s; memory = w }
 
-abbrev pub haltedBy : ℕ → Window → State → Outcome State Window
+abbrev pub haltedBy : ℕ → Windows → State → Outcome State Windows
 haltedBy n w s = refusedBy n w (halted s)
 
 -- neither 1 nor 2
-pub record Passes (w : Window) (s : State) : Type 0 where
+pub record Passes (w : Windows) (s : State) : Type 0 where
   pub admitted : admissible s ≡ true
-  pub windowed : ruled (shapeOf w) ≡ true
+  pub windowed : ruled (shapesOf w) ≡ true
 
 -- the packed octabyte at p is there, and so are its rG and rA as saved
-pub record Packed (w : Window) (p g a : ℕ) : Type 0 where
-  pub there : has (shapeOf w) p ≡ true
-  pub threshold : look one w p / 2 ^ 56 ≡ g
-  pub status : look one w p % 2 ^ 56 ≡ a
+pub record Packed (w : Windows) (p g a : ℕ) : Type 0 where
+  pub there : inside (shapesOf w) p ≡ true
+  pub threshold : look both w p / 2 ^ 56 ≡ g
+  pub status : look both w p % 2 ^ 56 ≡ a
 
 -- rG and rA pass, and the local count l is there
-pub record Counted (w : Window) (p g a l : ℕ) : Type 0 where
+pub record Counted (w : Windows) (p g a l : ℕ) : Type 0 where
   pub packed : Packed w p g a
   pub least : 32 ≤ g
   pub most : g ≤ 255
   pub status-fits : a ≤ 0x3FFFF
-  pub count-there : has (shapeOf w) (below p (269 - g)) ≡ true
-  pub count : look one w (below p (269 - g)) ≡ l
+  pub count-there : inside (shapesOf w) (below p (269 - g)) ≡ true
+  pub count : look both w (below p (269 - g)) ≡ l
 
 pub record StepsInOrder : Type 0 where
   -- 1, whatever the window and the instruction are; then 2, whatever the instruction is; then 3 to 5
-  pub one-first : (w : Window) (s : State) (op x y z : ℕ) → admissible s ≡ false → stepOf w s op x y z ≡ refusedBy 1 w s
-  pub two-next : (w : Window) (s : State) (op x y z : ℕ) → admissible s ≡ true → ruled (shapeOf w) ≡ false → stepOf w s op x y z ≡ refusedBy 2 w s
-  pub three-to-five : (w : Window) (s : State) (op x y z : ℕ) → Passes w s → refusalOf (armOf op) x y z ≢ 0
+  pub one-first : (w : Windows) (s : State) (op x y z : ℕ) → admissible s ≡ false → stepOf w s op x y z ≡ refusedBy 1 w s
+  pub two-next : (w : Windows) (s : State) (op x y z : ℕ) → admissible s ≡ true → ruled (shapesOf w) ≡ false → stepOf w s op x y z ≡ refusedBy 2 w s
+  pub three-to-five : (w : Windows) (s : State) (op x y z : ℕ) → Passes w s → refusalOf (armOf op) x y z ≢ 0
       → stepOf w s op x y z ≡ refusedBy (refusalOf (armOf op) x y z) w s
   -- SAVE: 13, whatever lies in the window; then 6
-  pub save-thirteen : (w : Window) (s : State) (x y z : ℕ) → Passes w s → x < sp s rG → stepOf w s 0xFA x y z ≡ haltedBy 13 w s
-  pub save-six : (w : Window) (s : State) (x y z : ℕ) → Passes w s → sp s rG ≤ x → clear (refusing (shapeOf w)) (sp s rO) (extent s) ≡ false
+  pub save-thirteen : (w : Windows) (s : State) (x y z : ℕ) → Passes w s → x < sp s rG → stepOf w s 0xFA x y z ≡ haltedBy 13 w s
+  pub save-six : (w : Windows) (s : State) (x y z : ℕ) → Passes w s → sp s rG ≤ x → clear (refusing (shapesOf w)) (sp s rO) (extent s) ≡ false
       → stepOf w s 0xFA x y z ≡ refusedBy 6 w s
   -- POP: no frame, though rO be misplaced and the window empty; then 12, whatever lies in the window; then 6
-  pub pop-no-frame : (w : Window) (s : State) (x y z : ℕ) → Passes w s → noFrame s ≡ true
+  pub pop-no-frame : (w : Windows) (s : State) (x y z : ℕ) → Passes w s → noFrame s ≡ true
       → stepOf w s 0xF8 x y z ≡ refusedBy 0 w (goes s ((sp s rJ + 4 * yzOf y z) % 2 ^ 64))
-  pub pop-twelve : (w : Window) (s : State) (x y z : ℕ) → Passes w s → noFrame s ≡ false → misplaced s ≡ true → stepOf w s 0xF8 x y z ≡ haltedBy 12 w s
-  pub pop-six : (w : Window) (s : State) (x y z : ℕ) → Passes w s → noFrame s ≡ false → misplaced s ≡ false → has (shapeOf w) (sp s rO - 8) ≡ false
+  pub pop-twelve : (w : Windows) (s : State) (x y z : ℕ) → Passes w s → noFrame s ≡ false → misplaced s ≡ true → stepOf w s 0xF8 x y z ≡ haltedBy 12 w s
+  pub pop-six : (w : Windows) (s : State) (x y z : ℕ) → Passes w s → noFrame s ≡ false → misplaced s ≡ false → inside (shapesOf w) (sp s rO - 8) ≡ false
       → stepOf w s 0xF8 x y z ≡ refusedBy 6 w s
   -- UNSAVE: 6 for the packed octabyte; 14, whatever rA and the count are; 15, whatever the count is, though it be missing; 6 for the count; 16,
   -- though the rest be missing; 6 for the rest
-  pub unsave-packed : (w : Window) (s : State) (x y z : ℕ) → Passes w s → has (shapeOf w) (reg s z) ≡ false → stepOf w s 0xFB x y z ≡ refusedBy 6 w s
-  pub unsave-fourteen : (w : Window) (s : State) (x y z g a : ℕ) → Passes w s → Packed w (reg s z) g a → g < 32 → stepOf w s 0xFB x y z ≡ haltedBy 14 w s
-  pub unsave-fifteen : (w : Window) (s : State) (x y z g a : ℕ) → Passes w s → Packed w (reg s z) g a → 32 ≤ g → g ≤ 255 → 0x3FFFF < a
+  pub unsave-packed : (w : Windows) (s : State) (x y z : ℕ) → Passes w s → inside (shapesOf w) (reg s z) ≡ false → stepOf w s 0xFB x y z ≡ refusedBy 6 w s
+  pub unsave-fourteen : (w : Windows) (s : State) (x y z g a : ℕ) → Passes w s → Packed w (reg s z) g a → g < 32 → stepOf w s 0xFB x y z ≡ haltedBy 14 w s
+  pub unsave-fifteen : (w : Windows) (s : State) (x y z g a : ℕ) → Passes w s → Packed w (reg s z) g a → 32 ≤ g → g ≤ 255 → 0x3FFFF < a
       → stepOf w s 0xFB x y z ≡ haltedBy 15 w s
-  pub unsave-count : (w : Window) (s : State) (x y z g a : ℕ) → Passes w s → Packed w (reg s z) g a → 32 ≤ g → g ≤ 255 → a ≤ 0x3FFFF
-      → has (shapeOf w) (below (reg s z) (269 - g)) ≡ false → stepOf w s 0xFB x y z ≡ refusedBy 6 w s
-  pub unsave-sixteen : (w : Window) (s : State) (x y z g a l : ℕ) → Passes w s → Counted w (reg s z) g a l → g < l → stepOf w s 0xFB x y z ≡ haltedBy 16 w s
-  pub unsave-rest : (w : Window) (s : State) (x y z g a l : ℕ) → Passes w s → Counted w (reg s z) g a l → l ≤ g
-      → clear (refusing (shapeOf w)) (below (reg s z) (l + 269 - g)) (l + 270 - g) ≡ false → stepOf w s 0xFB x y z ≡ refusedBy 6 w s
+  pub unsave-count : (w : Windows) (s : State) (x y z g a : ℕ) → Passes w s → Packed w (reg s z) g a → 32 ≤ g → g ≤ 255 → a ≤ 0x3FFFF
+      → inside (shapesOf w) (below (reg s z) (269 - g)) ≡ false → stepOf w s 0xFB x y z ≡ refusedBy 6 w s
+  pub unsave-sixteen : (w : Windows) (s : State) (x y z g a l : ℕ) → Passes w s → Counted w (reg s z) g a l → g < l → stepOf w s 0xFB x y z ≡ haltedBy 16 w s
+  pub unsave-rest : (w : Windows) (s : State) (x y z g a l : ℕ) → Passes w s → Counted w (reg s z) g a l → l ≤ g
+      → clear (refusing (shapesOf w)) (below (reg s z) (l + 269 - g)) (l + 270 - g) ≡ false → stepOf w s 0xFB x y z ≡ refusedBy 6 w s
   -- an exception: 1, whatever the marks are; then 19
   pub exception-one : (s : State) (f op x y z u v : ℕ) → admissible s ≡ false → exceptionOf s f op x y z u v ≡ say 1 s
   pub exception-nineteen : (s : State) (f op x y z u v : ℕ) → admissible s ≡ true → enabled s f ≢ 0 → isLoaded s (leadingZeros 8 (enabled s f) + 1) ≡ false

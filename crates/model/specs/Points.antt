@@ -5,7 +5,7 @@ use mathlib.Core.Path.{_≡_}
 use mathlib.Core.Bool.{Bool, true, false, cond, not, _&&_}
 use mathlib.Core.List.{List, [], _∷_, _++_}
 use lib.ListN.{replicate}
-use Rattle.model.specs.Memory.{Window, Shape, ruled}
+use Rattle.model.specs.Memory.{Windows, Shapes, ruled}
 use Rattle.model.specs.Registers.{rJ, rBB, rO, rS, rG, rL, rA, rB, rW, rX, rY, rZ, rWW, rXX, rYY, rZZ, stackStart, fresh, goes, halted, withSpecial, stored}
 use Rattle.model.specs.Step.{Item, step, exception}
 use Rattle.model.specs.Bench.{Point, allMet, start}
@@ -13,11 +13,11 @@ use Rattle.model.specs.declared.State.{State}
 
 -- ---- on no memory
 
-abbrev nowhere : Window
+abbrev nowhere : Windows
 nowhere = record { base = stackStart; bytes = [] }
 
 -- one octabyte, 0
-abbrev eight : Window
+abbrev eight : Windows
 eight = record { base = stackStart; bytes = replicate 8 0 }
 
 -- n locals, each 1 up to $1
@@ -217,7 +217,7 @@ admissiblePoints =
 
 -- ---- 2: the window's rule, by its shape
 
-abbrev shape : ℕ → ℕ → Shape
+abbrev shape : ℕ → ℕ → Shapes
 shape b n = record { from = b; size = n }
 
 unfoldable pub ruledShapes : Bool

@@ -5,7 +5,7 @@ use Prim.Native.Nat.{ℕ, _+_, _-_, _*_}
 use mathlib.Core.Bool.{cond}
 use mathlib.Core.List.{List}
 use lib.ListN.{take, drop}
-use Rattle.model.specs.Memory.{Window, shapeOf, ruled, offset, one}
+use Rattle.model.specs.Memory.{Windows, shapesOf, ruled, offset, both}
 use Rattle.model.specs.Plan.{Outcome, perform}
 use Rattle.model.specs.Contexts.{contextAt}
 use Rattle.model.specs.Step.{refusing}
@@ -19,16 +19,16 @@ abbrev pub emptyPart : Part
 emptyPart = record { start = 0; size = 0 }
 
 -- the context of l locals and threshold g whose first local is at o
-unfoldable pub partAt : Window → ℕ → ℕ → ℕ → ℕ → List ℕ → Part
+unfoldable pub partAt : Windows → ℕ → ℕ → ℕ → ℕ → List ℕ → Part
 partAt w o g a l vs = record { start = offset (w .base) o; size = 8 * (l + 270 - g) }
 
 -- THE reader: its reply and the part
-unfoldable pub readContext : Window → ℕ → Outcome Part Window
+unfoldable pub readContext : Windows → ℕ → Outcome Part Windows
 readContext w p =
-    cond (ruled (shapeOf w))
-    (perform one (refusing (shapeOf w)) emptyPart (contextAt emptyPart (partAt w) p) w)
+    cond (ruled (shapesOf w))
+    (perform both (refusing (shapesOf w)) emptyPart (contextAt emptyPart (partAt w) p) w)
     (record { reply = 2; state = emptyPart; memory = w })
 
 -- the bytes of a part
-abbrev pub bytesIn : Window → Part → List ℕ
+abbrev pub bytesIn : Windows → Part → List ℕ
 bytesIn w q = take (q .size) (drop (q .start) (w .bytes))

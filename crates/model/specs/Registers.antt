@@ -3,6 +3,7 @@
 use Prim.Native.Nat.{ℕ, _+_, _%_, _^_, min, max, _<_, _≤_}
 use mathlib.Core.Path.{_≡_}
 use mathlib.Core.Bool.{Bool, cond, _&&_}
+use mathlib.Core.List.{List}
 use lib.Dec.{leb, ltb}
 use lib.ListN.{length, getD, set, replicate}
 use Rattle.model.specs.Fill.{over}
@@ -161,9 +162,17 @@ fresh = record {
 
 -- ---- writes
 
+-- s with other registers, PC and halt code
+abbrev pub built : State → List ℕ → List ℕ → ℕ → ℕ → State
+built s general special pc halt = record { general = general; special = special; pc = pc; halt = halt; marks = s .marks }
+
+-- s with other registers
+abbrev pub withParts : State → List ℕ → List ℕ → State
+withParts s general special = built s general special (s .pc) (s .halt)
+
 -- PC becomes a
 unfoldable pub goes : State → ℕ → State
-goes s a = record { general = s .general; special = s .special; pc = a; halt = s .halt; marks = s .marks }
+goes s a = built s (s .general) (s .special) a (s .halt)
 
 -- "any step not said to go elsewhere, goes to @ + 4"
 abbrev pub next : State → State
@@ -171,19 +180,19 @@ next s = goes s (following s)
 
 -- the halt code becomes 1
 unfoldable pub halted : State → State
-halted s = record { general = s .general; special = s .special; pc = s .pc; halt = 1; marks = s .marks }
+halted s = built s (s .general) (s .special) (s .pc) 1
 
 -- special register k becomes v
 unfoldable pub withSpecial : State → ℕ → ℕ → State
-withSpecial s k v = record { general = s .general; special = set (s .special) k v; pc = s .pc; halt = s .halt; marks = s .marks }
+withSpecial s k v = withParts s (s .general) (set (s .special) k v)
 
 -- $x becomes v, and nothing is claimed
 unfoldable pub stored : State → ℕ → ℕ → State
-stored s x v = record { general = set (s .general) x v; special = s .special; pc = s .pc; halt = s .halt; marks = s .marks }
+stored s x v = withParts s (set (s .general) x v) (s .special)
 
 -- $a to $(b − 1) become 0
 unfoldable pub cleared : State → ℕ → ℕ → State
-cleared s a b = record { general = over (λ k. 0) a b (s .general); special = s .special; pc = s .pc; halt = s .halt; marks = s .marks }
+cleared s a b = withParts s (over (λ k. 0) a b (s .general)) (s .special)
 
 -- rL ≤ x < rG
 abbrev pub isMarginal : State → ℕ → Bool

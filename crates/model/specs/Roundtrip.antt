@@ -4,26 +4,26 @@ use mathlib.Core.Path.{_≡_}
 use mathlib.Core.Bool.{true}
 use lib.ListN.{set}
 use Rattle.model.specs.Fill.{over}
-use Rattle.model.specs.Memory.{Window, shapeOf, ruled, offset, one}
+use Rattle.model.specs.Memory.{Windows, shapesOf, ruled, offset, both}
 use Rattle.model.specs.Plan.{Outcome, look}
-use Rattle.model.specs.Registers.{rO, rS, rG, rL, sp, reg, admissible, Sized, Words}
+use Rattle.model.specs.Registers.{built, rO, rS, rG, rL, sp, reg, admissible, Sized, Words}
 use Rattle.model.specs.Contexts.{below, contextAddress}
 use Rattle.model.specs.Reader.{Part, readContext}
 use Rattle.model.specs.Step.{stepOf}
 use Rattle.model.specs.declared.State.{State}
 
 -- the context whose packed octabyte is at p, as its own octabytes say it: rG, the local count, and the octabytes from first local up
-abbrev pub thresholdAt : Window → ℕ → ℕ
-thresholdAt w p = look one w p / 2 ^ 56
+abbrev pub thresholdAt : Windows → ℕ → ℕ
+thresholdAt w p = look both w p / 2 ^ 56
 
-abbrev pub countAt : Window → ℕ → ℕ
-countAt w p = look one w (below p (269 - thresholdAt w p))
+abbrev pub countAt : Windows → ℕ → ℕ
+countAt w p = look both w (below p (269 - thresholdAt w p))
 
-abbrev pub octasAt : Window → ℕ → ℕ
+abbrev pub octasAt : Windows → ℕ → ℕ
 octasAt w p = countAt w p + 270 - thresholdAt w p
 
 -- the part that a reader which is done hands back: it starts at the first local and ends after the packed octabyte
-pub record FromFirstToPacked (w : Window) (p : ℕ) (q : Part) : Type 0 where
+pub record FromFirstToPacked (w : Windows) (p : ℕ) (q : Part) : Type 0 where
   pub starts : q .start ≡ offset (w .base) (below p (octasAt w p - 1))
   pub ends : q .start + q .size ≡ offset (w .base) p + 8
   pub octas : q .size ≡ 8 * octasAt w p
@@ -31,25 +31,19 @@ pub record FromFirstToPacked (w : Window) (p : ℕ) (q : Part) : Type 0 where
 -- s after SAVE and then UNSAVE: rL, rG, rA, rO, the specials, the locals below rL and all globals as before, the other locals 0,
 -- rS = rO, and PC two instructions on
 unfoldable pub unparked : State → State
-unparked s = record {
-  general = over (λ i. 0) (sp s rL) (sp s rG) (s .general);
-  special = set (s .special) rS (sp s rO);
-  pc = (s .pc + 8) % 2 ^ 64;
-  halt = s .halt;
-  marks = s .marks;
-}
+unparked s = built s (over (λ i. 0) (sp s rL) (sp s rG) (s .general)) (set (s .special) rS (sp s rO)) ((s .pc + 8) % 2 ^ 64) (s .halt)
 
 -- UNSAVE of $x, where o is what SAVE $x left
-abbrev pub unsaveAfter : Outcome State Window → ℕ → ℕ → ℕ → Outcome State Window
+abbrev pub unsaveAfter : Outcome State Windows → ℕ → ℕ → ℕ → Outcome State Windows
 unsaveAfter o x y z = stepOf (o .memory) (o .state) 0xFB y z x
 
 pub record ContextsKept : Type 0 where
   -- "The reader's reply is, for every admissible state whose $Z is the address and every ruled window, UNSAVE's own"
-  pub reader-reply : (w : Window) (s : State) (x y z : ℕ) → admissible s ≡ true → ruled (shapeOf w) ≡ true
+  pub reader-reply : (w : Windows) (s : State) (x y z : ℕ) → admissible s ≡ true → ruled (shapesOf w) ≡ true
       → readContext w (reg s z) .reply ≡ stepOf w s 0xFB x y z .reply
-  pub reader-part : (w : Window) (p : ℕ) → readContext w p .reply ≡ 0 → FromFirstToPacked w p (readContext w p .state)
+  pub reader-part : (w : Windows) (p : ℕ) → readContext w p .reply ≡ 0 → FromFirstToPacked w p (readContext w p .state)
   -- X is a byte; for any rO, misaligned too
-  pub save-unsave : (w : Window) (s : State) (x y z y' z' : ℕ) → x < 256 → Sized s → Words s → stepOf w s 0xFA x y z .reply ≡ 0
+  pub save-unsave : (w : Windows) (s : State) (x y z y' z' : ℕ) → x < 256 → Sized s → Words s → stepOf w s 0xFA x y z .reply ≡ 0
       → unsaveAfter (stepOf w s 0xFA x y z) x y' z' ≡ record { reply = 0; state = unparked s; memory = stepOf w s 0xFA x y z .memory }
-  pub save-address : (w : Window) (s : State) (x y z : ℕ) → x < 256 → Sized s → stepOf w s 0xFA x y z .reply ≡ 0
+  pub save-address : (w : Windows) (s : State) (x y z : ℕ) → x < 256 → Sized s → stepOf w s 0xFA x y z .reply ≡ 0
       → reg (stepOf w s 0xFA x y z .state) x ≡ contextAddress s

@@ -10,8 +10,8 @@ use lib.Count.{leadingZeros}
 use lib.ListN.{getD}
 use Rattle.model.specs.Fill.{over, tab}
 use Rattle.model.specs.Octa.{octa}
-use Rattle.model.specs.Registers.{rJ, rC, rO, rI, rU, rG, rL, rA, sp, reg, following, admissible, goes, next, withSpecial, isMarginal, setRegister, spilled}
-use Rattle.model.specs.Memory.{Window, Shape, shapeOf, ruled, one}
+use Rattle.model.specs.Registers.{withParts, rJ, rC, rO, rI, rU, rG, rL, rA, sp, reg, following, admissible, goes, next, withSpecial, isMarginal, setRegister, spilled}
+use Rattle.model.specs.Memory.{Windows, Shapes, shapesOf, ruled, both}
 use Rattle.model.specs.Plan.{Plan, answer, read, Outcome, mapPlan, perform}
 use Rattle.model.specs.Opcodes.{Operand, register, immediate, Arm, branch, jump, getAddress, go, pushJump, pushGo, pop, put, get, save, unsave, sync, swym, trip, trap, none, armOf}
 use Rattle.model.specs.Said.{Said, say, tell}
@@ -20,7 +20,7 @@ use Rattle.model.specs.Frames.{hole, framedRule, pushedRule, unslide}
 use Rattle.model.specs.Contexts.{extent, saved, savedState, below, unsavedSpecial}
 use Rattle.model.specs.System.{putRefusal, putState, gotRule}
 use Rattle.model.specs.Trips.{wordOf, tripRule, trapRule, enabled, addedRule}
-use Rattle.model.specs.Step.{refusing}
+use Rattle.model.specs.Step.{refusing, guarded}
 use Rattle.model.specs.declared.State.{State}
 
 -- ---- reading
@@ -81,13 +81,9 @@ unfoldable pub unsavedSpecialRule : State → ℕ → ℕ → ℕ → ℕ → Li
 unsavedSpecialRule s o g a l vs k = cond (eqb k rL) (min l g) (unsavedSpecial s o g a l vs k)
 
 unfoldable pub unsavedRule : State → ℕ → ℕ → ℕ → ℕ → List ℕ → State
-unsavedRule s o g a l vs = spilled (record {
-  general = over (unsavedGeneralRule g l vs) 0 256 (s .general);
-  special = over (unsavedSpecialRule s o g a l vs) 0 32 (s .special);
-  pc = s .pc;
-  halt = s .halt;
-  marks = s .marks;
-})
+unsavedRule s o g a l vs = spilled (withParts s
+    (over (unsavedGeneralRule g l vs) 0 256 (s .general))
+    (over (unsavedSpecialRule s o g a l vs) 0 32 (s .special)))
 
 unfoldable pub unsaveRestRule : State → ℕ → ℕ → ℕ → ℕ → Plan State
 unsaveRestRule s q g a l = read 6 (below q (l + 269 - g)) (l + 270 - g) (λ vs. answer 0 (next (unsavedRule s (below q (l + 269 - g) % 2 ^ 64) g a l vs)) 0 [])
@@ -126,13 +122,9 @@ ruleOf s trap op x y z = done (trapRule s (wordOf op x y z) (readRule s y) (read
 -- not an instruction of this machine
 ruleOf s none op x y z = going (tell (say 3 s))
 
--- "Order: 1, 2", then the arm
-unfoldable pub judgedRule : State → Shape → Plan After → Plan After
-judgedRule s w p = cond (admissible s) (cond (ruled w) p (going (tell (say 2 s)))) (going (tell (say 1 s)))
-
 -- KNUTH'S step
-unfoldable pub stepRule : Window → State → ℕ → ℕ → ℕ → ℕ → Outcome After Window
-stepRule w s op x y z = perform one (refusing (shapeOf w)) (goesOn s) (judgedRule s (shapeOf w) (ruleOf s (armOf op) op x y z)) w
+unfoldable pub stepRule : Windows → State → ℕ → ℕ → ℕ → ℕ → Outcome After Windows
+stepRule w s op x y z = perform both (refusing (shapesOf w)) (goesOn s) (guarded (goesOn s) s (shapesOf w) (ruleOf s (armOf op) op x y z)) w
 
 -- the same with rS moved with rO by PUSH and POP
 abbrev spilledAfter : After → After
@@ -157,9 +149,9 @@ settled trip t = t
 settled trap t = t
 settled none t = t
 
-unfoldable pub settledRule : Window → State → ℕ → ℕ → ℕ → ℕ → Outcome After Window
+unfoldable pub settledRule : Windows → State → ℕ → ℕ → ℕ → ℕ → Outcome After Windows
 settledRule w s op x y z =
-    perform one (refusing (shapeOf w)) (goesOn s) (judgedRule s (shapeOf w) (mapPlan (settled (armOf op)) (ruleOf s (armOf op) op x y z))) w
+    perform both (refusing (shapesOf w)) (goesOn s) (guarded (goesOn s) s (shapesOf w) (mapPlan (settled (armOf op)) (ruleOf s (armOf op) op x y z))) w
 
 -- ---- exceptions: "every exception but the taken one is added", and the trip is taken whatever is at the vector
 

@@ -1,10 +1,10 @@
 -- The entries' own definitions, `stepOf` and `exceptionOf`: 01's steps under 01's order of judging; and lists of them.
 use Prim.Native.Nat.{ℕ, _+_, _*_, _%_, _^_}
 use mathlib.Core.Bool.{Bool, cond, _&&_, _||_}
-use mathlib.Core.List.{List}
+use mathlib.Core.List.{List, []}
 use lib.Dec.{leb, ltb, eqb}
-use Rattle.model.specs.Memory.{Window, Shape, shapeOf, ruled, has, one}
-use Rattle.model.specs.Plan.{Plan, Outcome, perform, needs}
+use Rattle.model.specs.Memory.{Windows, Shapes, shapesOf, ruled, inside, both}
+use Rattle.model.specs.Plan.{Plan, answer, Outcome, perform, needs}
 use Rattle.model.specs.Lists.{Machine}
 use Rattle.model.specs.Registers.{rJ, sp, reg, admissible, goes, following, next, setRegister}
 use Rattle.model.specs.Opcodes.{Arm, branch, jump, getAddress, go, pushJump, pushGo, pop, put, get, save, unsave, sync, swym, trip, trap, none, armOf}
@@ -42,13 +42,17 @@ refusalOf sync x y z = 0
 refusalOf swym x y z = 0
 refusalOf trip x y z = 0
 
+-- 2: "window length or base breaks its rule"; 0 where it does not
+unfoldable pub unruledBy : Shapes → ℕ
+unruledBy w = cond (ruled w) 0 2
+
 -- "Order: 1, 2, then 3 to 5, then the instruction's own"
-unfoldable pub judged : State → Shape → Arm → ℕ → ℕ → ℕ → ℕ
-judged s w a x y z = cond (admissible s) (cond (ruled w) (refusalOf a x y z) 2) 1
+unfoldable pub judged : State → Shapes → Arm → ℕ → ℕ → ℕ → ℕ
+judged s w a x y z = cond (admissible s) (cond (eqb (unruledBy w) 0) (refusalOf a x y z) (unruledBy w)) 1
 
 -- 6: "a needed octabyte lies outside the window"
-unfoldable pub refusing : Shape → ℕ → ℕ
-refusing w a = cond (has w a) 0 6
+unfoldable pub refusing : Shapes → ℕ → ℕ
+refusing w a = cond (inside w a) 0 6
 
 -- ---- one step
 
@@ -76,16 +80,24 @@ planOf s trip op x y z = tell (tripTo s 0 (wordOf op x y z) (reg s y) (reg s z))
 planOf s trap op x y z = tell (trapOf s (wordOf op x y z) (reg s y) (reg s z))
 planOf s none op x y z = tell (say 3 s)
 
-unfoldable pub stepPlan : State → Shape → ℕ → ℕ → ℕ → ℕ → Plan State
-stepPlan s w op x y z = cond (eqb (judged s w (armOf op) x y z) 0) (planOf s (armOf op) op x y z) (tell (say (judged s w (armOf op) x y z) s))
+-- "Order: 1, 2, ..", `bad` where one of them is met; ..
+unfoldable pub guarded : {S : Type 0} → S → State → Shapes → Plan S → Plan S
+guarded bad s w p = cond (admissible s) (cond (eqb (unruledBy w) 0) p (answer (unruledBy w) bad 0 [])) (answer 1 bad 0 [])
+
+-- ".. then 3 to 5, then the instruction's own"
+unfoldable pub fromThree : State → Arm → ℕ → ℕ → ℕ → ℕ → Plan State
+fromThree s a op x y z = cond (eqb (refusalOf a x y z) 0) (planOf s a op x y z) (tell (say (refusalOf a x y z) s))
+
+unfoldable pub stepPlan : State → Shapes → ℕ → ℕ → ℕ → ℕ → Plan State
+stepPlan s w op x y z = guarded s s w (fromThree s (armOf op) op x y z)
 
 -- THE step: reply, state and window after it
-unfoldable pub stepOf : Window → State → ℕ → ℕ → ℕ → ℕ → Outcome State Window
-stepOf w s op x y z = perform one (refusing (shapeOf w)) s (stepPlan s (shapeOf w) op x y z) w
+unfoldable pub stepOf : Windows → State → ℕ → ℕ → ℕ → ℕ → Outcome State Windows
+stepOf w s op x y z = perform both (refusing (shapesOf w)) s (stepPlan s (shapesOf w) op x y z) w
 
 -- the octabytes that it needs
-unfoldable pub stepNeeds : Window → State → ℕ → ℕ → ℕ → ℕ → List ℕ
-stepNeeds w s op x y z = needs one (refusing (shapeOf w)) (stepPlan s (shapeOf w) op x y z) w
+unfoldable pub stepNeeds : Windows → State → ℕ → ℕ → ℕ → ℕ → List ℕ
+stepNeeds w s op x y z = needs both (refusing (shapesOf w)) (stepPlan s (shapesOf w) op x y z) w
 
 -- ---- one exception
 
@@ -100,9 +112,9 @@ pub data Item : Type 0 where
   step : ℕ → ℕ → ℕ → ℕ → Item
   exception : ℕ → ℕ → ℕ → ℕ → ℕ → ℕ → ℕ → Item
 
-unfoldable pub itemPlan : State → Shape → Item → Plan State
+unfoldable pub itemPlan : State → Shapes → Item → Plan State
 itemPlan s w (step op x y z) = stepPlan s w op x y z
 itemPlan s w (exception f op x y z u v) = tell (exceptionOf s f op x y z u v)
 
-unfoldable pub mmix : Machine State Item Shape
+unfoldable pub mmix : Machine State Item Shapes
 mmix = record { judge = λ s w i. refusing w; plan = itemPlan }

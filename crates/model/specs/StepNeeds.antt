@@ -4,7 +4,7 @@ use mathlib.Core.Path.{_≡_}
 use mathlib.Core.Bool.{cond, _&&_}
 use mathlib.Core.List.{List, [], _++_}
 use lib.Dec.{leb, ltb, eqb}
-use Rattle.model.specs.Memory.{Window, shapeOf, one}
+use Rattle.model.specs.Memory.{Windows, shapesOf, both}
 use Rattle.model.specs.Plan.{ups, clear, missing, look}
 use Rattle.model.specs.Lists.{needsOf}
 use Rattle.model.specs.Registers.{rO, rG, rL, sp, reg}
@@ -15,35 +15,35 @@ use Rattle.model.specs.Step.{judged, refusing, stepOf, stepNeeds, except
 use Rattle.model.specs.declared.State.{State}
 
 -- a run of n octabytes from a: where all lie inside, these and then what follows; else those that do not
-abbrev pub run : Window → ℕ → ℕ → List ℕ → List ℕ
-run w a n rest = cond (clear (refusing (shapeOf w)) a n) (ups a n ++ rest) (missing (refusing (shapeOf w)) a n)
+abbrev pub run : Windows → ℕ → ℕ → List ℕ → List ℕ
+run w a n rest = cond (clear (refusing (shapesOf w)) a n) (ups a n ++ rest) (missing (refusing (shapesOf w)) a n)
 
 -- H, as POP reads it
-abbrev pub holeBelow : Window → State → ℕ
-holeBelow w s = look one w (sp s rO - 8) % 256
+abbrev pub holeBelow : Windows → State → ℕ
+holeBelow w s = look both w (sp s rO - 8) % 256
 
 -- "POP needs the one below rO, then $i for each i below both H and rG; with no frame, none"
-unfoldable pub popNeeds : Window → State → List ℕ
+unfoldable pub popNeeds : Windows → State → List ℕ
 popNeeds w s =
     cond (noFrame s) []
     (cond (misplaced s) []
     (run w (sp s rO - 8) 1 (run w (sp s rO - 8 * (holeBelow w s + 1)) (min (holeBelow w s) (sp s rG)) [])))
 
 -- "UNSAVE needs the packed one; if that passes, the local count; if that passes, the rest"
-unfoldable pub unsaveNeedsRest : Window → ℕ → ℕ → ℕ → List ℕ
+unfoldable pub unsaveNeedsRest : Windows → ℕ → ℕ → ℕ → List ℕ
 unsaveNeedsRest w p g l = cond (leb l g) (run w (below p (l + 269 - g)) (l + 270 - g) []) []
 
-unfoldable pub unsaveNeedsCount : Window → ℕ → ℕ → ℕ → List ℕ
+unfoldable pub unsaveNeedsCount : Windows → ℕ → ℕ → ℕ → List ℕ
 unsaveNeedsCount w p g a =
     cond (leb 32 g && leb g 255)
-    (cond (leb a 0x3FFFF) (run w (below p (269 - g)) 1 (unsaveNeedsRest w p g (look one w (below p (269 - g))))) [])
+    (cond (leb a 0x3FFFF) (run w (below p (269 - g)) 1 (unsaveNeedsRest w p g (look both w (below p (269 - g))))) [])
     []
 
-unfoldable pub unsaveNeeds : Window → ℕ → List ℕ
-unsaveNeeds w p = run w p 1 (unsaveNeedsCount w p (look one w p / 2 ^ 56) (look one w p % 2 ^ 56))
+unfoldable pub unsaveNeeds : Windows → ℕ → List ℕ
+unsaveNeeds w p = run w p 1 (unsaveNeedsCount w p (look both w p / 2 ^ 56) (look both w p % 2 ^ 56))
 
 -- "PUSH needs its frame, SAVE all that it stores. .. Other steps and exceptions need none."
-unfoldable pub armNeeds : Window → State → Arm → ℕ → ℕ → ℕ → List ℕ
+unfoldable pub armNeeds : Windows → State → Arm → ℕ → ℕ → ℕ → List ℕ
 armNeeds w s (branch c d) x y z = []
 armNeeds w s (jump d) x y z = []
 armNeeds w s (getAddress d) x y z = []
@@ -62,27 +62,27 @@ armNeeds w s trap x y z = []
 armNeeds w s none x y z = []
 
 -- two ways to write an instruction that come to the same
-pub record SameWritten (w : Window) (s : State) (op x y z x' y' z' : ℕ) : Type 0 where
+pub record SameWritten (w : Windows) (s : State) (op x y z x' y' z' : ℕ) : Type 0 where
   pub outcome-same : stepOf w s op x y z ≡ stepOf w s op x' y' z'
   pub needs-same : stepNeeds w s op x y z ≡ stepNeeds w s op x' y' z'
 
 pub record NeedsAre : Type 0 where
   -- what 1 to 5 refuse needs nothing
-  pub by-step : (w : Window) (s : State) (op x y z : ℕ)
-      → stepNeeds w s op x y z ≡ cond (eqb (judged s (shapeOf w) (armOf op) x y z) 0) (armNeeds w s (armOf op) x y z) []
-  pub by-exception : (w : Window) (s : State) (f op x y z u v : ℕ) → needsOf one mmix s w (exception f op x y z u v) ≡ []
+  pub by-step : (w : Windows) (s : State) (op x y z : ℕ)
+      → stepNeeds w s op x y z ≡ cond (eqb (judged s (shapesOf w) (armOf op) x y z) 0) (armNeeds w s (armOf op) x y z) []
+  pub by-exception : (w : Windows) (s : State) (f op x y z u v : ℕ) → needsOf both mmix s w (exception f op x y z u v) ≡ []
   -- a PUSH that is done: rO + 8i for i ≤ H; a SAVE that is done: all rL + 270 − rG
-  pub push-done : (w : Window) (s : State) (x y z : ℕ) → stepOf w s 0xF2 x y z .reply ≡ 0 → stepNeeds w s 0xF2 x y z ≡ ups (sp s rO) (hole s x + 1)
-  pub push-back-done : (w : Window) (s : State) (x y z : ℕ) → stepOf w s 0xF3 x y z .reply ≡ 0 → stepNeeds w s 0xF3 x y z ≡ ups (sp s rO) (hole s x + 1)
-  pub push-go-done : (w : Window) (s : State) (x y z : ℕ) → stepOf w s 0xBE x y z .reply ≡ 0 → stepNeeds w s 0xBE x y z ≡ ups (sp s rO) (hole s x + 1)
-  pub push-go-immediate-done : (w : Window) (s : State) (x y z : ℕ) → stepOf w s 0xBF x y z .reply ≡ 0 → stepNeeds w s 0xBF x y z ≡ ups (sp s rO) (hole s x + 1)
-  pub save-done : (w : Window) (s : State) (x y z : ℕ) → stepOf w s 0xFA x y z .reply ≡ 0 → stepNeeds w s 0xFA x y z ≡ ups (sp s rO) (sp s rL + 270 - sp s rG)
+  pub push-done : (w : Windows) (s : State) (x y z : ℕ) → stepOf w s 0xF2 x y z .reply ≡ 0 → stepNeeds w s 0xF2 x y z ≡ ups (sp s rO) (hole s x + 1)
+  pub push-back-done : (w : Windows) (s : State) (x y z : ℕ) → stepOf w s 0xF3 x y z .reply ≡ 0 → stepNeeds w s 0xF3 x y z ≡ ups (sp s rO) (hole s x + 1)
+  pub push-go-done : (w : Windows) (s : State) (x y z : ℕ) → stepOf w s 0xBE x y z .reply ≡ 0 → stepNeeds w s 0xBE x y z ≡ ups (sp s rO) (hole s x + 1)
+  pub push-go-immediate-done : (w : Windows) (s : State) (x y z : ℕ) → stepOf w s 0xBF x y z .reply ≡ 0 → stepNeeds w s 0xBF x y z ≡ ups (sp s rO) (hole s x + 1)
+  pub save-done : (w : Windows) (s : State) (x y z : ℕ) → stepOf w s 0xFA x y z .reply ≡ 0 → stepNeeds w s 0xFA x y z ≡ ups (sp s rO) (sp s rL + 270 - sp s rG)
 
 -- "Bytes that an arm doesn't use are not looked at"
 pub record BytesUnused : Type 0 where
-  pub save-yz : (w : Window) (s : State) (x y z y' z' : ℕ) → SameWritten w s 0xFA x y z x y' z'
-  pub unsave-xy : (w : Window) (s : State) (x y z x' y' : ℕ) → SameWritten w s 0xFB x y z x' y' z
-  pub put-y : (w : Window) (s : State) (x y z y' : ℕ) → SameWritten w s 0xF6 x y z x y' z
-  pub puti-y : (w : Window) (s : State) (x y z y' : ℕ) → SameWritten w s 0xF7 x y z x y' z
-  pub get-y : (w : Window) (s : State) (x y z y' : ℕ) → SameWritten w s 0xFE x y z x y' z
-  pub swym-xyz : (w : Window) (s : State) (x y z x' y' z' : ℕ) → SameWritten w s 0xFD x y z x' y' z'
+  pub save-yz : (w : Windows) (s : State) (x y z y' z' : ℕ) → SameWritten w s 0xFA x y z x y' z'
+  pub unsave-xy : (w : Windows) (s : State) (x y z x' y' : ℕ) → SameWritten w s 0xFB x y z x' y' z
+  pub put-y : (w : Windows) (s : State) (x y z y' : ℕ) → SameWritten w s 0xF6 x y z x y' z
+  pub puti-y : (w : Windows) (s : State) (x y z y' : ℕ) → SameWritten w s 0xF7 x y z x y' z
+  pub get-y : (w : Windows) (s : State) (x y z y' : ℕ) → SameWritten w s 0xFE x y z x y' z
+  pub swym-xyz : (w : Windows) (s : State) (x y z x' y' z' : ℕ) → SameWritten w s 0xFD x y z x' y' z'

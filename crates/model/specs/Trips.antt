@@ -7,7 +7,7 @@ use lib.ListN.{set}
 use lib.Bits.{bitAnd, bitOr}
 use lib.Count.{leadingZeros}
 use Rattle.model.specs.Said.{Said, say, refuse}
-use Rattle.model.specs.Registers.{rB, rJ, rBB, rK, rT, rA, rW, rX, rY, rZ, rWW, rXX, rYY, rZZ, sp, reg, following, goes, next, withSpecial}
+use Rattle.model.specs.Registers.{withParts, rB, rJ, rBB, rK, rT, rA, rW, rX, rY, rZ, rWW, rXX, rYY, rZZ, sp, reg, following, goes, next, withSpecial}
 use Rattle.model.specs.Control.{xyzOf}
 use Rattle.model.specs.declared.State.{State}
 
@@ -17,13 +17,9 @@ wordOf op x y z = 2 ^ 63 + op * 2 ^ 24 + xyzOf x y z
 
 -- "A trip sets rB to $255, then $255 to rJ, rW to @ + 4, rX to .., rY and rZ to the operands"; under the numbers b, w, x, y, z
 unfoldable pub interrupted : State → ℕ → ℕ → ℕ → ℕ → ℕ → ℕ → ℕ → ℕ → State
-interrupted s b w x y z word u v = record {
-  general = set (s .general) 255 (sp s rJ);
-  special = set (set (set (set (set (s .special) b (reg s 255)) w (following s)) x word) y u) z v;
-  pc = s .pc;
-  halt = s .halt;
-  marks = s .marks;
-}
+interrupted s b w x y z word u v = withParts s
+    (set (s .general) 255 (sp s rJ))
+    (set (set (set (set (set (s .special) b (reg s 255)) w (following s)) x word) y u) z v)
 
 abbrev pub tripped : State → ℕ → ℕ → ℕ → State
 tripped s word u v = interrupted s rB rW rX rY rZ word u v

@@ -18,7 +18,7 @@ use Rattle.model.proofs.Bools.{on, and-left}
 use Rattle.script.specs.Codes.{codes}
 use Rattle.script.specs.Text.{hexMark}
 use Rattle.script.specs.Line.{registerLine, specialLine, stepLine, digitOf, digitsAt, isNumber, numberOf, startsWith, before, matched, registerForm, specialForm, stepForm, orElse, lineOf}
-use Rattle.script.specs.Script.{doneLine, refusedLine, badLine, stepText, badText, turnOf, atFirst, pieces, carried, window, scriptMost, printed, Bounded}
+use Rattle.script.specs.Script.{doneLine, refusedLine, badLine, stepText, badText, turnOf, atFirst, pieces, carried, window, scriptMost, printed, outputLength, Bounded}
 use Rattle.script.specs.declared.line.Form.{Form}
 use Rattle.script.specs.declared.line.Form.the-variants.{Register, Special, Step, Bad}
 use Rattle.script.specs.declared.line.Instruction.{Instruction}
@@ -160,13 +160,15 @@ carried-most n s w l = go (pieces l) (joined-pieces l)
     go [] e = omega arith
     go (p ∷ ps) e = omega (arith, most-carried n s w p ps)
 
-pub bounded : Bounded
+by-length : (l : List ℕ) → length (printed l) ≤ 12 * length l + 27
 unfolding printed
-bounded l = on (λ (t : List ℕ). length t ≤ 12 * length l + 27) (leb (length l) scriptMost) (λ e. carried-most 1 start window l) (λ e. omega (arith, bad-most 0))
+by-length l = on (λ (t : List ℕ). length t ≤ 12 * length l + 27) (leb (length l) scriptMost) (λ e. carried-most 1 start window l) (λ e. omega (arith, bad-most 0))
 
--- of the longest script that is carried out
-pub printed-most : (l : List ℕ) → length (printed l) ≤ 786459
+of-any : (l : List ℕ) → length (printed l) ≤ outputLength
 unfolding printed
-printed-most l =
-    on (λ (t : List ℕ). length t ≤ 786459) (leb (length l) scriptMost) (λ e. omega (arith, leb-true (length l) scriptMost e, carried-most 1 start window l))
+of-any l =
+    on (λ (t : List ℕ). length t ≤ outputLength) (leb (length l) scriptMost) (λ e. omega (arith, leb-true (length l) scriptMost e, carried-most 1 start window l))
     (λ e. omega (arith, bad-most 0))
+
+pub bounded : Bounded
+bounded = record { by-length = by-length; of-any = of-any }

@@ -9,3 +9,4 @@ pub mod Grammar
 pub mod Writes
 pub mod Carries
 pub mod Bounds
+pub mod Buffers

@@ -1,11 +1,11 @@
 -- What a script prints. 01: "a refused step prints its line and ends; a bad line [..] prints `(bad N)`, N its line from 1, and ends.
 -- A longer script prints only `(bad 0)`."
-use Prim.Native.Nat.{ℕ, suc, _+_, _*_, _≤_}
+use Prim.Native.Nat.{ℕ, suc, _+_, _*_, _≤_, _<_}
 use mathlib.Core.Path.{_≡_}
 use mathlib.Core.Bool.{Bool, true, false, cond}
 use mathlib.Core.List.{List, [], _∷_, _++_}
 use lib.Dec.{leb, eqb}
-use lib.ListN.{length, replicate}
+use lib.ListN.{length, replicate, take}
 use Rattle.model.specs.Registers.{rG, rL, rO, sp, stackStart, setRegister, withSpecial}
 use Rattle.model.specs.Memory.{Window}
 use Rattle.model.specs.Plan.{Outcome}
@@ -85,6 +85,7 @@ carried n s w (p ∷ q ∷ ps) =
 unfoldable pub window : Window
 window = record { base = stackStart; bytes = replicate 2048 0 }
 
+-- "at most 65,536 bytes of script"
 abbrev pub scriptMost : ℕ
 scriptMost = 65536
 
@@ -92,9 +93,22 @@ scriptMost = 65536
 unfoldable pub printed : List ℕ → List ℕ
 printed l = cond (leb (length l) scriptMost) (carried 1 start window (pieces l)) (badText 0)
 
--- THEOREM: how long it can be
-abbrev pub Bounded : Type 0
-Bounded = (l : List ℕ) → length (printed l) ≤ 12 * length l + 27
+-- a buffer for a script has a byte more than the longest one, so that a longer one is seen to be longer
+abbrev pub inputLength : ℕ
+inputLength = scriptMost + 1
+
+-- one for what is printed
+abbrev pub outputLength : ℕ
+outputLength = 12 * scriptMost + 27
+
+-- THEOREM: how long the text can be
+pub record Bounded : Type 0 where
+  pub by-length : (l : List ℕ) → length (printed l) ≤ 12 * length l + 27
+  pub of-any : (l : List ℕ) → length (printed l) ≤ outputLength
+
+-- THEOREM: of any script its first n bytes tell all, where n is above the longest script's length
+abbrev pub FrontTells : Type 0
+FrontTells = (l : List ℕ) (n : ℕ) → scriptMost < n → printed (take n l) ≡ printed l
 
 -- THEOREM: 01's sample
 unfoldable pub sample : List ℕ

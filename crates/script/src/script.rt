@@ -16,7 +16,13 @@ use model::State;
 const NEWLINE: u8 = 10;
 
 /// The longest script.
-const SCRIPT_MOST: usize = 65536;
+pub const SCRIPT_MOST: usize = 65536;
+
+/// A buffer for a script: a byte more than the longest one, so that a longer one is seen to be longer.
+pub const INPUT_LEN: usize = SCRIPT_MOST + 1;
+
+/// A buffer for what any script prints.
+pub const OUTPUT_LEN: usize = 12 * SCRIPT_MOST + 27;
 
 const WINDOW_SIZE: usize = 2048;
 
@@ -85,7 +91,8 @@ fn put_bad(out: &mut [u8], at: usize, n: u64) -> usize
 /// A step is done or refused, and printed; a refused one ends the script.
 fn step(out: &mut [u8], window: &mut [u8], at: usize, state: State, i: Instruction) -> After
     requires { ⌜ at < 2 ^ 63 ⌝ }
-    ensures { λ r. ⌜ ((n : ℕ) → Leaves (turnOf n state (lent stackStart (now (window .entry))) (Form·Step i)) (now (out .entry)) at (now (out .exit)) (r .next) (r .going) (r .state) (lent stackStart (now (window .exit)))) ⌝ }
+    ensures { λ r. ⌜ ((n : ℕ) → Leaves (turnOf n state (lent stackStart (now (window .entry))) (Form·Step i))
+        (now (out .entry)) at (now (out .exit)) (r .next) (r .going) (r .state) (lent stackStart (now (window .exit)))) ⌝ }
 {
     let outcome = instruction::value::step(state, window, State::STACK_START, i.op, i.x, i.y, i.z);
     let reply = outcome.reply;
@@ -102,7 +109,8 @@ fn step(out: &mut [u8], window: &mut [u8], at: usize, state: State, i: Instructi
 /// One line, number n of the script.
 fn turn(out: &mut [u8], window: &mut [u8], at: usize, n: u64, state: State, form: Form) -> After
     requires { ⌜ at < 2 ^ 63 ⌝ }
-    ensures { λ r. ⌜ Leaves (turnOf n state (lent stackStart (now (window .entry))) form) (now (out .entry)) at (now (out .exit)) (r .next) (r .going) (r .state) (lent stackStart (now (window .exit))) ⌝ }
+    ensures { λ r. ⌜ Leaves (turnOf n state (lent stackStart (now (window .entry))) form)
+        (now (out .entry)) at (now (out .exit)) (r .next) (r .going) (r .state) (lent stackStart (now (window .exit))) ⌝ }
 {
     match form {
         Form::Register(setting) => {
@@ -151,7 +159,8 @@ fn line_end(script: &[u8], at: usize) -> usize
 /// The lines from the first on, until one ends the script.
 fn carry(script: &[u8], out: &mut [u8], window: &mut [u8], first: State) -> usize
     requires { ⌜ length (now script) ≤ scriptMost ⌝ }
-    ensures { λ r. ⌜ Wrote (now (out .entry)) 0 (carried 1 first (lent stackStart (now (window .entry))) (pieces (now (script .entry)))) (now (out .exit)) r ⌝ }
+    ensures { λ r. ⌜ Wrote (now (out .entry)) 0
+        (carried 1 first (lent stackStart (now (window .entry))) (pieces (now (script .entry)))) (now (out .exit)) r ⌝ }
 {
     let mut state = first;
     let mut next: usize = 0;
@@ -179,7 +188,8 @@ fn carry(script: &[u8], out: &mut [u8], window: &mut [u8], first: State) -> usiz
 
 /// The script's text goes to the start of `out`, as far as it goes; how long the text is.
 pub fn run(script: &[u8], out: &mut [u8]) -> usize
-    ensures { λ r. ⌜ (now (out .exit) ≡ written (now (out .entry)) 0 (printed (now (script .entry)))) × (r ≡ length (printed (now (script .entry)))) ⌝ }
+    ensures { λ r. ⌜ (now (out .exit) ≡ written (now (out .entry)) 0 (printed (now (script .entry))))
+        × (r ≡ length (printed (now (script .entry)))) ⌝ }
 {
     if SCRIPT_MOST < script.len() {
         return put_bad(out, 0, 0);

@@ -1,6 +1,6 @@
 -- Where a context is: the stages 6, 14, 15, 6, 16, 6 as code goes through them, and what a context that code has located is to
 -- UNSAVE and to the reader.
-use mathlib.Core.Path.{_≡_, refl, sym, ap, _∙_}
+use mathlib.Core.Path.{_≡_, refl, sym, ap, subst, _∙_}
 use mathlib.Core.Bool.{true, false}
 use mathlib.Core.List.{List, []}
 use Prim.Native.Nat.{ℕ, _+_, _-_, _*_, _/_, _%_, _^_, _≤_, _<_}
@@ -21,7 +21,7 @@ use Rattle.model.proofs.Entry.{performOn, Inside, said, inside-judged}
 use Rattle.machine.specs.Octas.{readOcta}
 use Rattle.machine.proofs.Octas.{passed-has, missed-has, read-in, read-mod}
 use Rattle.machine.proofs.Spans.{run-one}
-use Rattle.stack.specs.Context.{layoutAt, layoutOf, spot, locatedOf, LocatedIs}
+use Rattle.stack.specs.Context.{layoutAt, countReply, layoutNumber, layoutAnswer, LayoutIs, spot, locatedOf, LocatedIs}
 use Rattle.stack.specs.declared.layout.Located.{Located}
 use Rattle.stack.specs.declared.layout.Layout.{Layout}
 use Rattle.stack.specs.declared.layout.Layout.the-variants.{Found, Excess, Outside}
@@ -52,21 +52,28 @@ module _ (w : Window) (a m : ℕ) (e : m ≡ a % 2 ^ 64) where
 -- ---- the layout
 
 module _ (w : Window) (p g marker : ℕ) (e : marker ≡ below p (269 - g) % 2 ^ 64) where
-  pub layout-outside : (worst (refusing (shapeOf w)) marker 1 ≡ 0 → ⊥) → Outside ≡ layoutOf w p g
-  unfolding layoutOf
-  layout-outside h = rw (one-out w (below p (269 - g)) marker e h)
+  answered : (n l : ℕ) (r : Layout) → countReply w p g ≡ n → look one w (below p (269 - g)) ≡ l → r ≡ layoutAnswer p g l n → layoutNumber r ≡ n → LayoutIs w p g r
+  answered n l r c d a b = record { answer-is = rw (c, d) a; number-is = b ∙ sym c }
+
+  pub layout-outside : (worst (refusing (shapeOf w)) marker 1 ≡ 0 → ⊥) → LayoutIs w p g Outside
+  unfolding countReply layoutAnswer layoutNumber
+  layout-outside h = answered 6 _ Outside (rw (one-out w (below p (269 - g)) marker e h)) refl refl refl
 
   module _ (count : ℕ) (h : worst (refusing (shapeOf w)) marker 1 ≡ 0) (d : count ≡ readOcta w marker) where
-    pub layout-excess : g < count → Excess count ≡ layoutOf w p g
-    unfolding layoutOf
-    layout-excess l =
-        rw (passed-has (shapeOf w) (below p (269 - g)) (one-in w (below p (269 - g)) marker e h), one-read w (below p (269 - g)) marker e count h d, lt-leb count g l)
+    inside : has (shapeOf w) (below p (269 - g)) ≡ true
+    inside = passed-has (shapeOf w) (below p (269 - g)) (one-in w (below p (269 - g)) marker e h)
+
+    count-read : look one w (below p (269 - g)) ≡ count
+    count-read = one-read w (below p (269 - g)) marker e count h d
+
+    pub layout-excess : g < count → LayoutIs w p g (Excess count)
+    unfolding countReply layoutAnswer layoutNumber
+    layout-excess l = answered 16 count (Excess count) (rw (inside, count-read, lt-leb count g l)) count-read refl refl
 
     pub layout-found : (sb gb lb : ℕ) → count ≤ g → sb ≡ below p 12 % 2 ^ 64 → gb ≡ below p (268 - g) % 2 ^ 64 → lb ≡ below p (count + 269 - g) % 2 ^ 64
-        → Found (record { «specials_base» = sb; «globals_base» = gb; «global_count» = 256 - g; «local_count» = count; «locals_base» = lb }) ≡ layoutOf w p g
-    unfolding layoutOf layoutAt
-    layout-found sb gb lb l es eg el =
-        rw (passed-has (shapeOf w) (below p (269 - g)) (one-in w (below p (269 - g)) marker e h), one-read w (below p (269 - g)) marker e count h d, le-leb count g l, es, eg, el)
+        → LayoutIs w p g (Found (record { «specials_base» = sb; «globals_base» = gb; «global_count» = 256 - g; «local_count» = count; «locals_base» = lb }))
+    unfolding countReply layoutAnswer layoutNumber layoutAt
+    layout-found sb gb lb l es eg el = answered 0 count _ (rw (inside, count-read, le-leb count g l)) count-read (rw (es, eg, el)) refl
 
 -- ---- the stages, for any kind of state
 
@@ -125,36 +132,38 @@ module _ {S : Type 0} (w : Window) (s bad : S) (found : ℕ → ℕ → ℕ → 
 
 -- ---- what a layout tells
 
-module _ (w : Window) (p g : ℕ) (k : Layout) (e : k ≡ layoutOf w p g) where
+module _ (w : Window) (p g : ℕ) (k : Layout) (e : LayoutIs w p g k) where
   abbrev at-count : ℕ
   at-count = below p (269 - g)
 
+  -- a fact that follows from the case of each of the three numbers
+  by-number : (P : Layout → Type 0)
+      → (has (shapeOf w) at-count ≡ true → look one w at-count ≤ g → P (Found (layoutAt p g (look one w at-count))))
+      → (has (shapeOf w) at-count ≡ true → g < look one w at-count → P (Excess (look one w at-count)))
+      → (has (shapeOf w) at-count ≡ false → P Outside)
+      → P k
+  unfolding countReply layoutAnswer
+  by-number P a b c =
+      subst P (sym (e .answer-is))
+      (on (λ (n : ℕ). P (layoutAnswer p g (look one w at-count) n)) (has (shapeOf w) at-count)
+      (λ h. on (λ (n : ℕ). P (layoutAnswer p g (look one w at-count) n)) (leb (look one w at-count) g) (λ f. a h (leb-true _ _ f)) (λ f. b h (leb-false _ _ f)))
+      c)
+
   told-outside : k ≡ Outside → has (shapeOf w) at-count ≡ false
-  unfolding layoutOf
-  told-outside d =
-      on (λ (y : Layout). y ≡ Outside → has (shapeOf w) at-count ≡ false) (has (shapeOf w) at-count)
-      (λ h. on (λ (y : Layout). y ≡ Outside → has (shapeOf w) at-count ≡ false) (leb (look one w at-count) g)
-      (λ f q. let z : _≡_ {A = ℕ} 0 1 = cc in absurd (omega arith)) (λ f q. let z : _≡_ {A = ℕ} 0 1 = cc in absurd (omega arith)))
-      (λ h q. h) (sym e ∙ d)
+  told-outside =
+      by-number (λ (y : Layout). y ≡ Outside → has (shapeOf w) at-count ≡ false)
+      (λ h f q. let z : _≡_ {A = ℕ} 0 1 = cc in absurd (omega arith)) (λ h f q. let z : _≡_ {A = ℕ} 0 1 = cc in absurd (omega arith)) (λ h q. h)
 
   told-excess : (n : ℕ) → k ≡ Excess n → (has (shapeOf w) at-count ≡ true) × (g < look one w at-count)
-  unfolding layoutOf
-  told-excess n d =
-      on (λ (y : Layout). y ≡ Excess n → (has (shapeOf w) at-count ≡ true) × (g < look one w at-count)) (has (shapeOf w) at-count)
-      (λ h. on (λ (y : Layout). y ≡ Excess n → (has (shapeOf w) at-count ≡ true) × (g < look one w at-count)) (leb (look one w at-count) g)
-      (λ f q. let z : _≡_ {A = ℕ} 0 1 = cc in absurd (omega arith)) (λ f q. (h, leb-false _ _ f)))
-      (λ h q. let z : _≡_ {A = ℕ} 0 1 = cc in absurd (omega arith)) (sym e ∙ d)
+  told-excess n =
+      by-number (λ (y : Layout). y ≡ Excess n → (has (shapeOf w) at-count ≡ true) × (g < look one w at-count))
+      (λ h f q. let z : _≡_ {A = ℕ} 0 1 = cc in absurd (omega arith)) (λ h f q. (h, f)) (λ h q. let z : _≡_ {A = ℕ} 0 1 = cc in absurd (omega arith))
 
   told-found : (l : SaveContextLayout) → k ≡ Found l
       → (has (shapeOf w) at-count ≡ true) × (look one w at-count ≤ g) × (l ≡ layoutAt p g (look one w at-count))
-  unfolding layoutOf
-  told-found l d =
-      on (λ (y : Layout). y ≡ Found l → (has (shapeOf w) at-count ≡ true) × (look one w at-count ≤ g) × (l ≡ layoutAt p g (look one w at-count)))
-      (has (shapeOf w) at-count)
-      (λ h. on (λ (y : Layout). y ≡ Found l → (has (shapeOf w) at-count ≡ true) × (look one w at-count ≤ g) × (l ≡ layoutAt p g (look one w at-count)))
-      (leb (look one w at-count) g)
-      (λ f q. (h, leb-true _ _ f, cc)) (λ f q. let z : _≡_ {A = ℕ} 0 1 = cc in absurd (omega arith)))
-      (λ h q. let z : _≡_ {A = ℕ} 0 1 = cc in absurd (omega arith)) (sym e ∙ d)
+  told-found l =
+      by-number (λ (y : Layout). y ≡ Found l → (has (shapeOf w) at-count ≡ true) × (look one w at-count ≤ g) × (l ≡ layoutAt p g (look one w at-count)))
+      (λ h f q. (h, f, cc)) (λ h f q. let z : _≡_ {A = ℕ} 0 1 = cc in absurd (omega arith)) (λ h q. let z : _≡_ {A = ℕ} 0 1 = cc in absurd (omega arith))
 
   pub told-count : (l : SaveContextLayout) → k ≡ Found l → l .«local_count» ≤ g
   unfolding layoutAt
@@ -230,7 +239,7 @@ module _ (w : Window) (p : ℕ) where
       pub way-status : (r : Located) → 0x3FFFF < aOf → r ≡ spot 15 0 0 0 0 → LocatedIs w p r
       way-status r l d = refused-is 15 0 r (opened ∙ count-status w lost nothing here p gOf aOf lo hi l) d
 
-      module _ (am : aOf ≤ 0x3FFFF) (k : Layout) (ek : k ≡ layoutOf w p gOf) where
+      module _ (am : aOf ≤ 0x3FFFF) (k : Layout) (ek : LayoutIs w p gOf k) where
         pub way-outside : (r : Located) → k ≡ Outside → r ≡ spot 6 0 0 0 0 → LocatedIs w p r
         way-outside r q d =
             refused-is 6 6 r (opened ∙ count-out w lost nothing here p gOf aOf lo hi am (not-inside w (below p (269 - gOf)) (told-outside w p gOf k ek q))) d

@@ -1,7 +1,7 @@
 // Where a context lies in the window, below its packed octabyte.
 ghost use mathlib.Core.Path.{_≡_};
 ghost use Rattle.model.specs.Parts.{lent};
-ghost use Rattle.stack.specs.Context.{layoutOf, spot, LocatedIs};
+ghost use Rattle.stack.specs.Context.{LayoutIs, spot, LocatedIs};
 
 /// Addresses below a saved context's packed octabyte.
 pub struct SaveContextLayout {
@@ -33,7 +33,7 @@ pub struct Located {
 
 /// The parts of the context whose packed octabyte is at `packed_addr`, for its rG; the count is compared at full width.
 pub fn save_context_layout(window: &[u8], base: u64, packed_addr: u64, rg_saved: u8) -> Layout
-    ensures { λ r. ⌜ r ≡ layoutOf (lent base (now (window .entry))) «packed_addr» «rg_saved» ⌝ }
+    ensures { λ r. ⌜ LayoutIs (lent base (now (window .entry))) «packed_addr» «rg_saved» r ⌝ }
 {
     let rg = rg_saved as u64;
     let marker = machine::number::wrapping_sub(packed_addr, 8 * (269 - rg));

@@ -1,9 +1,6 @@
 // The context reader: a saved context as a part of the caller's window.
-ghost use mathlib.Core.Path.{_≡_};
-ghost use Prim.Native.Nat.{_+_};
-ghost use Rattle.model.specs.Reader.{readContext, bytesIn};
 ghost use Rattle.model.specs.Parts.{lent};
-ghost use Rattle.stack.specs.Context.{PlaceIs};
+ghost use Rattle.stack.specs.Context.{PlaceIs, PartIs};
 
 /// Where a context lies in the window: its reply, its first byte's index and its length; both 0 where it is refused.
 pub struct Place {
@@ -44,7 +41,7 @@ pub fn place_context(window: &[u8], base: u64, address: u64) -> Place
 
 /// That part of the window, with the number as `reply`; refused, the window's first 0 bytes.
 pub fn read_context<'a>(window: &'a [u8], base: u64, address: u64, reply: &mut u8) -> &'a [u8]
-    ensures { λ r. ⌜ (now r ≡ bytesIn (lent base (now (window .entry))) (readContext (lent base (now (window .entry))) address .state)) × (now (reply .exit) ≡ readContext (lent base (now (window .entry))) address .reply) ⌝ }
+    ensures { λ r. ⌜ PartIs base (window .entry) address r (now (reply .exit)) ⌝ }
 {
     let at = place_context(window, base, address);
     let start = at.start;

@@ -1,5 +1,5 @@
 -- `read_context` meets its contract: the part that `place_context` found.
-use mathlib.Core.Path.{_≡_}
+use mathlib.Core.Path.{_≡_, ap}
 use mathlib.Core.List.{List}
 use Prim.Native.Nat.{ℕ, _+_, _-_}
 use native.Mathlib.Omega.{arith}
@@ -8,10 +8,13 @@ use borrow.Author.Needs.{needs}
 use Rattle.stack.proofs.reader.read_context.Statement.{statement}
 use Rattle.stack.proofs.reader.read_context.Tie as tie
 
-bytes-are : (l : List ℕ) (start size a n : ℕ) → start ≡ a → size ≡ n → take (start + size - start) (drop start l) ≡ take n (drop a l)
-bytes-are l start size a n e f =
+bytes-same : (l : List ℕ) (start size a n : ℕ) → start ≡ a → size ≡ n → take (start + size - start) (drop start l) ≡ take n (drop a l)
+bytes-same l start size a n e f =
     let d : start + size - start ≡ n = omega arith in
     rw (d, e)
+
+lies : (b o start a : ℕ) → start ≡ a → _≡_ {A = ℕ × ℕ} (b, start + o) (b, o + a)
+lies b o start a e = let h : start + o ≡ o + a = omega arith in ap (λ (k : ℕ). (b, k)) h
 
 place-context-requires : tie.Need-place-context-requires
 place-context-requires c κs = search needs
@@ -34,7 +37,11 @@ part-result-end c = omega (arith, c .before .before .place-context .ensures .lie
 returns : tie.Need-returns
 returns c =
     let found = c .before .before .before .place-context .ensures in
-    (bytes-are _ _ _ _ _ (found .start-is) (found .size-is), found .reply-is)
+    record {
+      reply-is = found .reply-is;
+      bytes-are = bytes-same _ _ _ _ _ (found .start-is) (found .size-is);
+      lies-at = lies _ _ _ _ (found .start-is);
+    }
 
 pub read-context-spec : {M : Type 1} → statement M
 read-context-spec = tie.close (tie.spec place-context-requires add-end cast-reply sub-result part-result-start part-result-end returns)

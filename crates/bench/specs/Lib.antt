@@ -1,0 +1,2 @@
+-- What the bench program's functions on slices cite.
+pub mod Answer

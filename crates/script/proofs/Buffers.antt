@@ -1,0 +1,45 @@
+-- What the program's two buffers hold: of a script as much as tells what it prints, and all of the text.
+use mathlib.Core.Path.{_≡_, refl, sym, ap, _∙_}
+use mathlib.Core.List.{List, [], _∷_}
+use Prim.Native.Nat.{ℕ, _≤_, _<_}
+use native.Mathlib.Omega.{arith}
+use native.Mathlib.Decide.{decLe}
+use lib.ListN.{length, take, length-take}
+use lib.Seq.{take-all}
+use borrow.Author.Tests.{lt-leb}
+use Rattle.model.specs.Octa.{written}
+use Rattle.model.proofs.Octa.{length-written}
+use Rattle.script.specs.Script.{badText, scriptMost, printed, outputLength, FrontTells}
+use Rattle.script.proofs.Bounds.{bounded}
+
+long-prints : (l : List ℕ) → scriptMost < length l → printed l ≡ badText 0
+unfolding printed
+long-prints l h = rw (lt-leb (length l) scriptMost h)
+
+-- where the script is too long, so is its front
+pub front-tells : FrontTells
+front-tells l n h = go (decLe (length l) scriptMost)
+  where
+    go : Dec (length l ≤ scriptMost) → printed (take n l) ≡ printed l
+    go (yes s) = ap printed (take-all n l (omega arith))
+    go (no s) =
+        let f : scriptMost < length l = omega arith in
+        let g : scriptMost < length (take n l) = omega (arith, length-take n l) in
+        long-prints (take n l) g ∙ sym (long-prints l f)
+
+take-written : (b t : List ℕ) → length t ≤ length b → take (length t) (written b 0 t) ≡ t
+unfolding written
+take-written b [] h = refl
+take-written [] (v ∷ t) h = absurd (omega arith)
+take-written (x ∷ b) (v ∷ t) h = ap (λ (u : List ℕ). v ∷ u) (take-written b t (omega arith))
+
+-- the text of a script l put into a buffer with room for the longest
+module _ (l b c : List ℕ) (n : ℕ) (h : outputLength ≤ length b) (e : c ≡ written b 0 (printed l)) (f : n ≡ length (printed l)) where
+  room : length (printed l) ≤ length b
+  room = omega (arith, bounded .of-any l)
+
+  pub text-held : take n c ≡ printed l
+  text-held = rw (e, f) (take-written b (printed l) room)
+
+  pub text-fits : n ≤ length c
+  text-fits = omega (arith, room, ap length e, length-written b 0 (printed l))
