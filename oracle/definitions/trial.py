@@ -15,7 +15,7 @@ SIDES = ("points", "laws")
 # What all others rest on: points first.
 GROUND = ["Registers", "Memory", "Plan", "Octa", "Fill", "Said", "Lists"]
 # Points are computed some at a time, each few in a file of their own, so that only those that a change reaches are computed anew.
-FEW, CHUNKS = 3, 60
+FEW, CHUNKS = 5, 80
 
 
 def read(path):
