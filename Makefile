@@ -4,6 +4,7 @@ SHELL = /bin/bash
 # With gawk and a UTF-8 locale rt's awk programs fail, and what the prover says is lost.
 export LC_ALL := C
 CASES ?= 200000
+DEFINED ?= 2000
 SEED ?= 2009
 SCRIPT ?= examples/scripts/first.script
 PREFIX ?= /usr/local
@@ -20,7 +21,7 @@ WARNINGS = -Wall -Wextra -Wpedantic -Werror
 HEADERS = build/mmix.h build/mmix_text.h
 VERSION = $(shell sed -n 's/^\#define MMIX_VERSION_[MI].* //p' include/mmix.h | paste -s -d .)
 
-.PHONY: help test prove bench scripts-test lib install host host-test oracle oracle-test differential guards mutants speed replay-list clean need-rt need-gcc need-script
+.PHONY: help test prove bench scripts-test lib install host host-test oracle oracle-test differential guards mutants speed replay-list definitions constants clean need-rt need-gcc need-script
 
 help:
 	@echo 'make bench SCRIPT=path       the bench program on a script (examples/scripts/first.script)'
@@ -33,6 +34,8 @@ help:
 	@echo 'make guards                  the same with every buffer between guards, and under valgrind'
 	@echo 'make mutants                 put single faults into a copy of the Rust: each must be found'
 	@echo 'make replay-list             write the list of answers that crates/replay replays anew, by running the Rust'
+	@echo 'make definitions DEFINED=n   have the prover compute the definitions on n answers of the Rust'
+	@echo 'make constants               change each constant of the definitions in turn: something must refuse it'
 	@echo 'make speed                   time the library and the Rust side by side'
 	@echo 'make clean                   remove all that was built'
 
@@ -151,6 +154,18 @@ guards: oracle
 # The list that crates/replay replays: 3,000 answers of the Rust.
 replay-list: oracle
 	$(call RUN,$(ORACLE)/replay_list crates/replay/data/answers)
+
+# The definitions of crate model, computed by the prover on answers of the Rust: replies, whole states, whole windows, needs. With
+# WRONG=17 the reply of case 17 is written down wrong, and the check must end with an error at `case-17-agrees`.
+definitions: need-rt
+	$(call HARNESS,build)
+	@mkdir -p target/definitions/crates && rm -rf target/definitions/crates/model && cp -R crates/model target/definitions/crates/
+	$(call RUN,$(ORACLE)/definitions target/definitions $(DEFINED) $(SEED) $(if $(WRONG),--wrong $(WRONG)) && cd target/definitions \
+	  && rt check definitions > definitions.log 2>&1 && grep '^rt:' definitions.log || { grep 'error\|^rt:' definitions.log; exit 1; })
+
+# Each number, comparison and the like in the definitions, changed in turn (oracle/definitions/constants.txt has what refuses it).
+constants: need-rt
+	@oracle/definitions/constants
 
 mutants: oracle
 	$(call RUN,$(ORACLE)/mutants)

@@ -6,7 +6,7 @@
 //! - `subject`: the six functions that are compared; `model` (01 as a program) and `library` (C) offer them, and
 //!   `guards` lends each of their buffers in a guarded place.
 //! - `compare`: one case on all sides. `shrink`: a smaller case that still differs.
-//! - `random`, `states`, `windows`, `rounds`, `sweep`: the cases. `tally`, `situations`: the counts.
+//! - `random`, `states`, `windows`, `rounds`, `sweep`: the cases. `starts`, `points`: short ones. `tally`, `situations`: the counts.
 
 pub mod case;
 pub mod compare;
@@ -15,11 +15,13 @@ pub mod guards;
 pub mod library;
 pub mod model;
 pub mod opcodes;
+pub mod points;
 pub mod random;
 pub mod reference;
 pub mod rounds;
 pub mod shrink;
 pub mod situations;
+pub mod starts;
 pub mod state;
 pub mod states;
 pub mod subject;

@@ -328,7 +328,7 @@ fn chain(random: &mut Random, run: &mut dyn FnMut(&Case) -> Option<Answer>) -> O
 }
 
 /// The next call of a chain. `parked` is the register that the last SAVE gave the address to.
-fn link(random: &mut Random, state: &mut State, parked: &mut u8) -> Call {
+pub fn link(random: &mut Random, state: &mut State, parked: &mut u8) -> Call {
     if random.one_in(12) {
         return exception(random).call;
     }

@@ -1,0 +1,238 @@
+//! Answers of the Rust as points over the definitions of crate model, for antt to compute.
+//!
+//!     definitions DIR [CASES] [SEED]              write the crate DIR/crates/definitions
+//!     definitions DIR [CASES] [SEED] --wrong K    the same with the reply of case K changed, which must be refused
+//!     definitions DIR [CASES] [SEED] --show K     print case K as a line that `differential --replay` takes
+//!
+//! DIR is a repository that has crate model. oracle/definitions/Cases.antt.in says what a case is and what it is to
+//! agree; the drawn points (`points`) are written as such cases, `PART` a file, each with a proof that computes it.
+
+use std::process::ExitCode;
+use std::{env, fs};
+
+use oracle::case::{Call, Instruction};
+use oracle::points::{Point, SHORT};
+use oracle::situations::{self, SITUATIONS};
+use oracle::state::{State, octabyte};
+
+const CASES_SPEC: &str = include_str!("../../definitions/Cases.antt.in");
+/// Cases in one file.
+const PART: usize = 50;
+/// The definitions' files, whose names antt is told to open.
+const OPENED: &str =
+    "Fill Octa Registers Memory Plan Opcodes Said Control Frames Contexts System Trips Lists Step Reader Parts";
+const OWN: &str = "counted, numbers, bytesUp, leaves, ends, reads, agrees";
+
+// ---- as antt text
+
+fn number(v: u64) -> String {
+    if v < 1000 { v.to_string() } else { format!("0x{v:X}") }
+}
+
+fn list(items: impl Iterator<Item = String>) -> String {
+    let mut text: String = items.map(|item| item + " ∷ ").collect();
+    text += "[]";
+    if text == "[]" { text } else { format!("({text})") }
+}
+
+/// Numbers as runs: a count, the first, the difference.
+fn runs(numbers: &[u64]) -> String {
+    let (mut found, mut at) = (Vec::new(), 0);
+    while at < numbers.len() {
+        let rest = &numbers[at..];
+        let by = if rest.len() > 1 { rest[1].wrapping_sub(rest[0]) } else { 0 };
+        let n = 1 + rest.windows(2).take_while(|pair| pair[1].wrapping_sub(pair[0]) == by).count();
+        let (n, by) = if n > 2 { (n, by) } else { (1, 0) };
+        found.push(format!("run {n} {} {}", number(rest[0]), number(by)));
+        at += n;
+    }
+    list(found.into_iter())
+}
+
+fn state(s: &State) -> String {
+    let [pc, halt, marks] = [s.pc, s.halt, s.marks].map(number);
+    format!("(state {} {} {pc} {halt} {marks})", runs(&s.general), runs(&s.special))
+}
+
+fn window(base: u64, bytes: &[u8]) -> String {
+    let mut whole = bytes.to_vec();
+    whole.resize(bytes.len().next_multiple_of(8), 0);
+    let octabytes: Vec<u64> = whole.chunks_exact(8).map(octabyte).collect();
+    format!("(window {} {} {})", number(base), bytes.len(), runs(&octabytes))
+}
+
+fn instruction(Instruction { op, x, y, z }: Instruction) -> String {
+    format!("0x{op:02X} {x} {y} {z}")
+}
+
+fn item(call: &Call) -> String {
+    match *call {
+        Call::Step(i) => format!("step {}", instruction(i)),
+        Call::Exceptions { flags, of, y_val, z_val } => {
+            format!("exception 0x{flags:02X} {} {} {}", instruction(of), number(y_val), number(z_val))
+        }
+        _ => unreachable!("a list has steps and exceptions"),
+    }
+}
+
+fn written(point: &Point) -> String {
+    match point {
+        Point::Single { case, answer, touched } => {
+            let Call::Step(i) = case.call else { unreachable!("a step") };
+            let (before, after) = (state(&case.state), state(&answer.state));
+            let (lent, left) = (window(case.base, &case.window), window(case.base, &answer.window));
+            let (done, reply) = (instruction(i), answer.reply);
+            format!("single {before}\n    {lent} {done} {reply}\n    {after}\n    {left} {}", runs(touched))
+        }
+        Point::List { start, calls, replies, state: after, window: bytes } => {
+            let (before, after) = (state(&start.state), state(after));
+            let (lent, left) = (window(start.base, &start.window), window(start.base, bytes));
+            let (items, replies) = (list(calls.iter().map(item)), list(replies.iter().map(u64::to_string)));
+            format!("list {before}\n    {lent} {items} {replies}\n    {after}\n    {left}")
+        }
+        Point::Context { case, answer } => {
+            let Call::Context { address } = case.call else { unreachable!("a context") };
+            let (lent, part) = (window(case.base, &case.window), &answer.part);
+            format!("context {lent} {} {} {} {}", number(address), answer.reply, part.start, part.len())
+        }
+        Point::Initial { state: after } => format!("initial {}", state(after)),
+    }
+}
+
+/// The case as `differential --replay` takes it, and the calls of a list.
+fn line(point: &Point) -> String {
+    match point {
+        Point::Single { case, .. } | Point::Context { case, .. } => case.to_string(),
+        Point::List { start, calls, .. } => format!("{start}\nthen {}", list(calls.iter().map(item))),
+        Point::Initial { .. } => "initialize".to_string(),
+    }
+}
+
+/// The names that a definition's file has for antt to open.
+fn opened(text: &str) -> Vec<&str> {
+    text.lines().filter_map(|line| line.trim().strip_prefix("unfoldable pub ")?.split(" : ").next()).collect()
+}
+
+/// The proofs of one part: every definition is opened, and antt computes.
+fn proof(models: &[(String, String)], part: usize, cases: &[String]) -> String {
+    let mut text = format!("-- Part {part}: each case agrees.\nuse mathlib.Core.Path.{{_≡_, refl}}\n");
+    text += "use mathlib.Core.Bool.{true}\nuse lib.Count.{leadingZeros}\n";
+    let mut names = vec!["leadingZeros".to_string()];
+    for (file, source) in models {
+        let found = opened(source);
+        if !found.is_empty() {
+            text += &format!("use Rattle.model.specs.{file}.{{{}}}\n", found.join(", "));
+        }
+        names.extend(found.iter().map(|name| name.to_string()));
+    }
+    text += &format!("use Rattle.definitions.specs.Cases.{{{OWN}}}\n");
+    text += &format!("use Rattle.definitions.specs.Part{part}.{{{}}}\n", cases.join(", "));
+    let opened = format!("{} {}", names.join(" "), OWN.replace(',', ""));
+    for case in cases {
+        text +=
+            &format!("\npub {case}-agrees : agrees {case} ≡ true\nunfolding {opened} {case}\n{case}-agrees = refl\n");
+    }
+    text
+}
+
+fn spec(part: usize, points: &[Point], cases: &[String]) -> String {
+    let mut text = format!("-- Part {part} of the Rust's answers.\n");
+    text += "use mathlib.Core.List.{List, [], _∷_}\nuse Rattle.model.specs.Step.{step, exception}\n";
+    text += "use Rattle.definitions.specs.Cases.{Case, single, list, context, initial, run, state, window}\n";
+    for (case, point) in cases.iter().zip(points) {
+        text += &format!("\nunfoldable pub {case} : Case\n{case} =\n    {}\n", written(point));
+    }
+    text
+}
+
+fn write(folder: &str, points: &[Point]) -> std::io::Result<()> {
+    let models: std::io::Result<Vec<(String, String)>> = (OPENED.split(' '))
+        .map(|file| Ok((file.to_string(), fs::read_to_string(format!("{folder}/crates/model/specs/{file}.antt"))?)))
+        .collect();
+    let (models, home) = (models?, format!("{folder}/crates/definitions"));
+    let _ = fs::remove_dir_all(&home);
+    for part in ["src", "specs", "proofs"] {
+        fs::create_dir_all(format!("{home}/{part}"))?;
+    }
+    fs::write(format!("{folder}/crates.txt"), "model:\ndefinitions: model\n")?;
+    fs::write(
+        format!("{home}/src/lib.rt"),
+        "//! Answers of the Rust, computed over the definitions of crate model.\n",
+    )?;
+    fs::write(format!("{home}/specs/Cases.antt"), CASES_SPEC)?;
+    let mut parts = String::new();
+    for (k, some) in points.chunks(PART).enumerate() {
+        let cases: Vec<String> = (0..some.len()).map(|j| format!("case-{}", k * PART + j)).collect();
+        fs::write(format!("{home}/specs/Part{k}.antt"), spec(k, some, &cases))?;
+        fs::write(format!("{home}/proofs/Part{k}.antt"), proof(&models, k, &cases))?;
+        parts += &format!("pub mod Part{k}\n");
+    }
+    fs::write(format!("{home}/specs/Lib.antt"), format!("-- The Rust's answers.\npub mod Cases\n{parts}"))?;
+    fs::write(format!("{home}/proofs/Lib.antt"), format!("-- Each part computed.\n{parts}"))
+}
+
+fn summary(points: &mut [Point]) -> String {
+    let (mut kinds, mut items, mut replies, mut long) = ([0; 4], 0, [0; 21], 0);
+    let mut counts = [0; SITUATIONS.len()];
+    for point in points {
+        if let Point::Single { case, answer, .. } = point {
+            situations::count(case, answer, &mut counts);
+        }
+        let (kind, bytes) = match point {
+            Point::Single { case, .. } => (0, case.window.len()),
+            Point::List { start, .. } => (1, start.window.len()),
+            Point::Context { case, .. } => (2, case.window.len()),
+            Point::Initial { .. } => (3, 0),
+        };
+        kinds[kind] += 1;
+        long += (bytes > 4 * SHORT) as u64;
+        for reply in point.replies() {
+            items += (kind == 1) as u64;
+            replies[*reply as usize] += 1;
+        }
+    }
+    let [singles, lists, contexts, initials] = kinds;
+    let (met, all) = (counts.iter().filter(|n| **n > 0).count(), SITUATIONS.len());
+    format!(
+        "{singles} single steps with their needs, in {met} of {all} situations at limits; {items} steps and exceptions in \
+         {lists} lists; {contexts} contexts; {initials} initial state; {long} windows above {} bytes; replies 0 to 20: \
+         {replies:?}",
+        4 * SHORT
+    )
+}
+
+fn run(words: &[String]) -> Result<(), String> {
+    let at = |k: usize, otherwise: u64| match words.get(k).filter(|word| !word.starts_with("--")) {
+        Some(word) => word.parse().map_err(|e| format!("{word}: {e}")),
+        None => Ok(otherwise),
+    };
+    let marked = |name: &str| match words.iter().position(|word| word == name) {
+        Some(k) => {
+            words.get(k + 1).and_then(|word| word.parse::<usize>().ok()).map(Some).ok_or(format!("{name} NUMBER"))
+        }
+        None => Ok(None),
+    };
+    let folder = words.first().ok_or("definitions DIR [CASES] [SEED] [--wrong K | --show K]")?;
+    let (cases, seed, wrong, show) = (at(1, 2000)?, at(2, 2009)?, marked("--wrong")?, marked("--show")?);
+    let mut points = (0..cases).map(|number| Point::drawn(seed, number)).collect::<Result<Vec<Point>, String>>()?;
+    if let Some(k) = show {
+        println!("{}", line(points.get(k).ok_or("no such case")?));
+        return Ok(());
+    }
+    println!("{cases} cases: {}", summary(&mut points));
+    if let Some(k) = wrong {
+        let reply = points.get_mut(k).and_then(|point| point.replies().last_mut()).ok_or("no such reply")?;
+        *reply += 1;
+    }
+    write(folder, &points).map_err(|e| format!("{folder}: {e}"))
+}
+
+fn main() -> ExitCode {
+    match run(&env::args().skip(1).collect::<Vec<String>>()) {
+        Ok(()) => ExitCode::SUCCESS,
+        Err(message) => {
+            eprintln!("{message}");
+            ExitCode::FAILURE
+        }
+    }
+}

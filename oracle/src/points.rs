@@ -1,0 +1,210 @@
+//! Points: drawn steps, lists, exceptions, context reads and the initial state, with all that the Rust leaves of each.
+//! They are short enough for a prover to compute: registers and octabytes in lines (`starts`), most windows of few octabytes.
+
+use crate::case::{Call, Case};
+use crate::compare::compare;
+use crate::model;
+use crate::opcodes::*;
+use crate::random::Random;
+use crate::reference::{Answer, Reference};
+use crate::rounds::{exception, link, single};
+use crate::situations::{self, SITUATIONS};
+use crate::starts::Start;
+use crate::state::{IMAGE_LEN, RG, RL, RO, RS, STACK_START, State};
+use crate::{states, windows};
+
+/// Bytes of the longest window, a context of 270 octabytes with two to spare, and of most windows.
+const LONGEST: usize = 8 * 272;
+pub const SHORT: usize = 64;
+/// How many steps are looked at for one in a given situation.
+const TRIES: u64 = 100_000;
+
+/// The opcodes that reach memory or claim a register, where most limits are.
+const LIMITED: [u8; 16] =
+    [GO, GOI, GETA, GETAB, GET, GET, PUSHGO, PUSHGOI, PUSHJ, PUSHJB, POP, POP, POP, SAVE, UNSAVE, BN];
+/// The opcodes of most single steps, in turn; every byte has its turn between them.
+const OPCODES: [u8; 36] = [
+    PUSHJ, POP, SAVE, UNSAVE, PUT, TRAP, PUSHJB, PUTI, GET, POP, UNSAVE, PUSHGO, PUT, GETA, SAVE, TRAP, PUSHGOI, PUTI,
+    GETAB, POP, SYNC, TRIP, TRAP, PUT, GO, GOI, UNSAVE, JMP, JMPB, BNB, PBEVB, PUT, PUSHJ, POP, TRAP, SWYM,
+];
+
+/// One point: what is done, from where, and what the Rust leaves.
+pub enum Point {
+    Single { case: Case, answer: Answer, touched: Vec<u64> },
+    List { start: Case, calls: Vec<Call>, replies: Vec<u64>, state: State, window: Vec<u8> },
+    Context { case: Case, answer: Answer },
+    Initial { state: State },
+}
+
+impl Point {
+    /// The replies, in the order in which they are given.
+    pub fn replies(&mut self) -> &mut [u64] {
+        match self {
+            Point::Single { answer, .. } | Point::Context { answer, .. } => std::slice::from_mut(&mut answer.reply),
+            Point::List { replies, .. } => replies,
+            Point::Initial { .. } => &mut [],
+        }
+    }
+
+    /// The point of a number, whatever the numbers before it were.
+    pub fn drawn(seed: u64, number: u64) -> Result<Self, String> {
+        Drawer { random: Random::new(seed, number), reference: Reference::new() }.point(number)
+    }
+}
+
+struct Drawer {
+    random: Random,
+    reference: Reference,
+}
+
+impl Drawer {
+    fn answer(&mut self, case: &Case) -> Result<Answer, String> {
+        compare(&mut self.reference, &[], case).map_err(|e| format!("{e}\n{case}"))
+    }
+
+    /// The point of a number: singles, limits, exceptions, lists and contexts in turn.
+    fn point(&mut self, number: u64) -> Result<Point, String> {
+        match number % 20 {
+            _ if number == 0 => self.initial(),
+            0..=6 => self.single(OPCODES[(number / 20 * 7 + number % 20) as usize % OPCODES.len()]),
+            7..=9 => self.single((number / 20 * 3 + number % 20 - 7) as u8),
+            10..=13 => self.at_limit((number / 20 * 4 + number % 20 - 10) as usize % (SITUATIONS.len() - 1)),
+            14 | 15 => self.raised(),
+            16..=18 => self.list(),
+            _ => self.context(),
+        }
+    }
+
+    fn initial(&mut self) -> Result<Point, String> {
+        let case = Case::new(Call::Initialize, states::admissible(&mut self.random), 0, Vec::new());
+        Ok(Point::Initial { state: self.answer(&case)?.state })
+    }
+
+    /// A step with a window that fits, its registers and octabytes straightened; marginal registers are zero or not.
+    fn straight(&mut self, op: u8) -> Case {
+        let random = &mut self.random;
+        let reaches = matches!(op, PUSHGO | PUSHGOI | PUSHJ | PUSHJB | POP | SAVE | UNSAVE);
+        let most = if random.one_in(16) { LONGEST } else { 4 * SHORT };
+        let mut case = single(random, op);
+        while reaches && case.window.len() > most {
+            case = single(random, op);
+        }
+        if !reaches {
+            case.window.truncate(SHORT);
+        }
+        let partly = case.partly;
+        let mut case = Start::of(&case, random).case();
+        case.partly = partly;
+        if random.one_in(3) {
+            let (from, by) = (random.any(), random.any());
+            let marginal = case.state.special[RL] as usize..case.state.special[RG] as usize;
+            for (k, v) in case.state.general[marginal].iter_mut().enumerate() {
+                *v = from.wrapping_add(by.wrapping_mul(k as u64));
+            }
+        }
+        case
+    }
+
+    /// One in twelve breaks a rule of the state, one in twelve a rule of the window.
+    fn spoiled(&mut self, mut case: Case) -> Case {
+        match self.random.below(12) {
+            0 => states::spoil(&mut self.random, &mut case),
+            1 => windows::spoil(&mut self.random, &mut case),
+            _ => {}
+        }
+        case.image_len = IMAGE_LEN;
+        if case.window.len() > LONGEST {
+            case.window.truncate(SHORT + 1);
+        }
+        case
+    }
+
+    fn single(&mut self, op: u8) -> Result<Point, String> {
+        let case = self.straight(op);
+        let case = self.spoiled(case);
+        self.answered(case)
+    }
+
+    fn answered(&mut self, case: Case) -> Result<Point, String> {
+        let Call::Step(i) = case.call else { unreachable!("a step") };
+        let answer = self.answer(&case)?;
+        // What the Rust touched, as `compare` has checked; where 6 is given the Rust goes on, so only what 6 needs.
+        let touched = model::needs(case.base, i, &case.state, &case.window);
+        Ok(Point::Single { case, answer, touched })
+    }
+
+    /// A step in one of the situations, of which the last, a window of 65,536 bytes, is too long to compute; any step
+    /// where the situation is not met.
+    fn at_limit(&mut self, situation: usize) -> Result<Point, String> {
+        for _ in 0..TRIES {
+            let op = self.random.pick(&LIMITED);
+            let case = self.straight(op);
+            let answer = self.answer(&case)?;
+            let mut counts = [0; SITUATIONS.len()];
+            situations::count(&case, &answer, &mut counts);
+            if counts[situation] > 0 {
+                return self.answered(case);
+            }
+        }
+        self.single(SAVE)
+    }
+
+    fn raised(&mut self) -> Result<Point, String> {
+        let mut case = exception(&mut self.random);
+        case.image_len = IMAGE_LEN;
+        let call = case.call;
+        let sound = case.state.admissible();
+        let mut start = if sound { Start::of(&case, &mut self.random).case() } else { self.straight(SWYM) };
+        start.partly = case.partly;
+        if !sound {
+            states::spoil(&mut self.random, &mut start);
+            start.image_len = IMAGE_LEN;
+        }
+        start.call = call;
+        self.followed(start, vec![call])
+    }
+
+    /// Three to eight steps and exceptions on one window, each from what the one before left.
+    fn list(&mut self) -> Result<Point, String> {
+        let mut start = self.straight(SWYM);
+        let random = &mut self.random;
+        let octabytes = random.pick(&[8, 16, 24, 32]);
+        if !random.one_in(3) {
+            let rg = random.range(250, 255);
+            start.state.special[RG] = rg;
+            start.state.special[RL] = start.state.special[RL].min(random.range(0, 6));
+        }
+        start.base = if random.one_in(4) { states::stack_offset(random) & !7 } else { STACK_START };
+        start.window = vec![0; 8 * octabytes];
+        start.state.special[RO] = start.base.wrapping_add(8 * random.below(4));
+        start.state.special[RS] = start.state.special[RO];
+        let (mut state, mut parked, mut calls) = (start.state.clone(), 255, Vec::new());
+        for _ in 0..random.range(3, 8) {
+            calls.push(link(random, &mut state, &mut parked));
+        }
+        self.followed(start, calls)
+    }
+
+    fn followed(&mut self, start: Case, calls: Vec<Call>) -> Result<Point, String> {
+        let (mut at, mut replies) = (start.clone(), Vec::new());
+        for call in &calls {
+            at.call = *call;
+            let answer = self.answer(&at)?;
+            replies.push(answer.reply);
+            (at.state, at.window) = (answer.state, answer.window);
+        }
+        Ok(Point::List { start, calls, replies, state: at.state, window: at.window })
+    }
+
+    fn context(&mut self) -> Result<Point, String> {
+        let mut case = self.straight(UNSAVE);
+        let Call::Step(i) = case.call else { unreachable!("a step") };
+        case.call = Call::Context { address: case.state.general[i.z as usize] };
+        if self.random.one_in(8) {
+            windows::spoil(&mut self.random, &mut case);
+            case.window.truncate(LONGEST);
+        }
+        let answer = self.answer(&case)?;
+        Ok(Point::Context { case, answer })
+    }
+}
