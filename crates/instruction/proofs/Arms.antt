@@ -9,7 +9,7 @@ use Rattle.model.specs.Memory.{Windows, shapesOf, ruled}
 use Rattle.model.specs.Plan.{Plan}
 use Rattle.model.specs.Registers.{rJ, sp, reg, admissible, following, goes, next, setRegister}
 use Rattle.model.specs.Opcodes.{Arm, branch, jump, getAddress, go, pushJump, pushGo, pop, register, immediate, wayOf, conditionOf, armOf}
-use Rattle.model.specs.Said.{say, tell}
+use Rattle.model.specs.NoMemory.{say, tell}
 use Rattle.model.specs.Control.{near, far, yzOf, sumOf, holds}
 use Rattle.model.specs.Frames.{hole, pushFrame, popFrame}
 use Rattle.model.specs.Step.{refusalOf, planOf, stepOf}
@@ -18,7 +18,7 @@ use Rattle.model.specs.declared.State.{State}
 use Rattle.model.specs.declared.Reply.{Reply}
 use Rattle.model.specs.declared.Reply.the-variants.{Done}
 use Rattle.model.proofs.Entry.{performOn, step-open}
-use Rattle.model.proofs.Sent.{step-told}
+use Rattle.model.proofs.StepByArm.{step-told}
 use Rattle.stack.specs.Gives.{guardedOn}
 use Rattle.stack.proofs.Judged.{guarded-open}
 use Rattle.instruction.specs.Whole.{Whole}

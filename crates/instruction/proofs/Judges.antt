@@ -10,7 +10,7 @@ use Rattle.model.specs.Numbers.{replyOf}
 use Rattle.model.specs.Step.{refusalOf, stepOf}
 use Rattle.model.specs.declared.State.{State}
 use Rattle.model.specs.declared.Reply.the-variants.{NotAdmissible, WindowRule, NoArm}
-use Rattle.model.proofs.Sent.{step-refused, step-inadmissible, step-unruled}
+use Rattle.model.proofs.StepByArm.{step-refused, step-inadmissible, step-unruled}
 use Rattle.instruction.specs.Whole.{Whole}
 
 module _ (w : Windows) (s : State) (op x y z : ℕ) where

@@ -11,7 +11,7 @@ use borrow.Author.Tests.{eq-eqb, ne-eqb}
 use Rattle.model.specs.Registers.{rG, sp, following, goes, next, halted}
 use Rattle.model.specs.Memory.{Windows, shapesOf}
 use Rattle.model.specs.Plan.{Plan, answer, Outcome}
-use Rattle.model.specs.Said.{tell}
+use Rattle.model.specs.NoMemory.{tell}
 use Rattle.model.specs.Contexts.{saveContext, unsaved, unsaveContext}
 use Rattle.model.specs.Parts.{made}
 use Rattle.model.specs.Registers.{admissible}
@@ -20,9 +20,9 @@ use Rattle.model.specs.declared.Reply.{Reply}
 use Rattle.model.proofs.Reply.{the-type}
 use Rattle.model.proofs.Bools.{on}
 use Rattle.model.proofs.Entry.{performOn, said}
-use Rattle.model.proofs.Meets.{Answers, context-meets, perform-meets}
-use Rattle.model.proofs.Keeps.{Any}
-use Rattle.model.proofs.Sent.{sent, backTo, save-sent, unsave-sent}
+use Rattle.model.proofs.ArmAnswers.{Answers, context-meets, perform-meets}
+use Rattle.model.proofs.ItemInvariant.{Any}
+use Rattle.model.proofs.StepByArm.{sent, backTo, save-sent, unsave-sent}
 use Rattle.model.specs.Step.{unruledBy, guarded}
 use Rattle.stack.specs.Gives.{guardedOn, Gives}
 use Rattle.instruction.specs.Whole.{Whole}

@@ -11,7 +11,7 @@ use borrow.Author.Tests.{ne-eqb}
 use Rattle.model.specs.Memory.{Windows, Shapes, shapesOf, ruled}
 use Rattle.model.specs.Plan.{Plan, answer, Outcome, puts}
 use Rattle.model.specs.Registers.{admissible, goes, halted}
-use Rattle.model.specs.Said.{tell}
+use Rattle.model.specs.NoMemory.{tell}
 use Rattle.model.specs.Frames.{hole, pushFrame, popTo, popRule, noFrame, misplaced, popFrame}
 use Rattle.model.specs.Numbers.{replyOf}
 use Rattle.model.specs.declared.State.{State}
@@ -21,9 +21,9 @@ use Rattle.model.proofs.Reply.{the-type}
 use Rattle.model.proofs.Bools.{on, on-both}
 use Rattle.model.specs.Step.{unruledBy, guarded}
 use Rattle.model.proofs.Entry.{performOn, said}
-use Rattle.model.proofs.Keeps.{Any}
-use Rattle.model.proofs.Meets.{Answers, perform-meets}
-use Rattle.model.proofs.Sent.{sent, push-sent, pop-sent}
+use Rattle.model.proofs.ItemInvariant.{Any}
+use Rattle.model.proofs.ArmAnswers.{Answers, perform-meets}
+use Rattle.model.proofs.StepByArm.{sent, push-sent, pop-sent}
 use Rattle.stack.specs.Gives.{guardedOn, Gives}
 use Rattle.stack.specs.Frame.{pushOf, popOf, returnTo, popNumber, popAnswer, PopGives}
 use Rattle.stack.specs.declared.frame.PopFrame.{PopFrame}

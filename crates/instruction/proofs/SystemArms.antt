@@ -9,7 +9,7 @@ use Rattle.model.specs.Registers.{reg, next, admissible}
 use Rattle.model.specs.Memory.{Windows, shapesOf, ruled}
 use Rattle.model.specs.Plan.{Outcome}
 use Rattle.model.specs.Opcodes.{armOf}
-use Rattle.model.specs.Said.{Said, say}
+use Rattle.model.specs.NoMemory.{Said, say}
 use Rattle.model.specs.Control.{xyzOf}
 use Rattle.model.specs.Contexts.{saveContext, unsaveContext}
 use Rattle.model.specs.System.{putSpecial, got, syncOf}
@@ -19,7 +19,7 @@ use Rattle.model.specs.declared.State.{State}
 use Rattle.model.specs.declared.Reply.{Reply}
 use Rattle.model.proofs.Bools.{on}
 use Rattle.model.proofs.Entry.{step-open}
-use Rattle.model.proofs.Sent.{step-told, step-refused}
+use Rattle.model.proofs.StepByArm.{step-told, step-refused}
 use Rattle.stack.specs.Gives.{guardedOn}
 use Rattle.stack.proofs.Judged.{guarded-open}
 use Rattle.instruction.specs.Told.{getOf, tripOf, trapStep, Told}

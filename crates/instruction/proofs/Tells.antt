@@ -11,7 +11,7 @@ use borrow.Author.Tests.{eqb-true, lt-ltb, le-ltb, le-leb, lt-leb, ne-eqb}
 use Rattle.model.specs.Registers.{withParts, rG, rL, rA, sp, goes, next, halted}
 use Rattle.model.specs.System.{isPrivileged, isIllegal, putRefusal, putState, putSpecial, syncOf}
 use Rattle.model.specs.Parts.{made}
-use Rattle.model.specs.Said.{say}
+use Rattle.model.specs.NoMemory.{say}
 use Rattle.model.specs.Numbers.{replyOf}
 use Rattle.model.specs.declared.State.{State}
 use Rattle.model.specs.declared.Reply.{Reply}

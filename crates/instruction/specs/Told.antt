@@ -4,7 +4,7 @@ use mathlib.Core.Path.{_≡_}
 use mathlib.Core.Bool.{cond, _&&_}
 use lib.Dec.{ltb, eqb}
 use Rattle.model.specs.Registers.{reg, next}
-use Rattle.model.specs.Said.{Said, say}
+use Rattle.model.specs.NoMemory.{Said, say}
 use Rattle.model.specs.System.{got}
 use Rattle.model.specs.Trips.{wordOf, tripTo, trapOf}
 use Rattle.model.specs.Step.{isNamed}

@@ -5,7 +5,7 @@ ghost use mathlib.Core.List.{List};
 ghost use Prim.Native.Nat.{ℕ};
 ghost use Rattle.model.specs.Memory.{shapesOf, ruled};
 ghost use Rattle.model.specs.Registers.{reg, next, admissible};
-ghost use Rattle.model.specs.Said.{say};
+ghost use Rattle.model.specs.NoMemory.{say};
 ghost use Rattle.model.specs.System.{putSpecial};
 ghost use Rattle.model.specs.Contexts.{unsaveContext};
 ghost use Rattle.model.specs.Step.{stepOf};

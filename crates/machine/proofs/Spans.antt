@@ -14,8 +14,8 @@ use Rattle.model.specs.Plan.{worst}
 use Rattle.model.specs.Step.{refusing}
 use Rattle.model.proofs.Fill.{flag, lt-or-le}
 use Rattle.model.proofs.Runs.{of-worst}
-use Rattle.model.proofs.Meets.{worst-six}
-use Rattle.model.proofs.Unpark.{refusing-mod}
+use Rattle.model.proofs.ArmAnswers.{worst-six}
+use Rattle.model.proofs.SaveUnsave.{refusing-mod}
 use Rattle.model.proofs.Reader.{offset-next}
 
 -- ---- distances

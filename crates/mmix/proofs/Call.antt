@@ -9,7 +9,7 @@ use Rattle.model.specs.Memory.{Windows, both, one}
 use Rattle.model.specs.Plan.{perform, worst, puts}
 use Rattle.model.specs.Lists.{stepOn, runs}
 use Rattle.model.specs.Registers.{Sized, Words}
-use Rattle.model.specs.Said.{tell}
+use Rattle.model.specs.NoMemory.{tell}
 use Rattle.model.specs.Step.{Item, step, exception, stepOf, itemPlan, mmix}
 use Rattle.model.specs.declared.State.{State}
 use Rattle.model.proofs.Numbers.{numbered}

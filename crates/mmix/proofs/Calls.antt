@@ -10,10 +10,10 @@ use Rattle.model.specs.Lists.{Ran, stepOn, runs, runNeeds}
 use Rattle.model.specs.Registers.{rO, sp, reg, Sized, Words}
 use Rattle.model.specs.Frames.{hole}
 use Rattle.model.specs.Step.{Item, step, stepOf, itemPlan, mmix}
-use Rattle.model.specs.Keeps.{InstructionFits, Fits, Bytes}
+use Rattle.model.specs.Invariants.{InstructionFits, Fits, Bytes}
 use Rattle.model.specs.Demand.{Within, opcodeOf, SameOutside, AtPop, GivesBack, Private, after, popAfter}
 use Rattle.model.specs.declared.State.{State}
-use Rattle.model.proofs.Kept.{items-keep}
+use Rattle.model.proofs.Invariants.{items-keep}
 use Rattle.model.proofs.Demand.{demand3}
 use Rattle.mmix.specs.Calls.{Held, heldState, HeldIs, HeldFits, Entry, asked, Meets, Made, Chain, entries, replies, lastHeld, lastWindow, items, answered, answers, Moved, AllFit, Carried, ListsOfCalls, Returns, Demand3Calls}
 use Rattle.mmix.proofs.Call.{Intact, intact, intact-of, held-state, After, after-call, form, formAfter, form-after, same-held}

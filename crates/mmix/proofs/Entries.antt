@@ -7,7 +7,7 @@ use lib.ListN.{length}
 use borrow.Author.Tests.{eq-eqb, ne-eqb}
 use Rattle.model.specs.Registers.{fresh}
 use Rattle.model.specs.Memory.{Windows}
-use Rattle.model.specs.Said.{Said}
+use Rattle.model.specs.NoMemory.{Said}
 use Rattle.model.specs.Plan.{Outcome}
 use Rattle.model.specs.Step.{stepOf, exceptionOf}
 use Rattle.model.specs.Numbers.{numberOf, replyOf}

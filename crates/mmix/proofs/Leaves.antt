@@ -11,13 +11,13 @@ use Rattle.model.specs.Octa.{written, bytesOf}
 use Rattle.model.specs.Memory.{Windows, one}
 use Rattle.model.specs.Plan.{Outcome, perform, worst, puts}
 use Rattle.model.specs.Lists.{stepOn}
-use Rattle.model.specs.Said.{Said, say, tell}
+use Rattle.model.specs.NoMemory.{Said, say, tell}
 use Rattle.model.specs.Step.{step, exception, stepOf, exceptionOf, itemPlan, mmix}
 use Rattle.model.specs.Registers.{rB, rBB, rA, rW, rX, rY, rZ, rWW, rXX, rYY, rZZ, sp, reg, Sized}
 use Rattle.model.specs.Trips.{withAdded, wordOf}
 use Rattle.model.specs.Leaves.{Interrupted, StepLeaves, ExceptionLeaves}
 use Rattle.model.proofs.Leaves.{replies-leave}
-use Rattle.model.proofs.Kept.{items-keep}
+use Rattle.model.proofs.Invariants.{items-keep}
 use Rattle.model.proofs.Numbers.{numbered}
 use Rattle.model.specs.declared.State.{State}
 use Rattle.mmix.specs.Image.{imageLength, imageOf, stateOf}

@@ -12,7 +12,7 @@ use Rattle.model.specs.Lists.{Ran, runs, runNeeds}
 use Rattle.model.specs.Registers.{rO, sp, reg, Sized, Words}
 use Rattle.model.specs.Frames.{hole}
 use Rattle.model.specs.Step.{Item, step, exception, mmix}
-use Rattle.model.specs.Keeps.{InstructionFits, Fits, Bytes}
+use Rattle.model.specs.Invariants.{InstructionFits, Fits, Bytes}
 use Rattle.model.specs.Demand.{Within, Call, opcodeOf, Alike, SameOutside, AtPop}
 use Rattle.model.specs.declared.State.{State}
 use Rattle.mmix.specs.Image.{imageLength, imageOf, stateOf}

@@ -8,7 +8,7 @@ use lib.ListN.{getD}
 use Rattle.model.specs.Octa.{part, written, bytesOf}
 use Rattle.model.specs.Memory.{Windows}
 use Rattle.model.specs.Registers.{rB, rJ, rBB, rA, rW, rX, rY, rZ, rWW, rXX, rYY, rZZ, sp, reg, following, Sized}
-use Rattle.model.specs.Said.{say}
+use Rattle.model.specs.NoMemory.{say}
 use Rattle.model.specs.Trips.{wordOf, withAdded}
 use Rattle.model.specs.Numbers.{Early, Lost, Halting}
 use Rattle.model.specs.Leaves.{StepLeaves, ExceptionLeaves}

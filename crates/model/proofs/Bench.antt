@@ -8,7 +8,7 @@ use Rattle.model.specs.Registers.{admissible, fresh, goes, halted, withS
 use Rattle.model.specs.Memory.{shapeOf, ruled, offset, has, octaBytes, writeOcta, one}
 use Rattle.model.specs.Plan.{worst, named, look, looks, puts, perform, mapPlan}
 use Rattle.model.specs.Opcodes.{conditionOf, armOf}
-use Rattle.model.specs.Said.{tell}
+use Rattle.model.specs.NoMemory.{tell}
 use Rattle.model.specs.Control.{targetOf, holds}
 use Rattle.model.specs.Frames.{hole, framed, slid, slide, pushedRule, pushed, pushFrame, countOf, lastOutput, restored, unslide, popped, popTo, popRule, framedRule, noFrame, misplaced, popFrame}
 use Rattle.model.specs.Contexts.{savedSpecial, saved, savedUnspilled, savedState, saveContext, unsavedGeneral, unsavedSpecial, unsavedUnspilled, unsaved, contextRest, contextCount, contextAt, unsaveContext}

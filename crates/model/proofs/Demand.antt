@@ -23,10 +23,10 @@ use Rattle.model.proofs.Memory.{one-lawful}
 use Rattle.model.proofs.Lists.{runTouches, SameRun, runs-agree, runs-kept, runTouches-off, runWider-off, runTouches-agree, runs-always}
 use Rattle.model.proofs.Runs.{length-tab}
 use Rattle.model.specs.declared.State.{State}
-use Rattle.model.proofs.Good.{Adm, Good, adm, adm-of, goes-good, pushed-good}
-use Rattle.model.proofs.Keeps.{item-keeps}
-use Rattle.model.proofs.Kept.{good-keeps}
-use Rattle.model.proofs.Frame.{called, called-alike, push-is, push-same, pop-is, pop-reg, push-rO}
+use Rattle.model.proofs.AdmissibleKept.{Adm, Good, adm, adm-of, goes-good, pushed-good}
+use Rattle.model.proofs.ItemInvariant.{item-keeps}
+use Rattle.model.proofs.Invariants.{good-keeps}
+use Rattle.model.proofs.PushPop.{called, called-alike, push-is, push-same, pop-is, pop-reg, push-rO}
 
 mmix-good : (s : State) (w : Shapes) (i : Item) → Good s → Always Good (mmix .plan s w i)
 unfolding mmix

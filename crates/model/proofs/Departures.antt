@@ -12,7 +12,7 @@ use lib.ListN.{set}
 use lib.Seq.{set-getD, getD-set-other}
 use Rattle.model.specs.Registers.{withParts, rC, rO, rS, rI, rU, rK, sp, Words, MarginalZero, admissible, goes, next, halted, withSpecial, spilled}
 use Rattle.model.specs.Opcodes.{register, immediate, Arm, branch, jump, getAddress, go, pushJump, pushGo, pop, put, get, save, unsave, sync, swym, trip, trap, none}
-use Rattle.model.specs.Said.{Said, say}
+use Rattle.model.specs.NoMemory.{Said, say}
 use Rattle.model.specs.Trips.{wordOf, isLoaded, trapped, trapRule, trapOf, enables, enabled, leftmost, added, exactUnderflow, addedRule, withAdded, raised}
 use Rattle.model.specs.Step.{exceptionOf}
 use Rattle.model.specs.Rules.{withAddedRule, raisedRule, exceptionRule, counted}

@@ -22,8 +22,8 @@ use Rattle.model.specs.Leaves.{Interrupted, Tripped, Trapped, StepLeaves
 use Rattle.model.specs.Numbers.{Early, Lost, Halting}
 use Rattle.model.specs.declared.State.{State}
 use Rattle.model.proofs.Bools.{on}
-use Rattle.model.proofs.Keeps.{Any}
-use Rattle.model.proofs.Meets.{Meets, MeetsTrip, plan-meets, step-meets, exception-meets, context-meets, perform-meets}
+use Rattle.model.proofs.ItemInvariant.{Any}
+use Rattle.model.proofs.ArmAnswers.{Meets, MeetsTrip, plan-meets, step-meets, exception-meets, context-meets, perform-meets}
 
 -- ---- the trip and trap registers
 

@@ -18,10 +18,10 @@ use Rattle.model.specs.Step.{refusing, stepPlan, stepOf, stepNeeds}
 use Rattle.model.specs.Locality.{SameAt, SameStep, allInside, StepIsLocal}
 use Rattle.model.specs.declared.State.{State}
 use Rattle.model.proofs.Bools.{and-left, and-right, on-both}
-use Rattle.model.proofs.Keeps.{Any}
+use Rattle.model.proofs.ItemInvariant.{Any}
 use Rattle.model.proofs.Memory.{bytes-octa, one-lawful}
 use Rattle.model.proofs.Plan.{All-map, Same, worst-head, worst-tail, touches, touches-off, perform-agree, needs-agree, perform-kept, perform-shape}
-use Rattle.model.proofs.Meets.{Answers, Meets, worst-six, plan-meets, step-meets}
+use Rattle.model.proofs.ArmAnswers.{Answers, Meets, worst-six, plan-meets, step-meets}
 use Rattle.model.proofs.Entry.{sound-at, judged-inside, inside-judged}
 
 -- ---- octabytes among the needs

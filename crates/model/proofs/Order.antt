@@ -13,7 +13,7 @@ use Rattle.model.specs.Registers.{rJ, rO, rG, sp, reg, admissible, goes,
 use Rattle.model.specs.Memory.{Windows, shapesOf, ruled, inside, both}
 use Rattle.model.specs.Plan.{Plan, answer, read, clear, named, looks, perform}
 use Rattle.model.specs.Opcodes.{armOf}
-use Rattle.model.specs.Said.{say, tell}
+use Rattle.model.specs.NoMemory.{say, tell}
 use Rattle.model.specs.Control.{yzOf}
 use Rattle.model.specs.Frames.{noFrame, misplaced, popRule, popFrame}
 use Rattle.model.specs.Contexts.{extent, saved, savedState, saveContext, below, unsaved, contextRest, contextCount, contextAt, unsaveContext}
@@ -22,9 +22,9 @@ use Rattle.model.specs.Step.{refusalOf, unruledBy, refusing, planOf, gua
 use Rattle.model.specs.Order.{refusedBy, haltedBy, Passes, Packed, Counted, StepsInOrder}
 use Rattle.model.specs.declared.State.{State}
 use Rattle.model.proofs.Runs.{length-tab}
-use Rattle.model.proofs.Meets.{worst-six}
+use Rattle.model.proofs.ArmAnswers.{worst-six}
 use Rattle.model.proofs.Entry.{performOn, said, step-open}
-use Rattle.model.proofs.Sent.{step-refused, step-inadmissible, step-unruled}
+use Rattle.model.proofs.StepByArm.{step-refused, step-inadmissible, step-unruled}
 use Rattle.model.proofs.Rules.{has-clear}
 
 -- ---- 1 to 5

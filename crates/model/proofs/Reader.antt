@@ -18,7 +18,7 @@ use Rattle.model.specs.Roundtrip.{thresholdAt, countAt, octasAt, FromFir
 use Rattle.model.specs.declared.State.{State}
 use Rattle.model.proofs.Bools.{and-left, and-right, on, on-both}
 use Rattle.model.proofs.Runs.{octa-mod, worst-of}
-use Rattle.model.proofs.Unpark.{looked, Context, context-found, unsavedNext, unsave-open}
+use Rattle.model.proofs.SaveUnsave.{looked, Context, context-found, unsavedNext, unsave-open}
 use Rattle.model.proofs.Entry.{performOn, Inside, said-reply, sound, ruled-facts}
 
 -- ---- the reader judges as UNSAVE does

@@ -22,8 +22,8 @@ use Rattle.model.proofs.Bools.{and-left, and-right, on, on-both}
 use Rattle.model.proofs.Fill.{length-over, over-in, over-below, over-above}
 use Rattle.model.proofs.Memory.{one-lawful}
 use Rattle.model.proofs.Plan.{Kept·refl}
-use Rattle.model.proofs.Good.{Adm, Good, adm-of, spec-same, goes-good, saved-good, unsaved-good, unsaved-special}
-use Rattle.model.proofs.Unpark.{Saves, savedOn, save-done, save-is, savedState-address, savedSpecial-low, savedSpecial-high, saved-local, saved-global, saved-twelve, withContext, Unsaves, unsave-back}
+use Rattle.model.proofs.AdmissibleKept.{Adm, Good, adm-of, spec-same, goes-good, saved-good, unsaved-good, unsaved-special}
+use Rattle.model.proofs.SaveUnsave.{Saves, savedOn, save-done, save-is, savedState-address, savedSpecial-low, savedSpecial-high, saved-local, saved-global, saved-twelve, withContext, Unsaves, unsave-back}
 use Rattle.model.proofs.Reader.{reader-reply, reader-part}
 
 -- ---- the registers that UNSAVE leaves

@@ -14,7 +14,7 @@ use Rattle.model.specs.Registers.{withParts, rJ, rO, rS, rG, sp, reg, ad
 use Rattle.model.specs.Memory.{Windows, shapesOf, ruled, both}
 use Rattle.model.specs.Plan.{Plan, answer, Outcome, perform, mapPlan, mapOutcome}
 use Rattle.model.specs.Opcodes.{Operand, register, immediate, Arm, branch, jump, getAddress, go, pushJump, pushGo, pop, put, get, save, unsave, sync, swym, trip, trap, none, armOf}
-use Rattle.model.specs.Said.{say, tell}
+use Rattle.model.specs.NoMemory.{say, tell}
 use Rattle.model.specs.Control.{near, yzOf, xyzOf, sumOf, operandOf}
 use Rattle.model.specs.Frames.{popRule, noFrame, misplaced, popFrame}
 use Rattle.model.specs.Contexts.{extent, saved, savedState, saveContext}

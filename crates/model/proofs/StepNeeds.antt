@@ -10,7 +10,7 @@ use Rattle.model.specs.Registers.{rO, rG, rL, sp, reg, admissible, goes,
 use Rattle.model.specs.Memory.{Windows, shapesOf, ruled, both, one}
 use Rattle.model.specs.Plan.{Plan, answer, read, Outcome, perform, ups, worst, clear, look, looks, needs}
 use Rattle.model.specs.Opcodes.{Arm, forward, backward, register, immediate, branch, jump, getAddress, go, pushJump, pushGo, pop, put, get, save, unsave, sync, swym, trip, trap, none, armOf}
-use Rattle.model.specs.Said.{Said, say, refuse, tell}
+use Rattle.model.specs.NoMemory.{Said, say, refuse, tell}
 use Rattle.model.specs.Control.{near, sumOf}
 use Rattle.model.specs.Frames.{hole, framed, pushed, pushFrame, popTo, popRule, noFrame, misplaced, popFrame}
 use Rattle.model.specs.Contexts.{extent, saved, savedState, saveContext, below, unsaved, contextRest, contextCount, contextAt, unsaveContext}
@@ -20,7 +20,7 @@ use Rattle.model.specs.StepNeeds.{run, popNeeds, unsaveNeedsRest, unsave
 use Rattle.model.specs.declared.State.{State}
 use Rattle.model.proofs.Bools.{on, on-both}
 use Rattle.model.proofs.Runs.{length-tab}
-use Rattle.model.proofs.Meets.{step-judged, worst-six}
+use Rattle.model.proofs.ArmAnswers.{step-judged, worst-six}
 use Rattle.model.proofs.Entry.{step-open, step-done}
 
 abbrev unsavedNext : State → ℕ → ℕ → ℕ → ℕ → List ℕ → State

@@ -6,7 +6,7 @@ use lib.Dec.{leb, ltb, eqb}
 use lib.ListN.{getD, set}
 use Rattle.model.specs.Fill.{over, tab}
 use Rattle.model.specs.Plan.{Plan, answer, read}
-use Rattle.model.specs.Said.{refuse, tell}
+use Rattle.model.specs.NoMemory.{refuse, tell}
 use Rattle.model.specs.Registers.{withParts, rR, rO, rG, rL, rA, rP, rZ, sp, reg, next, halted, stored, spilled}
 use Rattle.model.specs.declared.State.{State}
 

@@ -8,7 +8,7 @@ use lib.ListN.{replicate}
 use Rattle.model.specs.Registers.{rJ, rO, rS, rT, rK, rG, rL, rA, rW, rX, rWW, rXX, stackStart, sp, fresh, goes, halted, withSpecial, stored}
 use Rattle.model.specs.Memory.{Windows, putOcta}
 use Rattle.model.specs.Plan.{Outcome}
-use Rattle.model.specs.Said.{Said}
+use Rattle.model.specs.NoMemory.{Said}
 use Rattle.model.specs.Step.{stepOf, exceptionOf}
 use Rattle.model.specs.Rules.{After, goesOn, interrupts, stepRule, exceptionRule}
 use Rattle.model.specs.Bench.{start, sameState, sameWindow}
@@ -214,17 +214,44 @@ tripExamples =
 unfoldable pub examples : List Example
 examples = spillExample ∷ getExample ∷ thresholdExample ∷ (popExamples ++ (marginalExamples ++ (unsaveExamples ++ (byteExamples ++ (interruptExamples ++ tripExamples)))))
 
--- two enabled flags; U without X, not enabled; a vector that is not loaded
+-- flags of which none is enabled, rA before, and rA after here and there
+abbrev adding : ℕ → ℕ → ℕ → ℕ → ExampleException
+adding f a r k = record {
+  begin = withSpecial start rA a;
+  flags = f;
+  reply = 0;
+  end = goes (withSpecial start rA r) 4;
+  knuth = goes (withSpecial start rA k) 4;
+}
+
+-- flags of which one is taken, through the vector v
+abbrev taking : ℕ → ℕ → ℕ → ℕ → ℕ → ExampleException
+taking f a v r k = record {
+  begin = withSpecial start rA a;
+  flags = f;
+  reply = 0;
+  end = goes (tripRegisters (withSpecial start rA r) 0) v;
+  knuth = goes (tripRegisters (withSpecial start rA k) 0) v;
+}
+
 unfoldable pub exceptionExamples : List ExampleException
 exceptionExamples =
-    record {
-      begin = withSpecial start rA 0xC000;
-      flags = 0xC0;
-      reply = 0;
-      end = goes (tripRegisters (withSpecial start rA 0xC000) 0) 0x10;
-      knuth = goes (tripRegisters (withSpecial start rA 0xC040) 0) 0x10;
-    }
-    ∷ record { begin = start; flags = 0x04; reply = 0; end = goes (withSpecial start rA 4) 4; knuth = goes start 4 }
+    -- U without X, not enabled, alone and beside others; with X; enabled; where its neighbours are enabled
+    adding 0x04 0 0x04 0
+    ∷ adding 0x0C 0 0x0C 0x08
+    ∷ adding 0x06 0 0x06 0x02
+    ∷ adding 0x10C 0 0x0C 0x08
+    ∷ adding 0x05 0 0x05 0x05
+    ∷ adding 0x01 0 0x01 0x01
+    ∷ taking 0x84 0x8000 0x10 0x8004 0x8000
+    ∷ adding 0x04 0x0800 0x0804 0x0800
+    ∷ adding 0x04 0x0300 0x0304 0x0300
+    -- two enabled flags, and one
+    ∷ taking 0xC0 0xC000 0x10 0xC000 0xC040
+    ∷ taking 0x0C 0x0C00 0x50 0x0C00 0x0C04
+    ∷ taking 0xC0 0x4000 0x20 0x4080 0x4080
+    ∷ taking 0x01 0x0100 0x80 0x0100 0x0100
+    -- a vector that is not loaded
     ∷ record {
       begin = withSpecial fresh rA 0x8000;
       flags = 0x80;

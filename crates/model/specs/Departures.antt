@@ -12,7 +12,7 @@ use Rattle.model.specs.Registers.{rC, rO, rS, rI, rU, rG, rL, rK, sp, re
 use Rattle.model.specs.Memory.{Windows, shapesOf, inside, both}
 use Rattle.model.specs.Plan.{look, mapOutcome, perform}
 use Rattle.model.specs.Opcodes.{Operand, register, immediate, Arm, branch, jump, getAddress, go, pushJump, pushGo, pop, put, get, save, unsave, sync, swym, trip, trap, none, armOf}
-use Rattle.model.specs.Said.{say}
+use Rattle.model.specs.NoMemory.{say}
 use Rattle.model.specs.Control.{xyzOf, operandOf}
 use Rattle.model.specs.Frames.{hole, framed, framedRule, noFrame, misplaced, popRule, popFrame}
 use Rattle.model.specs.Contexts.{below, unsaveContext}

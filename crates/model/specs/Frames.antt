@@ -7,7 +7,7 @@ use lib.Dec.{leb, ltb, eqb}
 use lib.ListN.{getD, set}
 use Rattle.model.specs.Fill.{over, tab}
 use Rattle.model.specs.Plan.{Plan, answer, read}
-use Rattle.model.specs.Said.{say, refuse, tell}
+use Rattle.model.specs.NoMemory.{say, refuse, tell}
 use Rattle.model.specs.Registers.{withParts, rJ, rO, rG, rL, stackStart, sp, reg, following, goes, withSpecial, claimLocal, spilled}
 use Rattle.model.specs.declared.State.{State}
 

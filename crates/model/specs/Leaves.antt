@@ -5,7 +5,7 @@ use mathlib.Core.Logic.{_⊎_, _≢_}
 use Rattle.model.specs.Memory.{Windows}
 use Rattle.model.specs.Plan.{Outcome}
 use Rattle.model.specs.Registers.{rB, rJ, rBB, rW, rX, rY, rZ, rWW, rXX, rYY, rZZ, sp, reg, following, Sized, halted}
-use Rattle.model.specs.Said.{Said}
+use Rattle.model.specs.NoMemory.{Said}
 use Rattle.model.specs.Trips.{wordOf, withAdded}
 use Rattle.model.specs.Step.{stepOf, exceptionOf}
 use Rattle.model.specs.Reader.{Part, emptyPart, readContext}

@@ -5,7 +5,7 @@ pub mod Registers
 pub mod Memory
 pub mod Plan
 pub mod Opcodes
-pub mod Said
+pub mod NoMemory
 pub mod Control
 pub mod Frames
 pub mod Contexts
@@ -20,7 +20,7 @@ pub mod Parts
 pub mod Rules
 -- theorems: statements; proofs/ has the proofs
 pub mod Leaves
-pub mod Keeps
+pub mod Invariants
 pub mod Locality
 pub mod StepNeeds
 pub mod Demand

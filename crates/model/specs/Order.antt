@@ -10,7 +10,7 @@ use Rattle.model.specs.Registers.{rJ, rO, rG, sp, reg, admissible, goes,
 use Rattle.model.specs.Memory.{Windows, shapesOf, ruled, inside, both}
 use Rattle.model.specs.Plan.{Outcome, clear, look}
 use Rattle.model.specs.Opcodes.{armOf}
-use Rattle.model.specs.Said.{say}
+use Rattle.model.specs.NoMemory.{say}
 use Rattle.model.specs.Control.{yzOf}
 use Rattle.model.specs.Frames.{noFrame, misplaced}
 use Rattle.model.specs.Contexts.{extent, below}

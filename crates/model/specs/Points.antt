@@ -93,7 +93,7 @@ marginalPoint = gives (stored start 0 1) (step 0x4A 0 0 5) 0 (goes (stored start
 
 -- ---- every opcode: where each arm goes, and 3 beside the arms
 
--- a branch from 0x40000 on $255: taken or not on 0, 1, 2, 2^63 and 2^63 + 1
+-- a branch from 0x40000 on $255: taken or not on 0, 1, 2, 2^63 − 1, 2^63 and 2^63 + 1
 abbrev branching : ℕ → State
 branching v = goes (stored start 255 v) 0x40000
 
@@ -104,16 +104,16 @@ branches op v target t = gives (branching v) (step op 255 255 255) 0 (goes (bran
 abbrev kin : ℕ → ℕ → Bool → List Point
 kin op v t = branches op v 0x7fffc t ∷ branches (op + 1) v 0x3fffc t ∷ branches (op + 0x10) v 0x7fffc t ∷ branches (op + 0x11) v 0x3fffc t ∷ []
 
-abbrev condition : ℕ → Bool → Bool → Bool → Bool → Bool → List Point
-condition op a b c d e = kin op 0 a ++ (kin op 1 b ++ (kin op 2 c ++ (kin op (2 ^ 63) d ++ kin op (2 ^ 63 + 1) e)))
+abbrev condition : ℕ → Bool → Bool → Bool → Bool → Bool → Bool → List Point
+condition op a b c d e f = kin op 0 a ++ (kin op 1 b ++ (kin op 2 c ++ (kin op (2 ^ 63 - 1) d ++ (kin op (2 ^ 63) e ++ kin op (2 ^ 63 + 1) f))))
 
 -- BN, BZ, BP, BOD, BNN, BNZ, BNP, BEV
 abbrev branchPoints : List Point
 branchPoints =
-    condition 0x40 false false false true true ++ (condition 0x42 true false false false false
-    ++ (condition 0x44 false true true false false ++ (condition 0x46 false true false false true
-    ++ (condition 0x48 true true true false false ++ (condition 0x4A false true true true true
-    ++ (condition 0x4C true false false true true ++ condition 0x4E true false true true false))))))
+    condition 0x40 false false false false true true ++ (condition 0x42 true false false false false false
+    ++ (condition 0x44 false true true true false false ++ (condition 0x46 false true false true false true
+    ++ (condition 0x48 true true true true false false ++ (condition 0x4A false true true true true true
+    ++ (condition 0x4C true false false false true true ++ condition 0x4E true false true false true false))))))
 
 abbrev far : State
 far = goes start 0x40000000
@@ -168,6 +168,27 @@ calls op y z target = record {
 
 abbrev callPoints : List Point
 callPoints = calls 0xF2 2 3 0x4080C ∷ calls 0xF3 255 255 0x3fffc ∷ calls 0xBE 40 50 0x1123 ∷ calls 0xBF 40 50 0x155 ∷ []
+
+-- POP of three outputs, and of one more than there are: the frame below rO has one local, 7
+abbrev frame : Windows
+frame = record { base = stackStart; bytes = replicate 7 0 ++ (7 ∷ replicate 7 0) ++ (1 ∷ []) }
+
+abbrev outputs : State
+outputs = stored (stored (stored (withSpecial (withSpecial (withSpecial start rO (stackStart + 16)) rS (stackStart + 16)) rL 3) 0 1) 1 2) 2 3
+
+abbrev pops : ℕ → ℕ → State → Point
+pops x l t = record { begin = outputs; window = frame; items = step 0xF8 x 0 0 ∷ []; replies = 0 ∷ []; end = withSpecial t rL l; left = frame }
+
+abbrev popPoints : List Point
+popPoints =
+    pops 3 4 (stored (stored (stored (stored start 0 7) 1 3) 2 1) 3 2)
+    ∷ pops 4 5 (stored (stored (stored (stored start 0 7) 2 1) 3 2) 4 3) ∷ []
+
+-- rA's enables are its second byte: all of them, and more of rA set
+abbrev enablePoints : List Point
+enablePoints =
+    gives (withSpecial start rA 0xFF00) (exception 0x80 0 0 0 0 0 0) 0 (goes (tripRegisters (withSpecial start rA 0xFF00)) 0x10)
+    ∷ gives (withSpecial start rA 0x3FFFF) (exception 0x80 0 0 0 0 0 0) 0 (goes (tripRegisters (withSpecial start rA 0x3FFFF)) 0x10) ∷ []
 
 abbrev noArm : ℕ → Point
 noArm op = refused start (step op 0 0 0) 3
@@ -228,7 +249,7 @@ ruledShapes =
 unfoldable pub morePoints : List Point
 morePoints =
     tripMarks ++ (markPoints 0 ++ (markPoints 1 ++ (markPoints 2 ++ (markPoints 3 ++ (markPoints 4 ++ (markPoints 5 ++ (markPoints 6 ++ (markPoints 7
-    ++ (trapPoints ++ (interruptPoints ++ (marginalPoint ∷ (branchPoints ++ (controlPoints ++ (callPoints ++ (noArmPoints ++ (putPoints ++ admissiblePoints))))))))))))))))
+    ++ (trapPoints ++ (interruptPoints ++ (marginalPoint ∷ (branchPoints ++ (controlPoints ++ (callPoints ++ (popPoints ++ (enablePoints ++ (noArmPoints ++ (putPoints ++ admissiblePoints))))))))))))))))))
 
 abbrev pub MorePointsMet : Type 0
 MorePointsMet = (allMet morePoints ≡ true) × (ruledShapes ≡ true)

@@ -14,7 +14,7 @@ use Rattle.model.specs.Registers.{withParts, rJ, rC, rO, rI, rU, rG, rL,
 use Rattle.model.specs.Memory.{Windows, Shapes, shapesOf, ruled, both}
 use Rattle.model.specs.Plan.{Plan, answer, read, Outcome, mapPlan, perform}
 use Rattle.model.specs.Opcodes.{Operand, register, immediate, Arm, branch, jump, getAddress, go, pushJump, pushGo, pop, put, get, save, unsave, sync, swym, trip, trap, none, armOf}
-use Rattle.model.specs.Said.{Said, say, tell}
+use Rattle.model.specs.NoMemory.{Said, say, tell}
 use Rattle.model.specs.Control.{near, far, yzOf, xyzOf, holds}
 use Rattle.model.specs.Frames.{hole, framedRule, pushedRule, unslide}
 use Rattle.model.specs.Contexts.{extent, saved, savedState, below, unsavedSpecial}

@@ -8,7 +8,7 @@ use Rattle.model.specs.Plan.{Plan, answer, Outcome, perform, needs}
 use Rattle.model.specs.Lists.{Machine}
 use Rattle.model.specs.Registers.{rJ, sp, reg, admissible, goes, following, next, setRegister}
 use Rattle.model.specs.Opcodes.{Arm, branch, jump, getAddress, go, pushJump, pushGo, pop, put, get, save, unsave, sync, swym, trip, trap, none, armOf}
-use Rattle.model.specs.Said.{Said, say, tell}
+use Rattle.model.specs.NoMemory.{Said, say, tell}
 use Rattle.model.specs.Control.{near, far, yzOf, xyzOf, sumOf, operandOf, holds}
 use Rattle.model.specs.Frames.{hole, pushFrame, popFrame}
 use Rattle.model.specs.Contexts.{saveContext, unsaveContext}

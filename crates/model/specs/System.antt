@@ -3,7 +3,7 @@ use Prim.Native.Nat.{ℕ}
 use mathlib.Core.Bool.{Bool, false, cond, _||_}
 use mathlib.Core.List.{List, [], _∷_}
 use lib.Dec.{leb, ltb, eqb}
-use Rattle.model.specs.Said.{Said, say, refuse}
+use Rattle.model.specs.NoMemory.{Said, say, refuse}
 use Rattle.model.specs.Registers.{rC, rN, rO, rS, rI, rT, rTT, rK, rQ, rU, rV, rG, rL, rA, sp, next, withSpecial, claimLocal, setRegister, putLocals, putGlobals}
 use Rattle.model.specs.declared.State.{State}
 

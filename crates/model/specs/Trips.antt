@@ -6,7 +6,7 @@ use lib.Dec.{eqb}
 use lib.ListN.{set}
 use lib.Bits.{bitAnd, bitOr}
 use lib.Count.{leadingZeros}
-use Rattle.model.specs.Said.{Said, say, refuse}
+use Rattle.model.specs.NoMemory.{Said, say, refuse}
 use Rattle.model.specs.Registers.{withParts, rB, rJ, rBB, rK, rT, rA, rW, rX, rY, rZ, rWW, rXX, rYY, rZZ, sp, reg, following, goes, next, withSpecial}
 use Rattle.model.specs.Control.{xyzOf}
 use Rattle.model.specs.declared.State.{State}

@@ -6,7 +6,7 @@ use Rattle.model.specs.Registers.{admissible, fresh, goes, withSpecial, cleared
 use Rattle.model.specs.Memory.{shapeOf, ruled, offset, has, octaBytes, writeOcta, one}
 use Rattle.model.specs.Plan.{worst, named, look, looks, puts, perform}
 use Rattle.model.specs.Opcodes.{conditionOf, armOf}
-use Rattle.model.specs.Said.{tell}
+use Rattle.model.specs.NoMemory.{tell}
 use Rattle.model.specs.Control.{targetOf}
 use Rattle.model.specs.Frames.{hole, framed, slid, slide, pushedRule, pushed, pushFrame, countOf, lastOutput, restored, unslide, popped, popTo, popRule, noFrame, misplaced, popFrame}
 use Rattle.model.specs.Step.{refusalOf, judged, refusing, planOf, stepPlan, stepOf}

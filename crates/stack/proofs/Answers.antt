@@ -10,15 +10,15 @@ use Rattle.model.specs.Memory.{Windows, shapesOf, ruled, both}
 use Rattle.model.specs.Plan.{Outcome, perform, worst, puts}
 use Rattle.model.specs.Registers.{rO, rG, sp, admissible, goes, next, halted, stored, spilled, withSpecial}
 use Rattle.model.specs.Contexts.{extent, saved, savedUnspilled, savedState, saveContext, unsavedUnspilled, unsaved, contextAt, unsaveContext}
-use Rattle.model.specs.Said.{tell}
+use Rattle.model.specs.NoMemory.{tell}
 use Rattle.model.specs.Step.{refusing}
 use Rattle.model.specs.Numbers.{replyOf}
 use Rattle.model.specs.Parts.{made}
 use Rattle.model.specs.declared.State.{State}
 use Rattle.model.specs.declared.Reply.{Reply}
 use Rattle.model.specs.declared.Reply.the-variants.{Done, NotAdmissible, WindowRule, Missing, SaveLocal}
-use Rattle.model.proofs.Good.{Adm, adm}
-use Rattle.model.proofs.Meets.{worst-six}
+use Rattle.model.proofs.AdmissibleKept.{Adm, adm}
+use Rattle.model.proofs.ArmAnswers.{worst-six}
 use Rattle.model.proofs.Runs.{length-tab}
 use Rattle.model.proofs.Entry.{performOn, Inside, said}
 use Rattle.stack.specs.Gives.{Gives}

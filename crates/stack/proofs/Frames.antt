@@ -22,7 +22,7 @@ use Rattle.model.proofs.Fill.{lt-or-le, length-over, over-in, over-below, over-
 use Rattle.model.proofs.Bools.{and-right}
 use Rattle.model.proofs.Memory.{one-lawful}
 use Rattle.model.proofs.Runs.{getD-looks}
-use Rattle.model.proofs.Good.{adm, spec-other}
+use Rattle.model.proofs.AdmissibleKept.{adm, spec-other}
 use Rattle.machine.specs.Octas.{readOcta, writtenOcta}
 use Rattle.machine.proofs.Octas.{puts-shape, puts-tab, run-read}
 use Rattle.stack.specs.Frame.{Held, Placed, bottomOf, restoredBy}

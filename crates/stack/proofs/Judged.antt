@@ -15,7 +15,7 @@ use Rattle.model.specs.declared.State.{State}
 use Rattle.model.proofs.Runs.{worst-of, of-worst}
 use Rattle.model.proofs.Entry.{performOn, Inside}
 use Rattle.model.proofs.Entry as entry
-use Rattle.model.proofs.Meets.{worst-six}
+use Rattle.model.proofs.ArmAnswers.{worst-six}
 use Rattle.stack.specs.Gives.{guardedOn}
 
 abbrev pub ended : {S : Type 0} → ℕ → S → Windows → Outcome S Windows

@@ -22,7 +22,7 @@ use Rattle.model.proofs.Bools.{on, and-left, and-right}
 use Rattle.model.proofs.Fill.{lt-or-le, length-over, over-in, over-below, over-above}
 use Rattle.model.proofs.Memory.{one-lawful}
 use Rattle.model.proofs.Runs.{getD-tab, length-tab, getD-looks}
-use Rattle.model.proofs.Unpark.{further, savedSpecial-low, savedSpecial-high}
+use Rattle.model.proofs.SaveUnsave.{further, savedSpecial-low, savedSpecial-high}
 use Rattle.machine.specs.Octas.{readOcta}
 use Rattle.machine.proofs.Octas.{run-read, read-mod}
 use Rattle.stack.specs.Work.{octasFrom, loaded}

@@ -10,7 +10,7 @@ use Rattle.model.specs.Fill.{tab}
 use Rattle.model.specs.Memory.{Windows, shapesOf, ruled, both}
 use Rattle.model.specs.Plan.{answer, looks, puts}
 use Rattle.model.specs.Registers.{rJ, rO, rG, stackStart, sp, admissible, goes, halted, withSpecial, spilled}
-use Rattle.model.specs.Said.{tell}
+use Rattle.model.specs.NoMemory.{tell}
 use Rattle.model.specs.Step.{refusing}
 use Rattle.model.specs.Numbers.{replyOf}
 use Rattle.model.specs.Frames.{hole, framed, pushed, pushedRule, slide, pushFrame, popped, unslide, popTo, popRule, noFrame, misplaced, popFrame}
@@ -20,7 +20,7 @@ use Rattle.model.specs.declared.Reply.the-variants as reply
 use Rattle.model.proofs.Memory.{one-lawful}
 use Rattle.model.proofs.Runs.{length-tab, getD-looks, perform-read}
 use Rattle.model.proofs.Entry.{performOn, Inside, said}
-use Rattle.model.proofs.Frame.{called, push-is}
+use Rattle.model.proofs.PushPop.{called, push-is}
 use Rattle.machine.specs.Octas.{readOcta}
 use Rattle.machine.proofs.Octas.{run-read}
 use Rattle.stack.specs.Gives.{Gives}

@@ -14,9 +14,9 @@ use Rattle.model.specs.Contexts.{below, contextRest, contextCount, contextAt}
 use Rattle.model.specs.Step.{refusing}
 use Rattle.model.proofs.Bools.{on}
 use Rattle.model.proofs.Memory.{one-lawful}
-use Rattle.model.proofs.Meets.{worst-six}
+use Rattle.model.proofs.ArmAnswers.{worst-six}
 use Rattle.model.proofs.Runs.{perform-read, worst-of, of-worst}
-use Rattle.model.proofs.Unpark.{refusing-mod, looked, Context, context-found}
+use Rattle.model.proofs.SaveUnsave.{refusing-mod, looked, Context, context-found}
 use Rattle.model.proofs.Entry.{performOn, Inside, said, inside-judged}
 use Rattle.machine.specs.Octas.{readOcta}
 use Rattle.machine.proofs.Octas.{passed-has, missed-has, read-in, read-mod}

@@ -13,8 +13,8 @@ use Rattle.model.specs.Contexts.{extent, savedSpecial, saved, savedUnspilled, s
 use Rattle.model.specs.Step.{refusing}
 use Rattle.model.specs.Parts.{made, lent}
 use Rattle.model.specs.declared.State.{State}
-use Rattle.model.proofs.Good.{Adm}
-use Rattle.model.proofs.Unpark.{further, saved-local, saved-count, saved-global, saved-twelve, saved-packed}
+use Rattle.model.proofs.AdmissibleKept.{Adm}
+use Rattle.model.proofs.SaveUnsave.{further, saved-local, saved-count, saved-global, saved-twelve, saved-packed}
 use Rattle.machine.specs.Octas.{writtenOcta}
 use Rattle.machine.proofs.Octas.{puts-tab, written-shape}
 use Rattle.stack.specs.Work.{Ranged, Continues, StoresContext, leftGeneral, leftSpecial}

@@ -12,8 +12,8 @@ use Rattle.model.specs.Plan.{Plan, answer, read, Outcome, perform, worst, clear
 use Rattle.model.specs.Contexts.{below, contextRest, contextCount, contextAt}
 use Rattle.model.specs.Step.{refusing}
 use Rattle.model.proofs.Bools.{on-both, and-right}
-use Rattle.model.proofs.Meets.{worst-six}
-use Rattle.model.proofs.Unpark.{octasOf}
+use Rattle.model.proofs.ArmAnswers.{worst-six}
+use Rattle.model.proofs.SaveUnsave.{octasOf}
 use Rattle.model.proofs.Entry.{performOn, Inside}
 use Rattle.stack.specs.Context.{spot, locatedOf, LocatedIs}
 use Rattle.stack.specs.Work.{octasFrom}

@@ -1,6 +1,6 @@
 -- `save_special` meets its contract: the seven from rB to rR, then the five from rP to rZ.
 use native.Mathlib.Omega.{arith}
-use Rattle.model.proofs.Unpark.{savedSpecial-low}
+use Rattle.model.proofs.SaveUnsave.{savedSpecial-low}
 use Rattle.stack.proofs.Loads.{savedSpecial-up}
 use mathlib.Core.Path.{sym}
 use borrow.Author.Needs.{needs}

@@ -8,7 +8,7 @@ use Rattle.model.specs.Registers.{rG, rL, rA, sp, admissible, goes, halt
 use Rattle.model.specs.Memory.{Windows, Shapes, both}
 use Rattle.model.specs.Plan.{Plan, answer, read}
 use Rattle.model.specs.Opcodes.{armOf}
-use Rattle.model.specs.Said.{tell}
+use Rattle.model.specs.NoMemory.{tell}
 use Rattle.model.specs.Frames.{hole, pushed, popped}
 use Rattle.model.specs.Contexts.{savedState, unsaved}
 use Rattle.model.specs.Trips.{tripped, trapped, withAdded}
@@ -17,7 +17,7 @@ use Rattle.model.specs.Step.{planOf, stepPlan, Item, step, exception, it
 use Rattle.model.specs.declared.State.{State}
 use Rattle.model.proofs.Memory.{one-lawful}
 use Rattle.model.proofs.Plan.{Always, perform-always}
-use Rattle.model.proofs.Meets.{Answers, Meets, MeetsTrip, plan-meets, step-meets, exception-meets}
+use Rattle.model.proofs.ArmAnswers.{Answers, Meets, MeetsTrip, plan-meets, step-meets, exception-meets}
 
 pub record Keeps (P : State → Type 0) : Type 0 where
   pub at-pc : (s : State) (a : ℕ) → P s → P (goes s a)

@@ -18,18 +18,18 @@ use Rattle.model.specs.Registers.{rB, rJ, rBB, rO, rS, rG, rL, rA, rR, r
 use Rattle.model.specs.Memory.{Windows, shapesOf, offset, octaBytes, writeOcta, both, one}
 use Rattle.model.specs.Plan.{Plan, answer, read, Outcome, perform, clear, look, looks, puts}
 use Rattle.model.specs.Opcodes.{armOf}
-use Rattle.model.specs.Said.{tell}
+use Rattle.model.specs.NoMemory.{tell}
 use Rattle.model.specs.Frames.{hole, slid, slide, pushedRule, pushed, countOf, lastOutput, restored, unslide, popped}
 use Rattle.model.specs.Contexts.{extent, contextAddress, savedUnspilled, savedState, unsavedGeneral, unsavedSpecial, unsavedUnspilled, unsaved}
 use Rattle.model.specs.Trips.{wordOf, interrupted, added, withAdded}
 use Rattle.model.specs.Lists.{stepOn}
 use Rattle.model.specs.Step.{stepPlan, exceptionOf, Item, step, exception, itemPlan, mmix}
-use Rattle.model.specs.Keeps.{InstructionFits, Fits, Bytes}
+use Rattle.model.specs.Invariants.{InstructionFits, Fits, Bytes}
 use Rattle.model.specs.declared.State.{State}
 use Rattle.model.proofs.Bools.{on, and-right}
 use Rattle.model.proofs.Fill.{length-over, over-in, over-below, over-above, lt-or-le}
-use Rattle.model.proofs.Good.{added-byte}
-use Rattle.model.proofs.Meets.{Answers, Meets, MeetsTrip, plan-meets, step-meets, exception-meets, perform-meets}
+use Rattle.model.proofs.AdmissibleKept.{added-byte}
+use Rattle.model.proofs.ArmAnswers.{Answers, Meets, MeetsTrip, plan-meets, step-meets, exception-meets, perform-meets}
 
 -- ---- lists of numbers below a bound
 

@@ -20,7 +20,7 @@ use Rattle.model.proofs.Memory.{Lawful}
 use Rattle.model.proofs.Runs.{length-tab, worst-of, of-worst, getD-looks, stands, perform-read}
 use Rattle.model.specs.declared.State.{State}
 use Rattle.model.proofs.Fill.{over-cong, over-in}
-use Rattle.model.proofs.Good.{spec-other, spec-same}
+use Rattle.model.proofs.AdmissibleKept.{spec-other, spec-same}
 use Rattle.model.proofs.Bools.{on-both}
 
 slide-alike : (s t : State) (h n : ℕ) → Sized s → Sized t → h ≤ n → h ≤ sp s rG → Alike h s t → slide s n ≡ slide t n

@@ -16,9 +16,9 @@ use Rattle.model.specs.Contexts.{contextAddress, savedUnspilled, savedSt
 use Rattle.model.specs.Trips.{interrupted, withAdded}
 use Rattle.model.specs.declared.State.{State}
 use Rattle.model.proofs.Fill.{over-in, over-below, over-above, lt-or-le}
-use Rattle.model.proofs.Good.{Good, spec-other, spec-same, goes-good, halted-good, stored-good, cleared-good, withLocal-good, putLocals-good, putGlobals-good, withStatus-good, withSpecial-good, slide-good, unslide-good, savedUnspilled-good, unsavedUnspilled-good, unsaved-special, tripped-good, trapped-good, added-good}
+use Rattle.model.proofs.AdmissibleKept.{Good, spec-other, spec-same, goes-good, halted-good, stored-good, cleared-good, withLocal-good, putLocals-good, putGlobals-good, withStatus-good, withSpecial-good, slide-good, unslide-good, savedUnspilled-good, unsavedUnspilled-good, unsaved-special, tripped-good, trapped-good, added-good}
 use Rattle.model.proofs.Bools.{on, on-both}
-use Rattle.model.proofs.Keeps.{Keeps}
+use Rattle.model.proofs.ItemInvariant.{Keeps}
 
 -- good, and all marginal registers zero
 pub record Calm (s : State) : Type 0 where

@@ -13,7 +13,7 @@ use Rattle.model.specs.Registers.{rO, rG, sp, admissible, following, goe
 use Rattle.model.specs.Memory.{Windows, shapesOf, ruled, both}
 use Rattle.model.specs.Plan.{Plan, answer, read, Outcome, perform, worst, clear, named, looks}
 use Rattle.model.specs.Opcodes.{armOf}
-use Rattle.model.specs.Said.{Said, say, tell}
+use Rattle.model.specs.NoMemory.{Said, say, tell}
 use Rattle.model.specs.Frames.{framed, pushed, pushFrame, popped, popTo, popRule, noFrame, misplaced, popFrame}
 use Rattle.model.specs.Contexts.{savedUnspilled, savedState, saveContext, unsavedUnspilled, unsaved, unsaveContext}
 use Rattle.model.specs.Step.{refusalOf, unruledBy, refusing, planOf, guarded, fromThree, stepPlan, stepOf}
@@ -21,8 +21,8 @@ use Rattle.model.specs.Numbers.{Lost}
 use Rattle.model.specs.declared.State.{State}
 use Rattle.model.proofs.Bools.{on, on-both}
 use Rattle.model.proofs.Entry.{guarded-one, guarded-two, guarded-open, performOn, said, step-open}
-use Rattle.model.proofs.Meets.{Answers, worst-six, context-meets, perform-meets}
-use Rattle.model.proofs.Keeps.{Any}
+use Rattle.model.proofs.ArmAnswers.{Answers, worst-six, context-meets, perform-meets}
+use Rattle.model.proofs.ItemInvariant.{Any}
 
 -- a plan that only says something
 pub told : (w : Windows) (s : State) (d : Said) → performOn w s (tell d) ≡ record { reply = d .reply; state = d .state; memory = w }

@@ -15,7 +15,7 @@ use Rattle.model.specs.Memory.{Windows, Shapes, shapesOf, ruled, both, o
 use Rattle.model.specs.Plan.{Plan, answer, Outcome, perform, worst, look, looks, puts}
 use Rattle.model.specs.Registers.{rO, rG, rL, rA, rP, rR, sp, reg, Sized, Words, admissible, next, halted, withSpecial, stored, spilled}
 use Rattle.model.specs.Opcodes.{armOf}
-use Rattle.model.specs.Said.{tell}
+use Rattle.model.specs.NoMemory.{tell}
 use Rattle.model.specs.Contexts.{extent, savedSpecial, saved, contextAddress, savedUnspilled, savedState, saveContext, below, unsaved, contextRest, contextCount, contextAt, unsaveContext}
 use Rattle.model.specs.Step.{refusalOf, refusing, planOf, stepOf}
 use Rattle.model.specs.Demand.{Within}
@@ -25,7 +25,7 @@ use Rattle.model.proofs.Fill.{length-over}
 use Rattle.model.proofs.Memory.{has-octa, one-lawful}
 use Rattle.model.proofs.Plan.{Kept, puts-shape}
 use Rattle.model.proofs.Runs.{length-tab, octa-mod, worst-of, of-worst, getD-looks, stands, perform-read}
-use Rattle.model.proofs.Good.{Adm, adm, adm-of}
+use Rattle.model.proofs.AdmissibleKept.{Adm, adm, adm-of}
 use Rattle.model.proofs.Entry.{performOn, Inside, said, said-reply, answered, step-open, step-done, sound}
 
 -- ---- a context that is found

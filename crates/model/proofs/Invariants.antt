@@ -3,12 +3,12 @@ use mathlib.Core.Path.{_≡_}
 use mathlib.Core.Bool.{true}
 use Rattle.model.specs.Registers.{Sized, admissible, MarginalZero}
 use Rattle.model.specs.Memory.{both}
-use Rattle.model.specs.Keeps.{ItemsKeep}
+use Rattle.model.specs.Invariants.{ItemsKeep}
 use Rattle.model.specs.declared.State.{State}
-use Rattle.model.proofs.Keeps.{Keeps, item-keeps, item-always}
-use Rattle.model.proofs.Calm.{Calm, calm-keeps}
-use Rattle.model.proofs.Words.{item-words, item-bytes}
-use Rattle.model.proofs.Good.{Good, adm, adm-of, goes-good, halted-good, set-good, putLocals-good, putGlobals-good, withStatus-good, withSpecial-good, pushed-good, popped-good, saved-good, unsaved-good, tripped-good, trapped-good, added-good}
+use Rattle.model.proofs.ItemInvariant.{Keeps, item-keeps, item-always}
+use Rattle.model.proofs.MarginalKept.{Calm, calm-keeps}
+use Rattle.model.proofs.WordsKept.{item-words, item-bytes}
+use Rattle.model.proofs.AdmissibleKept.{Good, adm, adm-of, goes-good, halted-good, set-good, putLocals-good, putGlobals-good, withStatus-good, withSpecial-good, pushed-good, popped-good, saved-good, unsaved-good, tripped-good, trapped-good, added-good}
 
 pub good-keeps : Keeps Good
 good-keeps = record {
