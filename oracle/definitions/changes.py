@@ -2,7 +2,7 @@
 import re
 
 # The definitions; the table of opcodes late, for every point rests on it. The other files of specs/ state theorems.
-FILES = ["Control", "Frames", "Contexts", "System", "Trips", "Step", "Memory", "Plan", "Octa", "Fill", "Said", "Lists", "Reader",
+FILES = ["Control", "Frames", "Contexts", "System", "Trips", "Step", "Memory", "Plan", "Octa", "Fill", "NoMemory", "Lists", "Reader",
          "Numbers", "Registers", "Rules", "Opcodes"]
 
 # Where a name that a change brings in is imported from.
