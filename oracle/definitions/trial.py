@@ -13,7 +13,7 @@ KEPT = os.path.join(ROOT, "build", "constants")
 
 SIDES = ("points", "laws")
 # What all others rest on: points first.
-GROUND = ["Registers", "Memory", "Plan", "Octa", "Fill", "Said", "Lists"]
+GROUND = ["Registers", "Memory", "Plan", "Octa", "Fill", "NoMemory", "Lists"]
 # Points are computed some at a time, each few in a file of their own, so that only those that a change reaches are computed anew.
 FEW, CHUNKS = 5, 80
 
