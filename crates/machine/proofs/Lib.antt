@@ -3,3 +3,4 @@ pub mod Ranges
 pub mod Spans
 pub mod Octas
 pub mod Puts
+pub mod OctabyteRuns

@@ -1,3 +1,4 @@
 -- What the machine's contracts cite beside the model.
 pub mod Octas
+pub mod Octabytes
 pub mod Put

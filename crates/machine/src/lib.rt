@@ -1,7 +1,9 @@
-//! The machine below the register stack: numbers modulo 2^64, registers, and the octabytes of a lent window.
+//! The machine below the register stack: numbers modulo 2^64, registers, octabytes in a
+//! slice of bytes, and those of a lent window.
 //! `registers` and `memory` work in place; `value` has the same on a state that goes in and comes back.
 
 pub mod memory;
 pub mod number;
+pub mod octabytes;
 pub mod registers;
 pub mod value;

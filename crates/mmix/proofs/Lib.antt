@@ -1,5 +1,4 @@
 -- The laws of this crate's definitions.
-pub mod Octabytes
 pub mod Codec
 pub mod RoundTrips
 pub mod Entries

@@ -10,9 +10,10 @@ use Rattle.model.specs.Octa.{part, valueOf, bytesOf}
 use Rattle.model.specs.Registers.{Sized, Words}
 use Rattle.model.specs.declared.State.{State}
 use Rattle.model.proofs.Octa.{value-bytes}
-use Rattle.mmix.specs.Image.{imageLength, flat, octas, imageOf, stateOf, RoundTrips}
+use Rattle.machine.specs.Octabytes.{flat, octas}
+use Rattle.mmix.specs.Image.{imageLength, imageOf, stateOf, RoundTrips}
 use Rattle.model.proofs.Bytes.{value-below}
-use Rattle.mmix.proofs.Octabytes.{length-octas, octas-append}
+use Rattle.machine.proofs.OctabyteRuns.{length-octas, octas-append}
 use Rattle.mmix.proofs.Codec.{numbers, length-numbers, length-image}
 
 -- ---- the state of its image

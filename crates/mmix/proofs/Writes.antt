@@ -15,7 +15,8 @@ use Rattle.model.specs.Trips.{interrupted}
 use Rattle.model.specs.Leaves.{Interrupted}
 use Rattle.model.specs.declared.State.{State}
 use Rattle.model.proofs.Octa.{written-nil}
-use Rattle.mmix.specs.Image.{flat, imageOf}
+use Rattle.machine.specs.Octabytes.{flat}
+use Rattle.mmix.specs.Image.{imageOf}
 use Rattle.mmix.specs.Leaves.{replaced, atSpecial, atHalt, interruptOctas}
 use Rattle.mmix.proofs.Codec.{numbers}
 

@@ -3,22 +3,13 @@ use Prim.Native.Nat.{ℕ, zero, suc, _+_, _<_}
 use mathlib.Core.Path.{_≡_}
 use mathlib.Core.List.{List, [], _∷_, _++_}
 use lib.ListN.{length, getD}
-use Rattle.model.specs.Octa.{part, valueOf, bytesOf}
+use Rattle.model.specs.Octa.{part, valueOf}
 use Rattle.model.specs.Registers.{Sized, Words}
 use Rattle.model.specs.declared.State.{State}
+use Rattle.machine.specs.Octabytes.{flat, octas}
 
 abbrev pub imageLength : ℕ
 imageLength = 2328
-
--- the octabytes of a list of numbers, one after another
-unfoldable pub flat : List ℕ → List ℕ
-flat [] = []
-flat (v ∷ vs) = bytesOf v ++ flat vs
-
--- n octabytes of l from byte o on
-unfoldable pub octas : List ℕ → ℕ → ℕ → List ℕ
-octas l o zero = []
-octas l o (suc n) = valueOf 0 (part l o 8) ∷ octas l (o + 8) n
 
 -- the image of a state
 unfoldable pub imageOf : State → List ℕ

@@ -1,44 +1,51 @@
 -- `load_state` meets its contract: each part of the state is loaded from its place.
-use mathlib.Core.Path.{_≡_, ap, _∙_}
 use native.Mathlib.Omega.{arith}
 use lib.ListN.{length}
-use Rattle.mmix.specs.Image.{octas}
+use mathlib.Core.Path.{_≡_}
 use Rattle.mmix.proofs.Codec.{state-loaded}
 use borrow.Author.Needs.{needs}
 use Rattle.mmix.proofs.image.load_state.Statement.{statement}
 use Rattle.mmix.proofs.image.load_state.Tie as tie
 
-load-all-requires : tie.Need-load-all-requires
-load-all-requires c κs = search needs
+load-octas-requires : tie.Need-load-octas-requires
+load-octas-requires c κs = search needs
 
-load-all-requires-2 : tie.Need-load-all-requires-2
-load-all-requires-2 c κs = search needs
+load-octas-requires-2 : tie.Need-load-octas-requires-2
+load-octas-requires-2 c κs = search needs
 
-load-requires : tie.Need-load-requires
-load-requires c κs = search needs
+slice-aggregate-load-octas : tie.Need-slice-aggregate-load-octas
+slice-aggregate-load-octas c = search needs
 
-load-requires-2 : tie.Need-load-requires-2
-load-requires-2 c κs = search needs
+load-octas-requires-3 : tie.Need-load-octas-requires-3
+load-octas-requires-3 c κs = search needs
 
-load-requires-3 : tie.Need-load-requires-3
-load-requires-3 c κs = search needs
+array-read-t14 : tie.Need-array-read-t14
+array-read-t14 c = search needs
+
+array-read-t17 : tie.Need-array-read-t17
+array-read-t17 c = search needs
+
+array-read-t20 : tie.Need-array-read-t20
+array-read-t20 c = search needs
 
 returns : tie.Need-returns
 returns c =
-    let second = c .before .before .before in
-    let start = c .before .before .before .before .before .before .before .before in
-    let image = start .args .image .now in
-    let n : length (start .args .general .now) ≡ 256 = omega arith in
-    let m : length (start .args .special .now) ≡ 32 = omega arith in
-    state-loaded image _ _ _ _ _ (second .before .before .load-all .ensures ∙ ap (octas image 0) n) (second .load-all2 .ensures ∙ ap (octas image 2048) m) (c .before .before .load .ensures) (c .before .load2 .ensures) (c .load3 .ensures)
+    let third = c .before in
+    let second = third .before .before in
+    let first = second .before .before in
+    let start = first .before .before .before in
+    state-loaded (start .args .image .now) (start .args .general .now) _ (start .args .special .now) _ _ _
+    (omega arith) (omega arith) (omega arith) (omega arith) (first .load-octas .ensures) (second .load-octas2 .ensures) (third .load-octas3 .ensures)
 
 pub load-state-spec : {M : Type 1} → statement M
 load-state-spec =
     tie.close
     (tie.spec
-    load-all-requires
-    load-all-requires-2
-    load-requires
-    load-requires-2
-    load-requires-3
+    load-octas-requires
+    load-octas-requires-2
+    slice-aggregate-load-octas
+    load-octas-requires-3
+    array-read-t14
+    array-read-t17
+    array-read-t20
     returns)

@@ -5,17 +5,17 @@ use borrow.Author.Needs.{needs}
 use Rattle.mmix.proofs.image.store_state.Statement.{statement}
 use Rattle.mmix.proofs.image.store_state.Tie as tie
 
-store-all-requires : tie.Need-store-all-requires
-store-all-requires c κs = search needs
+store-octas-requires : tie.Need-store-octas-requires
+store-octas-requires c κs = search needs
 
-store-all-requires-2 : tie.Need-store-all-requires-2
-store-all-requires-2 c κs = search needs
+store-octas-requires-2 : tie.Need-store-octas-requires-2
+store-octas-requires-2 c κs = search needs
 
-slice-aggregate-store-all : tie.Need-slice-aggregate-store-all
-slice-aggregate-store-all c = search needs
+slice-aggregate-store-octas : tie.Need-slice-aggregate-store-octas
+slice-aggregate-store-octas c = search needs
 
-store-all-requires-3 : tie.Need-store-all-requires-3
-store-all-requires-3 c κs = search needs
+store-octas-requires-3 : tie.Need-store-octas-requires-3
+store-octas-requires-3 c κs = search needs
 
 same-length : tie.Need-same-length
 same-length c = search needs
@@ -26,15 +26,16 @@ returns c =
     let second = third .before .before .before .before .before in
     let first = second .before .before .before .before .before in
     let start = first .before .before .before .before in
-    image-stored (start .args .image .now) _ _ _ _ (omega arith) (record { generals = omega arith; specials = omega arith }) (first .store-all .ensures) (second .store-all2 .ensures) (third .store-all3 .ensures)
+    image-stored (start .args .image .now) _ _ _ _ (omega arith) (record { generals = omega arith; specials = omega arith })
+    (first .store-octas .ensures) (second .store-octas2 .ensures) (third .store-octas3 .ensures)
 
 pub store-state-spec : {M : Type 1} → statement M
 store-state-spec =
     tie.close
     (tie.spec
-    store-all-requires
-    store-all-requires-2
-    slice-aggregate-store-all
-    store-all-requires-3
+    store-octas-requires
+    store-octas-requires-2
+    slice-aggregate-store-octas
+    store-octas-requires-3
     same-length
     returns)

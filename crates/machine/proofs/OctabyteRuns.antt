@@ -1,4 +1,4 @@
--- Laws of lists of octabytes: as a loop reads them and as a loop writes them.
+-- Laws of runs of octabytes in a list of bytes: as a loop reads them; as a loop writes them; where they fit. Those of a window are in Octas.
 use mathlib.Core.Path.{_≡_, refl, sym, ap, _∙_}
 use mathlib.Core.List.{List, [], _∷_, _++_, append-assoc, append-nil}
 use Prim.Native.Nat.{ℕ, zero, suc, _+_, _*_, _≤_, _<_}
@@ -6,8 +6,9 @@ use native.Mathlib.Numerals.{add-one}
 use native.Mathlib.Omega.{arith}
 use lib.ListN.{length, getD, take, set, length-append}
 use lib.Seq.{take-suc, take-suc-set, take-all, length-take-le}
+use borrow.Author.Tests.{le-leb}
 use Rattle.model.specs.Octa.{part, written, valueOf, bytesOf}
-use Rattle.mmix.specs.Image.{flat, octas}
+use Rattle.machine.specs.Octabytes.{flat, octas, loadedOctas, storedOctas}
 use Rattle.model.proofs.Octa.{written-nil}
 use Rattle.model.proofs.Bytes.{eight, written-append}
 
@@ -81,3 +82,13 @@ flat-turn l k vs o i h e =
 
 pub flat-all : (l k vs : List ℕ) (o i : ℕ) → l ≡ written k o (flat (take i vs)) → length vs ≤ i → l ≡ written k o (flat vs)
 flat-all l k vs o i e h = e ∙ ap (λ (us : List ℕ). written k o (flat us)) (take-all i vs h)
+
+-- ---- where they fit
+
+pub loaded-fits : (l : List ℕ) (o : ℕ) (vs : List ℕ) → o + 8 * length vs ≤ length l → loadedOctas l o vs ≡ octas l o (length vs)
+unfolding loadedOctas
+loaded-fits l o vs h = rw (le-leb (o + 8 * length vs) (length l) h)
+
+pub stored-fits : (l : List ℕ) (o : ℕ) (vs : List ℕ) → o + 8 * length vs ≤ length l → storedOctas l o vs ≡ written l o (flat vs)
+unfolding storedOctas
+stored-fits l o vs h = rw (le-leb (o + 8 * length vs) (length l) h)

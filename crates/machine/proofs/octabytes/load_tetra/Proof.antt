@@ -5,14 +5,14 @@ use native.Mathlib.Omega.{arith}
 use borrow.Author.Needs.{needs}
 use Rattle.model.specs.Octa.{part, valueOf}
 use Rattle.model.proofs.Bytes.{value-none, value-more, grow, small}
-use Rattle.mmix.proofs.image.load_tetra.Statement.{statement}
-use Rattle.mmix.proofs.image.load_tetra.Tie as tie
+use Rattle.machine.proofs.octabytes.load_tetra.Statement.{statement}
+use Rattle.machine.proofs.octabytes.load_tetra.Tie as tie
 
 abbrev Inv-loop : tie.InvT-loop
-Inv-loop image at v₀ k₀ v k = (k ≤ 4) × (v ≡ valueOf 0 (part image at k)) × (v < 2 ^ (8 * k))
+Inv-loop bytes at v₀ k₀ v k = (k ≤ 4) × (v ≡ valueOf 0 (part bytes at k)) × (v < 2 ^ (8 * k))
 
 abbrev μ-loop : tie.MeasureT-loop
-μ-loop image at v₀ k₀ v k = 4 - k
+μ-loop bytes at v₀ k₀ v k = 4 - k
 
 loop-holds : tie.Need-loop-holds Inv-loop μ-loop
 loop-holds c = (omega arith, sym (value-none _ _), omega arith)
@@ -49,14 +49,14 @@ loop-again c =
     let at-loop = c .before .before .before in
     let a = at-loop .before .before .args in
     let b = at-loop .before .shared-slice-known .given (a .at + at-loop .loop .k) in
-    (omega arith, omega (arith, value-more (a .image .now) (a .at) (at-loop .loop .k)), grow _ _ _ (at-loop .loop .inv .2) (omega arith))
+    (omega arith, omega (arith, value-more (a .bytes .now) (a .at) (at-loop .loop .k)), grow _ _ _ (at-loop .loop .inv .2) (omega arith))
 
 returns : tie.Need-returns Inv-loop μ-loop
 returns c =
     let e : c .before .loop .k ≡ 4 = omega arith in
     let a = c .before .before .before .args in
     let inv = c .before .loop .inv in
-    (inv .1 ∙ ap (λ (n : ℕ). valueOf 0 (part (a .image .now) (a .at) n)) e, rw e at (inv .2))
+    (inv .1 ∙ ap (λ (n : ℕ). valueOf 0 (part (a .bytes .now) (a .at) n)) e, rw e at (inv .2))
 
 pub load-tetra-spec : {M : Type 1} → statement M
 load-tetra-spec =

@@ -1,18 +1,18 @@
--- `load_all` meets its contract. The loop's invariant: the first i values are the image's octabytes from `at` up.
+-- `load_all` meets its contract. The loop's invariant: the first i values are the bytes' octabytes from `at` up.
 use mathlib.Core.Path.{_≡_, refl}
 use Prim.Native.Nat.{_-_, _≤_}
 use native.Mathlib.Omega.{arith}
 use lib.ListN.{length, take, length-set}
-use Rattle.mmix.specs.Image.{octas}
-use Rattle.mmix.proofs.Octabytes.{octas-none, octas-turn, octas-all}
-use Rattle.mmix.proofs.image.load_all.Statement.{statement}
-use Rattle.mmix.proofs.image.load_all.Tie as tie
+use Rattle.machine.specs.Octabytes.{octas}
+use Rattle.machine.proofs.OctabyteRuns.{octas-none, octas-turn, octas-all}
+use Rattle.machine.proofs.octabytes.load_all.Statement.{statement}
+use Rattle.machine.proofs.octabytes.load_all.Tie as tie
 
 abbrev Inv-loop : tie.InvT-loop
-Inv-loop image at values₀ i₀ values i = (i ≤ length values) × (length values ≡ length values₀) × (take i values ≡ octas image at i)
+Inv-loop bytes at values₀ i₀ values i = (i ≤ length values) × (length values ≡ length values₀) × (take i values ≡ octas bytes at i)
 
 abbrev μ-loop : tie.MeasureT-loop
-μ-loop image at values₀ i₀ values i = length values₀ - i
+μ-loop bytes at values₀ i₀ values i = length values₀ - i
 
 loop-holds : tie.Need-loop-holds Inv-loop μ-loop
 loop-holds c = (omega arith, refl, octas-none _ _)

@@ -2,8 +2,8 @@
 use native.Mathlib.Omega.{arith}
 use borrow.Author.Needs.{needs}
 use Rattle.model.proofs.Bytes.{value-halves}
-use Rattle.mmix.proofs.image.load.Statement.{statement}
-use Rattle.mmix.proofs.image.load.Tie as tie
+use Rattle.machine.proofs.octabytes.load.Statement.{statement}
+use Rattle.machine.proofs.octabytes.load.Tie as tie
 
 load-tetra-requires : tie.Need-load-tetra-requires
 load-tetra-requires c κs = search needs
@@ -23,7 +23,7 @@ add-result c = search needs
 returns : tie.Need-returns
 returns c =
     let a = c .before .before .before .args in
-    omega (arith, value-halves (a .image .now) (a .at))
+    omega (arith, value-halves (a .bytes .now) (a .at))
 
 pub load-spec : {M : Type 1} → statement M
 load-spec =

@@ -1,20 +1,20 @@
--- `store_all` meets its contract. The loop's invariant: the first i values stand in the image from `at` up, and nothing else has changed.
+-- `store_all` meets its contract. The loop's invariant: the first i values stand in the bytes from `at` up, and nothing else has changed.
 use mathlib.Core.Path.{_≡_, refl, _∙_}
 use Prim.Native.Nat.{_-_, _≤_}
 use native.Mathlib.Omega.{arith}
 use borrow.Author.Needs.{needs}
 use lib.ListN.{length, take}
 use Rattle.model.specs.Octa.{written}
-use Rattle.mmix.specs.Image.{flat}
-use Rattle.mmix.proofs.Octabytes.{flat-none, flat-turn, flat-all}
-use Rattle.mmix.proofs.image.store_all.Statement.{statement}
-use Rattle.mmix.proofs.image.store_all.Tie as tie
+use Rattle.machine.specs.Octabytes.{flat}
+use Rattle.machine.proofs.OctabyteRuns.{flat-none, flat-turn, flat-all}
+use Rattle.machine.proofs.octabytes.store_all.Statement.{statement}
+use Rattle.machine.proofs.octabytes.store_all.Tie as tie
 
 abbrev Inv-loop : tie.InvT-loop
-Inv-loop image₀ at values i₀ image i = (i ≤ length values) × (length image ≡ length image₀) × (image ≡ written image₀ at (flat (take i values)))
+Inv-loop bytes₀ at values i₀ bytes i = (i ≤ length values) × (length bytes ≡ length bytes₀) × (bytes ≡ written bytes₀ at (flat (take i values)))
 
 abbrev μ-loop : tie.MeasureT-loop
-μ-loop image₀ at values i₀ image i = length values - i
+μ-loop bytes₀ at values i₀ bytes i = length values - i
 
 loop-holds : tie.Need-loop-holds Inv-loop μ-loop
 loop-holds c = (omega arith, refl, flat-none _ _)

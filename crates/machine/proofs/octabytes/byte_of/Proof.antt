@@ -1,8 +1,8 @@
 -- `byte_of` meets its contract: byte j is what a shift by 56 − 8j leaves.
 use borrow.Author.Needs.{needs}
 use Rattle.model.proofs.Bytes.{byte-at}
-use Rattle.mmix.proofs.image.byte_of.Statement.{statement}
-use Rattle.mmix.proofs.image.byte_of.Tie as tie
+use Rattle.machine.proofs.octabytes.byte_of.Statement.{statement}
+use Rattle.machine.proofs.octabytes.byte_of.Tie as tie
 
 mul-k : tie.Need-mul-k
 mul-k c = search needs
