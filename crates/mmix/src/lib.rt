@@ -224,7 +224,7 @@ pub extern "C" fn mmix_exceptions_parts(
         (made (now (general .entry)) (now (special .entry)) (now (pc .entry)) (now (halt .entry)) marks) flags op x y z «y_val» «z_val» r
         (made (now (general .exit)) (now (special .exit)) (now (pc .exit)) (now (halt .exit)) marks) ⌝ }
 {
-    let reply = instruction::exceptions::raise_exceptions(
+    let raised = instruction::exceptions::raise_exceptions(
         general,
         special,
         pc,
@@ -238,7 +238,7 @@ pub extern "C" fn mmix_exceptions_parts(
         y_val,
         z_val,
     );
-    instruction::value::number_of(reply)
+    instruction::value::number_of(raised)
 }
 
 /// Where the context saved at `address` lies in the window: its first byte's index and its length, both 0 where it is refused.

@@ -1,4 +1,9 @@
--- Demand 3, whole: over `stepOf` and `exceptionOf` with every arm in them.
+-- Demand 3, whole: over `stepOf` and `exceptionOf` with every arm in them. The idea:
+-- 1. a call from two states that are alike leaves one state and two memories that agree outside the frame's locals (`push-same`);
+-- 2. a list that touches none of them then does the same in both runs, and keeps the whole frame (`runs-agree`, `runs-kept` of Lists): so far
+--    no arm was looked at;
+-- 3. a POP at the call's rO finds the frame as it was pushed (`pop-is`, `pop-reg` of PushPop): `back-core`;
+-- 4. `pair-core` puts the two runs together, `demand3` is that of the four calls.
 use mathlib.Core.Path.{_≡_, refl, sym, ap, _∙_, subst}
 use mathlib.Core.Bool.{Bool, true, false, cond}
 use mathlib.Core.List.{List}
