@@ -7,6 +7,7 @@ use mathlib.Core.Path.{_≡_}
 use mathlib.Core.List.{List, [], _∷_, _++_}
 use lib.ListN.{length, getD}
 use Rattle.model.specs.Memory.{Windows, both}
+use Rattle.model.specs.Opcodes.{opPOP}
 use Rattle.model.specs.Plan.{All, Off}
 use Rattle.model.specs.Lists.{Ran, runs, runNeeds}
 use Rattle.model.specs.Registers.{rO, sp, reg, Sized, Words}
@@ -168,7 +169,7 @@ ListsOfCalls = (g : Held) (w : Windows) (cs : List Made) → HeldFits g → Byte
 -- "a POP as the next step, whatever its X and YZ, succeeds, and those locals hold exactly what they held before the call": POP by any function
 -- as the next call on g and v is done, and $0 to $(h − 1) are those of s
 abbrev pub Returns : ℕ → State → Held → Windows → Type 0
-Returns h s g v = (e : Entry) (x y z r : ℕ) (k : Held) (u : Windows) → asked e ≡ step 0xF8 x y z ∷ [] → InstructionFits 0xF8 x y z → Meets g v e r k u
+Returns h s g v = (e : Entry) (x y z r : ℕ) (k : Held) (u : Windows) → asked e ≡ step opPOP x y z ∷ [] → InstructionFits opPOP x y z → Meets g v e r k u
     → (r ≡ 0) × ((i : ℕ) → i < h → reg (heldState k) i ≡ reg s i)
 
 -- what holds of two lists of calls after a call, a and b: on g and on k; "the same answers in the same order, the same registers, PC, halt

@@ -10,11 +10,27 @@ use Rattle.model.specs.NoMemory.{refuse, tell}
 use Rattle.model.specs.Registers.{withParts, rR, rO, rG, rL, rA, rP, rZ, sp, reg, next, halted, stored, spilled}
 use Rattle.model.specs.declared.State.{State}
 
+-- ---- the layout, for l locals and threshold g: l locals, l itself, 256 − g globals, 12 specials, and the packed octabyte
+
+-- which octabyte, from 0, is the first special's; which one is the packed one; how many there are
+abbrev pub specialsAt : ℕ → ℕ → ℕ
+specialsAt l g = l + 257 - g
+
+abbrev pub packedAt : ℕ → ℕ → ℕ
+packedAt l g = l + 269 - g
+
+abbrev pub octasOf : ℕ → ℕ → ℕ
+octasOf l g = l + 270 - g
+
+-- how far below the packed octabyte the local count is
+abbrev pub countBelow : ℕ → ℕ
+countBelow g = 269 - g
+
 -- ---- SAVE
 
 -- "That is rL + 270 − rG octabytes"
 abbrev pub extent : State → ℕ
-extent s = sp s rL + 270 - sp s rG
+extent s = octasOf (sp s rL) (sp s rG)
 
 -- the special that is number k of the twelve (`SAVE_SPECIALS`): rB, rD, rE, rH, rJ, rM, rR, then rP, rW, rX, rY, rZ
 unfoldable pub savedSpecial : ℕ → ℕ
@@ -25,13 +41,13 @@ unfoldable pub saved : State → ℕ → ℕ
 saved s i =
     cond (ltb i (sp s rL)) (reg s i)
     (cond (eqb i (sp s rL)) (sp s rL)
-    (cond (ltb i (sp s rL + 257 - sp s rG)) (reg s (sp s rG + (i - sp s rL - 1)))
-    (cond (ltb i (sp s rL + 269 - sp s rG)) (sp s (savedSpecial (i - (sp s rL + 257 - sp s rG))))
+    (cond (ltb i (specialsAt (sp s rL) (sp s rG))) (reg s (sp s rG + (i - sp s rL - 1)))
+    (cond (ltb i (packedAt (sp s rL) (sp s rG))) (sp s (savedSpecial (i - (specialsAt (sp s rL) (sp s rG)))))
     (sp s rG * 2 ^ 56 + sp s rA))))
 
 -- "the last one's address with rO's low bits kept"
 abbrev pub contextAddress : State → ℕ
-contextAddress s = (sp s rO + 8 * (sp s rL + 269 - sp s rG)) % 2 ^ 64
+contextAddress s = (sp s rO + 8 * (packedAt (sp s rL) (sp s rG))) % 2 ^ 64
 
 -- "$X gets the last one's address .., registers below rG become 0, rL 0, rO .. follow it", rS apart
 unfoldable pub savedUnspilled : State → ℕ → State
@@ -61,8 +77,8 @@ unsavedGeneral g l vs i = cond (ltb i l) (getD vs i 0) (cond (ltb i g) 0 (getD v
 unfoldable pub unsavedSpecial : State → ℕ → ℕ → ℕ → ℕ → List ℕ → ℕ → ℕ
 unsavedSpecial s o g a l vs k =
     cond (eqb k rG) g (cond (eqb k rL) l (cond (eqb k rA) a (cond (eqb k rO) o
-    (cond (leb k rR) (getD vs (l + 257 - g + k) 0)
-    (cond (leb rP k && leb k rZ) (getD vs (l + 257 - g + (k - 16)) 0) (sp s k))))))
+    (cond (leb k rR) (getD vs (specialsAt l g + k) 0)
+    (cond (leb rP k && leb k rZ) (getD vs (specialsAt l g + (k - 16)) 0) (sp s k))))))
 
 -- o, the address of the first local, is the restored rO; rS apart
 unfoldable pub unsavedUnspilled : State → ℕ → ℕ → ℕ → ℕ → List ℕ → State
@@ -81,14 +97,14 @@ unsaved s o g a l vs = spilled (unsavedUnspilled s o g a l vs)
 unfoldable pub contextRest : {S : Type 0} → S → (ℕ → ℕ → ℕ → ℕ → List ℕ → S) → ℕ → ℕ → ℕ → ℕ → Plan S
 contextRest bad found p g a l =
     cond (leb l g)
-    (read 6 (below p (l + 269 - g)) (l + 270 - g) (λ vs. answer 0 (found (below p (l + 269 - g) % 2 ^ 64) g a l vs) 0 []))
+    (read 6 (below p (packedAt l g)) (octasOf l g) (λ vs. answer 0 (found (below p (packedAt l g) % 2 ^ 64) g a l vs) 0 []))
     (answer 16 bad 0 [])
 
 -- 14, 15: "saved rG outside 32 to 255; saved rA too large"; ".. if that passes, the local count"
 unfoldable pub contextCount : {S : Type 0} → S → (ℕ → ℕ → ℕ → ℕ → List ℕ → S) → ℕ → ℕ → ℕ → Plan S
 contextCount bad found p g a =
     cond (leb 32 g && leb g 255)
-    (cond (leb a 0x3FFFF) (read 6 (below p (269 - g)) 1 (λ v. contextRest bad found p g a (getD v 0 0))) (answer 15 bad 0 []))
+    (cond (leb a 0x3FFFF) (read 6 (below p (countBelow g)) 1 (λ v. contextRest bad found p g a (getD v 0 0))) (answer 15 bad 0 []))
     (answer 14 bad 0 [])
 
 -- "UNSAVE needs the packed one": rG is its top byte, rA all below

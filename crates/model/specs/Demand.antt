@@ -6,6 +6,7 @@ use mathlib.Core.List.{List}
 use lib.ListN.{length, getD}
 use Rattle.model.specs.Octa.{octa}
 use Rattle.model.specs.Memory.{Windows, both}
+use Rattle.model.specs.Opcodes.{opPUSHJ, opPUSHJB, opPUSHGO, opPUSHGOI, opPOP}
 use Rattle.model.specs.Plan.{Outcome, All, Off}
 use Rattle.model.specs.Lists.{Ran, runs, runNeeds, runWiderNeeds}
 use Rattle.model.specs.Registers.{rO, rG, stackStart, sp, reg, Sized, Words}
@@ -27,10 +28,10 @@ pub data Call : Type 0 where
   PUSHGOI : Call
 
 abbrev pub opcodeOf : Call → ℕ
-opcodeOf PUSHJ = 0xF2
-opcodeOf PUSHJB = 0xF3
-opcodeOf PUSHGO = 0xBE
-opcodeOf PUSHGOI = 0xBF
+opcodeOf PUSHJ = opPUSHJ
+opcodeOf PUSHJB = opPUSHJB
+opcodeOf PUSHGO = opPUSHGO
+opcodeOf PUSHGOI = opPUSHGOI
 
 -- "states equal outside $0 to $(H−1)"
 pub record Alike (h : ℕ) (s t : State) : Type 0 where
@@ -71,7 +72,7 @@ abbrev pub afterWiderNeeds : Outcome State Windows → List Item → List ℕ
 afterWiderNeeds o is = runWiderNeeds both mmix (o .state) (o .memory) is
 
 abbrev pub popAfter : Ran State Windows → ℕ → ℕ → ℕ → Outcome State Windows
-popAfter r x y z = stepOf (r .memory) (r .state) 0xF8 x y z
+popAfter r x y z = stepOf (r .memory) (r .state) opPOP x y z
 
 -- what holds of the two runs, a and b their outcomes of the call: "the same answers in the same order, the same registers, PC, halt
 -- code and marks, and the same memory outside those locals"; and the POP in each

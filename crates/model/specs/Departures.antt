@@ -15,7 +15,7 @@ use Rattle.model.specs.Opcodes.{Operand, register, immediate, Arm, branc
 use Rattle.model.specs.NoMemory.{say}
 use Rattle.model.specs.Control.{xyzOf, operandOf}
 use Rattle.model.specs.Frames.{hole, framed, framedRule, noFrame, misplaced, popRule, popFrame}
-use Rattle.model.specs.Contexts.{below, unsaveContext}
+use Rattle.model.specs.Contexts.{below, unsaveContext, countBelow}
 use Rattle.model.specs.System.{putRefusal, got, gotRule}
 use Rattle.model.specs.Trips.{isLoaded, tripRule, tripTo, trapRule, trapOf, enabled, leftmost, added, exactUnderflow, addedRule}
 use Rattle.model.specs.Step.{refusing, stepOf, exceptionOf}
@@ -56,7 +56,7 @@ abbrev savedThreshold : Windows → ℕ → ℕ
 savedThreshold w p = look both w p / 2 ^ 56
 
 unfoldable pub countTaken : Windows → ℕ → ℕ → Bool
-countTaken w p g = cond (inside (shapesOf w) (below p (269 - g))) (leb (look both w (below p (269 - g))) g) true
+countTaken w p g = cond (inside (shapesOf w) (below p (countBelow g))) (leb (look both w (below p (countBelow g))) g) true
 
 unfoldable pub contextTaken : Windows → ℕ → Bool
 contextTaken w p =

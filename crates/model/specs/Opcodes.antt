@@ -43,6 +43,75 @@ pub data Arm : Type 0 where
   trap : Arm
   none : Arm
 
+-- ---- opcode bytes (mmixal.rs), each once
+
+abbrev pub opTRAP : ℕ
+opTRAP = 0x00
+
+abbrev pub opGO : ℕ
+opGO = 0x9E
+
+abbrev pub opGOI : ℕ
+opGOI = 0x9F
+
+abbrev pub opPUSHGO : ℕ
+opPUSHGO = 0xBE
+
+abbrev pub opPUSHGOI : ℕ
+opPUSHGOI = 0xBF
+
+abbrev pub opJMP : ℕ
+opJMP = 0xF0
+
+abbrev pub opJMPB : ℕ
+opJMPB = 0xF1
+
+abbrev pub opPUSHJ : ℕ
+opPUSHJ = 0xF2
+
+abbrev pub opPUSHJB : ℕ
+opPUSHJB = 0xF3
+
+abbrev pub opGETA : ℕ
+opGETA = 0xF4
+
+abbrev pub opGETAB : ℕ
+opGETAB = 0xF5
+
+abbrev pub opPUT : ℕ
+opPUT = 0xF6
+
+abbrev pub opPUTI : ℕ
+opPUTI = 0xF7
+
+abbrev pub opPOP : ℕ
+opPOP = 0xF8
+
+abbrev pub opSAVE : ℕ
+opSAVE = 0xFA
+
+abbrev pub opUNSAVE : ℕ
+opUNSAVE = 0xFB
+
+abbrev pub opSYNC : ℕ
+opSYNC = 0xFC
+
+abbrev pub opSWYM : ℕ
+opSWYM = 0xFD
+
+abbrev pub opGET : ℕ
+opGET = 0xFE
+
+abbrev pub opTRIP : ℕ
+opTRIP = 0xFF
+
+-- the branches, plain and probable, each forward and then backward: from BN to PBEVB
+abbrev pub firstBranch : ℕ
+firstBranch = 0x40
+
+abbrev pub lastBranch : ℕ
+lastBranch = 0x5F
+
 -- BN, BZ, BP, BOD, BNN, BNZ, BNP, BEV
 abbrev conditions : List Condition
 conditions = negative ∷ isZero ∷ positive ∷ odd ∷ nonNegative ∷ nonZero ∷ nonPositive ∷ even ∷ []
@@ -58,18 +127,18 @@ pub record Entry : Type 0 where
 abbrev is : ℕ → Arm → Entry
 is o a = record { opcode = o; arm = a }
 
--- the opcode bytes (mmixal.rs) of the other arms; RESUME (0xF9) has none here
+-- the other arms; RESUME (0xF9) has none here
 abbrev arms : List Entry
-arms = is 0x00 trap
-    ∷ is 0x9E (go register) ∷ is 0x9F (go immediate)
-    ∷ is 0xBE (pushGo register) ∷ is 0xBF (pushGo immediate)
-    ∷ is 0xF0 (jump forward) ∷ is 0xF1 (jump backward)
-    ∷ is 0xF2 (pushJump forward) ∷ is 0xF3 (pushJump backward)
-    ∷ is 0xF4 (getAddress forward) ∷ is 0xF5 (getAddress backward)
-    ∷ is 0xF6 (put register) ∷ is 0xF7 (put immediate)
-    ∷ is 0xF8 pop
-    ∷ is 0xFA save ∷ is 0xFB unsave
-    ∷ is 0xFC sync ∷ is 0xFD swym ∷ is 0xFE get ∷ is 0xFF trip ∷ []
+arms = is opTRAP trap
+    ∷ is opGO (go register) ∷ is opGOI (go immediate)
+    ∷ is opPUSHGO (pushGo register) ∷ is opPUSHGOI (pushGo immediate)
+    ∷ is opJMP (jump forward) ∷ is opJMPB (jump backward)
+    ∷ is opPUSHJ (pushJump forward) ∷ is opPUSHJB (pushJump backward)
+    ∷ is opGETA (getAddress forward) ∷ is opGETAB (getAddress backward)
+    ∷ is opPUT (put register) ∷ is opPUTI (put immediate)
+    ∷ is opPOP pop
+    ∷ is opSAVE save ∷ is opUNSAVE unsave
+    ∷ is opSYNC sync ∷ is opSWYM swym ∷ is opGET get ∷ is opTRIP trip ∷ []
 
 abbrev find : ℕ → List Entry → Arm
 find op [] = none
@@ -81,4 +150,4 @@ conditionOf op = getD conditions (op / 2 % 8) even
 
 -- 0x40 to 0x4F are the branches, each forward and then backward; "P-branches act as their plain kin": 0x50 to 0x5F in the same order
 unfoldable pub armOf : ℕ → Arm
-armOf op = cond (leb 0x40 op && leb op 0x5F) (branch (conditionOf op) (wayOf op)) (find op arms)
+armOf op = cond (leb firstBranch op && leb op lastBranch) (branch (conditionOf op) (wayOf op)) (find op arms)

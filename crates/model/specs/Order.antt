@@ -9,11 +9,11 @@ use lib.Count.{leadingZeros}
 use Rattle.model.specs.Registers.{rJ, rO, rG, sp, reg, admissible, goes, halted}
 use Rattle.model.specs.Memory.{Windows, shapesOf, ruled, inside, both}
 use Rattle.model.specs.Plan.{Outcome, clear, look}
-use Rattle.model.specs.Opcodes.{armOf}
+use Rattle.model.specs.Opcodes.{armOf, opSAVE, opPOP, opUNSAVE}
 use Rattle.model.specs.NoMemory.{say}
 use Rattle.model.specs.Control.{yzOf}
 use Rattle.model.specs.Frames.{noFrame, misplaced}
-use Rattle.model.specs.Contexts.{extent, below}
+use Rattle.model.specs.Contexts.{extent, below, packedAt, octasOf, countBelow}
 use Rattle.model.specs.Trips.{enabled, isLoaded}
 use Rattle.model.specs.Step.{refusalOf, refusing, stepOf, exceptionOf}
 use Rattle.model.specs.declared.State.{State}
@@ -42,8 +42,8 @@ pub record Counted (w : Windows) (p g a l : ℕ) : Type 0 where
   pub least : 32 ≤ g
   pub most : g ≤ 255
   pub status-fits : a ≤ 0x3FFFF
-  pub count-there : inside (shapesOf w) (below p (269 - g)) ≡ true
-  pub count : look both w (below p (269 - g)) ≡ l
+  pub count-there : inside (shapesOf w) (below p (countBelow g)) ≡ true
+  pub count : look both w (below p (countBelow g)) ≡ l
 
 pub record StepsInOrder : Type 0 where
   -- 1, whatever the window and the instruction are; then 2, whatever the instruction is; then 3 to 5
@@ -52,26 +52,26 @@ pub record StepsInOrder : Type 0 where
   pub three-to-five : (w : Windows) (s : State) (op x y z : ℕ) → Passes w s → refusalOf (armOf op) x y z ≢ 0
       → stepOf w s op x y z ≡ refusedBy (refusalOf (armOf op) x y z) w s
   -- SAVE: 13, whatever lies in the window; then 6
-  pub save-thirteen : (w : Windows) (s : State) (x y z : ℕ) → Passes w s → x < sp s rG → stepOf w s 0xFA x y z ≡ haltedBy 13 w s
+  pub save-thirteen : (w : Windows) (s : State) (x y z : ℕ) → Passes w s → x < sp s rG → stepOf w s opSAVE x y z ≡ haltedBy 13 w s
   pub save-six : (w : Windows) (s : State) (x y z : ℕ) → Passes w s → sp s rG ≤ x → clear (refusing (shapesOf w)) (sp s rO) (extent s) ≡ false
-      → stepOf w s 0xFA x y z ≡ refusedBy 6 w s
+      → stepOf w s opSAVE x y z ≡ refusedBy 6 w s
   -- POP: no frame, though rO be misplaced and the window empty; then 12, whatever lies in the window; then 6
   pub pop-no-frame : (w : Windows) (s : State) (x y z : ℕ) → Passes w s → noFrame s ≡ true
-      → stepOf w s 0xF8 x y z ≡ refusedBy 0 w (goes s ((sp s rJ + 4 * yzOf y z) % 2 ^ 64))
-  pub pop-twelve : (w : Windows) (s : State) (x y z : ℕ) → Passes w s → noFrame s ≡ false → misplaced s ≡ true → stepOf w s 0xF8 x y z ≡ haltedBy 12 w s
+      → stepOf w s opPOP x y z ≡ refusedBy 0 w (goes s ((sp s rJ + 4 * yzOf y z) % 2 ^ 64))
+  pub pop-twelve : (w : Windows) (s : State) (x y z : ℕ) → Passes w s → noFrame s ≡ false → misplaced s ≡ true → stepOf w s opPOP x y z ≡ haltedBy 12 w s
   pub pop-six : (w : Windows) (s : State) (x y z : ℕ) → Passes w s → noFrame s ≡ false → misplaced s ≡ false → inside (shapesOf w) (sp s rO - 8) ≡ false
-      → stepOf w s 0xF8 x y z ≡ refusedBy 6 w s
+      → stepOf w s opPOP x y z ≡ refusedBy 6 w s
   -- UNSAVE: 6 for the packed octabyte; 14, whatever rA and the count are; 15, whatever the count is, though it be missing; 6 for the count; 16,
   -- though the rest be missing; 6 for the rest
-  pub unsave-packed : (w : Windows) (s : State) (x y z : ℕ) → Passes w s → inside (shapesOf w) (reg s z) ≡ false → stepOf w s 0xFB x y z ≡ refusedBy 6 w s
-  pub unsave-fourteen : (w : Windows) (s : State) (x y z g a : ℕ) → Passes w s → Packed w (reg s z) g a → g < 32 → stepOf w s 0xFB x y z ≡ haltedBy 14 w s
+  pub unsave-packed : (w : Windows) (s : State) (x y z : ℕ) → Passes w s → inside (shapesOf w) (reg s z) ≡ false → stepOf w s opUNSAVE x y z ≡ refusedBy 6 w s
+  pub unsave-fourteen : (w : Windows) (s : State) (x y z g a : ℕ) → Passes w s → Packed w (reg s z) g a → g < 32 → stepOf w s opUNSAVE x y z ≡ haltedBy 14 w s
   pub unsave-fifteen : (w : Windows) (s : State) (x y z g a : ℕ) → Passes w s → Packed w (reg s z) g a → 32 ≤ g → g ≤ 255 → 0x3FFFF < a
-      → stepOf w s 0xFB x y z ≡ haltedBy 15 w s
+      → stepOf w s opUNSAVE x y z ≡ haltedBy 15 w s
   pub unsave-count : (w : Windows) (s : State) (x y z g a : ℕ) → Passes w s → Packed w (reg s z) g a → 32 ≤ g → g ≤ 255 → a ≤ 0x3FFFF
-      → inside (shapesOf w) (below (reg s z) (269 - g)) ≡ false → stepOf w s 0xFB x y z ≡ refusedBy 6 w s
-  pub unsave-sixteen : (w : Windows) (s : State) (x y z g a l : ℕ) → Passes w s → Counted w (reg s z) g a l → g < l → stepOf w s 0xFB x y z ≡ haltedBy 16 w s
+      → inside (shapesOf w) (below (reg s z) (countBelow g)) ≡ false → stepOf w s opUNSAVE x y z ≡ refusedBy 6 w s
+  pub unsave-sixteen : (w : Windows) (s : State) (x y z g a l : ℕ) → Passes w s → Counted w (reg s z) g a l → g < l → stepOf w s opUNSAVE x y z ≡ haltedBy 16 w s
   pub unsave-rest : (w : Windows) (s : State) (x y z g a l : ℕ) → Passes w s → Counted w (reg s z) g a l → l ≤ g
-      → clear (refusing (shapesOf w)) (below (reg s z) (l + 269 - g)) (l + 270 - g) ≡ false → stepOf w s 0xFB x y z ≡ refusedBy 6 w s
+      → clear (refusing (shapesOf w)) (below (reg s z) (packedAt l g)) (octasOf l g) ≡ false → stepOf w s opUNSAVE x y z ≡ refusedBy 6 w s
   -- an exception: 1, whatever the marks are; then 19
   pub exception-one : (s : State) (f op x y z u v : ℕ) → admissible s ≡ false → exceptionOf s f op x y z u v ≡ say 1 s
   pub exception-nineteen : (s : State) (f op x y z u v : ℕ) → admissible s ≡ true → enabled s f ≢ 0 → isLoaded s (leadingZeros 8 (enabled s f) + 1) ≡ false

@@ -7,7 +7,7 @@ use mathlib.Core.List.{List}
 use lib.ListN.{take, drop}
 use Rattle.model.specs.Memory.{Windows, shapesOf, ruled, offset, both}
 use Rattle.model.specs.Plan.{Outcome, perform}
-use Rattle.model.specs.Contexts.{contextAt}
+use Rattle.model.specs.Contexts.{contextAt, octasOf}
 use Rattle.model.specs.Step.{refusing}
 
 -- a part of the window: its first byte's index and its length
@@ -20,7 +20,7 @@ emptyPart = record { start = 0; size = 0 }
 
 -- the context of l locals and threshold g whose first local is at o
 unfoldable pub partAt : Windows → ℕ → ℕ → ℕ → ℕ → List ℕ → Part
-partAt w o g a l vs = record { start = offset (w .base) o; size = 8 * (l + 270 - g) }
+partAt w o g a l vs = record { start = offset (w .base) o; size = 8 * (octasOf l g) }
 
 -- THE reader: its reply and the part
 unfoldable pub readContext : Windows → ℕ → Outcome Part Windows

@@ -5,9 +5,10 @@ use mathlib.Core.Bool.{true}
 use lib.ListN.{set}
 use Rattle.model.specs.Fill.{over}
 use Rattle.model.specs.Memory.{Windows, shapesOf, ruled, offset, both}
+use Rattle.model.specs.Opcodes.{opUNSAVE, opSAVE}
 use Rattle.model.specs.Plan.{Outcome, look}
 use Rattle.model.specs.Registers.{built, rO, rS, rG, rL, sp, reg, admissible, Sized, Words}
-use Rattle.model.specs.Contexts.{below, contextAddress}
+use Rattle.model.specs.Contexts.{below, contextAddress, octasOf, countBelow}
 use Rattle.model.specs.Reader.{Part, readContext}
 use Rattle.model.specs.Step.{stepOf}
 use Rattle.model.specs.declared.State.{State}
@@ -17,10 +18,10 @@ abbrev pub thresholdAt : Windows → ℕ → ℕ
 thresholdAt w p = look both w p / 2 ^ 56
 
 abbrev pub countAt : Windows → ℕ → ℕ
-countAt w p = look both w (below p (269 - thresholdAt w p))
+countAt w p = look both w (below p (countBelow (thresholdAt w p)))
 
 abbrev pub octasAt : Windows → ℕ → ℕ
-octasAt w p = countAt w p + 270 - thresholdAt w p
+octasAt w p = octasOf (countAt w p) (thresholdAt w p)
 
 -- the part that a reader which is done hands back: it starts at the first local and ends after the packed octabyte
 pub record FromFirstToPacked (w : Windows) (p : ℕ) (q : Part) : Type 0 where
@@ -35,15 +36,15 @@ unparked s = built s (over (λ i. 0) (sp s rL) (sp s rG) (s .general)) (set (s .
 
 -- UNSAVE of $x, where o is what SAVE $x left
 abbrev pub unsaveAfter : Outcome State Windows → ℕ → ℕ → ℕ → Outcome State Windows
-unsaveAfter o x y z = stepOf (o .memory) (o .state) 0xFB y z x
+unsaveAfter o x y z = stepOf (o .memory) (o .state) opUNSAVE y z x
 
 pub record ContextsKept : Type 0 where
   -- "The reader's reply is, for every admissible state whose $Z is the address and every ruled window, UNSAVE's own"
   pub reader-reply : (w : Windows) (s : State) (x y z : ℕ) → admissible s ≡ true → ruled (shapesOf w) ≡ true
-      → readContext w (reg s z) .reply ≡ stepOf w s 0xFB x y z .reply
+      → readContext w (reg s z) .reply ≡ stepOf w s opUNSAVE x y z .reply
   pub reader-part : (w : Windows) (p : ℕ) → readContext w p .reply ≡ 0 → FromFirstToPacked w p (readContext w p .state)
   -- X is a byte; for any rO, misaligned too
-  pub save-unsave : (w : Windows) (s : State) (x y z y' z' : ℕ) → x < 256 → Sized s → Words s → stepOf w s 0xFA x y z .reply ≡ 0
-      → unsaveAfter (stepOf w s 0xFA x y z) x y' z' ≡ record { reply = 0; state = unparked s; memory = stepOf w s 0xFA x y z .memory }
-  pub save-address : (w : Windows) (s : State) (x y z : ℕ) → x < 256 → Sized s → stepOf w s 0xFA x y z .reply ≡ 0
-      → reg (stepOf w s 0xFA x y z .state) x ≡ contextAddress s
+  pub save-unsave : (w : Windows) (s : State) (x y z y' z' : ℕ) → x < 256 → Sized s → Words s → stepOf w s opSAVE x y z .reply ≡ 0
+      → unsaveAfter (stepOf w s opSAVE x y z) x y' z' ≡ record { reply = 0; state = unparked s; memory = stepOf w s opSAVE x y z .memory }
+  pub save-address : (w : Windows) (s : State) (x y z : ℕ) → x < 256 → Sized s → stepOf w s opSAVE x y z .reply ≡ 0
+      → reg (stepOf w s opSAVE x y z .state) x ≡ contextAddress s

@@ -17,7 +17,7 @@ use Rattle.model.specs.Opcodes.{Operand, register, immediate, Arm, branc
 use Rattle.model.specs.NoMemory.{Said, say, tell}
 use Rattle.model.specs.Control.{near, far, yzOf, xyzOf, holds}
 use Rattle.model.specs.Frames.{hole, framedRule, pushedRule, unslide}
-use Rattle.model.specs.Contexts.{extent, saved, savedState, below, unsavedSpecial}
+use Rattle.model.specs.Contexts.{extent, saved, savedState, below, unsavedSpecial, packedAt, octasOf, countBelow}
 use Rattle.model.specs.System.{putRefusal, putState, gotRule}
 use Rattle.model.specs.Trips.{wordOf, tripRule, trapRule, enabled, addedRule}
 use Rattle.model.specs.Step.{refusing, guarded}
@@ -86,10 +86,10 @@ unsavedRule s o g a l vs = spilled (withParts s
     (over (unsavedSpecialRule s o g a l vs) 0 32 (s .special)))
 
 unfoldable pub unsaveRestRule : State → ℕ → ℕ → ℕ → ℕ → Plan State
-unsaveRestRule s q g a l = read 6 (below q (l + 269 - g)) (l + 270 - g) (λ vs. answer 0 (next (unsavedRule s (below q (l + 269 - g) % 2 ^ 64) g a l vs)) 0 [])
+unsaveRestRule s q g a l = read 6 (below q (packedAt l g)) (octasOf l g) (λ vs. answer 0 (next (unsavedRule s (below q (packedAt l g) % 2 ^ 64) g a l vs)) 0 [])
 
 unfoldable pub unsaveCountRule : State → ℕ → ℕ → ℕ → Plan State
-unsaveCountRule s q g a = read 6 (below q (269 - g)) 1 (λ v. unsaveRestRule s q g a (getD v 0 0 % 256))
+unsaveCountRule s q g a = read 6 (below q (countBelow g)) 1 (λ v. unsaveRestRule s q g a (getD v 0 0 % 256))
 
 unfoldable pub unsaveRule : State → ℕ → Plan State
 unsaveRule s p = read 6 (octa p) 1 (λ v. unsaveCountRule s (octa p) (getD v 0 0 / 2 ^ 56) (getD v 0 0 % 2 ^ 18))

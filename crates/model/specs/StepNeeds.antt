@@ -8,9 +8,9 @@ use Rattle.model.specs.Memory.{Windows, shapesOf, both}
 use Rattle.model.specs.Plan.{ups, clear, missing, look}
 use Rattle.model.specs.Lists.{needsOf}
 use Rattle.model.specs.Registers.{rO, rG, rL, sp, reg}
-use Rattle.model.specs.Opcodes.{Arm, branch, jump, getAddress, go, pushJump, pushGo, pop, put, get, save, unsave, sync, swym, trip, trap, none, armOf}
+use Rattle.model.specs.Opcodes.{Arm, branch, jump, getAddress, go, pushJump, pushGo, pop, put, get, save, unsave, sync, swym, trip, trap, none, armOf, opPUSHJ, opPUSHJB, opPUSHGO, opPUSHGOI, opSAVE, opUNSAVE, opPUT, opPUTI, opGET, opSWYM}
 use Rattle.model.specs.Frames.{hole, noFrame, misplaced}
-use Rattle.model.specs.Contexts.{extent, below}
+use Rattle.model.specs.Contexts.{extent, below, packedAt, octasOf, countBelow}
 use Rattle.model.specs.Step.{judged, refusing, stepOf, stepNeeds, exception, mmix}
 use Rattle.model.specs.declared.State.{State}
 
@@ -31,12 +31,12 @@ popNeeds w s =
 
 -- "UNSAVE needs the packed one; if that passes, the local count; if that passes, the rest"
 unfoldable pub unsaveNeedsRest : Windows → ℕ → ℕ → ℕ → List ℕ
-unsaveNeedsRest w p g l = cond (leb l g) (run w (below p (l + 269 - g)) (l + 270 - g) []) []
+unsaveNeedsRest w p g l = cond (leb l g) (run w (below p (packedAt l g)) (octasOf l g) []) []
 
 unfoldable pub unsaveNeedsCount : Windows → ℕ → ℕ → ℕ → List ℕ
 unsaveNeedsCount w p g a =
     cond (leb 32 g && leb g 255)
-    (cond (leb a 0x3FFFF) (run w (below p (269 - g)) 1 (unsaveNeedsRest w p g (look both w (below p (269 - g))))) [])
+    (cond (leb a 0x3FFFF) (run w (below p (countBelow g)) 1 (unsaveNeedsRest w p g (look both w (below p (countBelow g))))) [])
     []
 
 unfoldable pub unsaveNeeds : Windows → ℕ → List ℕ
@@ -72,17 +72,17 @@ pub record NeedsAre : Type 0 where
       → stepNeeds w s op x y z ≡ cond (eqb (judged s (shapesOf w) (armOf op) x y z) 0) (armNeeds w s (armOf op) x y z) []
   pub by-exception : (w : Windows) (s : State) (f op x y z u v : ℕ) → needsOf both mmix s w (exception f op x y z u v) ≡ []
   -- a PUSH that is done: rO + 8i for i ≤ H; a SAVE that is done: all rL + 270 − rG
-  pub push-done : (w : Windows) (s : State) (x y z : ℕ) → stepOf w s 0xF2 x y z .reply ≡ 0 → stepNeeds w s 0xF2 x y z ≡ ups (sp s rO) (hole s x + 1)
-  pub push-back-done : (w : Windows) (s : State) (x y z : ℕ) → stepOf w s 0xF3 x y z .reply ≡ 0 → stepNeeds w s 0xF3 x y z ≡ ups (sp s rO) (hole s x + 1)
-  pub push-go-done : (w : Windows) (s : State) (x y z : ℕ) → stepOf w s 0xBE x y z .reply ≡ 0 → stepNeeds w s 0xBE x y z ≡ ups (sp s rO) (hole s x + 1)
-  pub push-go-immediate-done : (w : Windows) (s : State) (x y z : ℕ) → stepOf w s 0xBF x y z .reply ≡ 0 → stepNeeds w s 0xBF x y z ≡ ups (sp s rO) (hole s x + 1)
-  pub save-done : (w : Windows) (s : State) (x y z : ℕ) → stepOf w s 0xFA x y z .reply ≡ 0 → stepNeeds w s 0xFA x y z ≡ ups (sp s rO) (sp s rL + 270 - sp s rG)
+  pub push-done : (w : Windows) (s : State) (x y z : ℕ) → stepOf w s opPUSHJ x y z .reply ≡ 0 → stepNeeds w s opPUSHJ x y z ≡ ups (sp s rO) (hole s x + 1)
+  pub push-back-done : (w : Windows) (s : State) (x y z : ℕ) → stepOf w s opPUSHJB x y z .reply ≡ 0 → stepNeeds w s opPUSHJB x y z ≡ ups (sp s rO) (hole s x + 1)
+  pub push-go-done : (w : Windows) (s : State) (x y z : ℕ) → stepOf w s opPUSHGO x y z .reply ≡ 0 → stepNeeds w s opPUSHGO x y z ≡ ups (sp s rO) (hole s x + 1)
+  pub push-go-immediate-done : (w : Windows) (s : State) (x y z : ℕ) → stepOf w s opPUSHGOI x y z .reply ≡ 0 → stepNeeds w s opPUSHGOI x y z ≡ ups (sp s rO) (hole s x + 1)
+  pub save-done : (w : Windows) (s : State) (x y z : ℕ) → stepOf w s opSAVE x y z .reply ≡ 0 → stepNeeds w s opSAVE x y z ≡ ups (sp s rO) (extent s)
 
 -- "Bytes that an arm doesn't use are not looked at"
 pub record BytesUnused : Type 0 where
-  pub save-yz : (w : Windows) (s : State) (x y z y' z' : ℕ) → SameWritten w s 0xFA x y z x y' z'
-  pub unsave-xy : (w : Windows) (s : State) (x y z x' y' : ℕ) → SameWritten w s 0xFB x y z x' y' z
-  pub put-y : (w : Windows) (s : State) (x y z y' : ℕ) → SameWritten w s 0xF6 x y z x y' z
-  pub puti-y : (w : Windows) (s : State) (x y z y' : ℕ) → SameWritten w s 0xF7 x y z x y' z
-  pub get-y : (w : Windows) (s : State) (x y z y' : ℕ) → SameWritten w s 0xFE x y z x y' z
-  pub swym-xyz : (w : Windows) (s : State) (x y z x' y' z' : ℕ) → SameWritten w s 0xFD x y z x' y' z'
+  pub save-yz : (w : Windows) (s : State) (x y z y' z' : ℕ) → SameWritten w s opSAVE x y z x y' z'
+  pub unsave-xy : (w : Windows) (s : State) (x y z x' y' : ℕ) → SameWritten w s opUNSAVE x y z x' y' z
+  pub put-y : (w : Windows) (s : State) (x y z y' : ℕ) → SameWritten w s opPUT x y z x y' z
+  pub puti-y : (w : Windows) (s : State) (x y z y' : ℕ) → SameWritten w s opPUTI x y z x y' z
+  pub get-y : (w : Windows) (s : State) (x y z y' : ℕ) → SameWritten w s opGET x y z x y' z
+  pub swym-xyz : (w : Windows) (s : State) (x y z x' y' z' : ℕ) → SameWritten w s opSWYM x y z x' y' z'
