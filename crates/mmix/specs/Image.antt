@@ -1,5 +1,5 @@
 -- 01, 'Host': "a state image of 291 octabytes (general, special, PC, halt code, marks)", high byte first.
-use Prim.Native.Nat.{ℕ, zero, suc, _+_, _<_}
+use Prim.Native.Nat.{ℕ, _+_, _<_}
 use mathlib.Core.Path.{_≡_}
 use mathlib.Core.List.{List, [], _∷_, _++_}
 use lib.ListN.{length, getD}

@@ -13,9 +13,8 @@ use Rattle.model.specs.Octa.{octa, part}
 use Rattle.model.specs.Memory.{windowMax, Windows, Shapes, shapesOf, shapeOf, ruled, offset, inside, octaAt, octaBytes, both, one}
 use Rattle.model.specs.Plan.{Plan, answer, Outcome, perform, worst, clear, puts, Off, Agree}
 use Rattle.model.specs.Registers.{admissible}
-use Rattle.model.specs.Opcodes.{Arm, armOf}
-use Rattle.model.specs.NoMemory.{tell}
-use Rattle.model.specs.Step.{refusalOf, unruledBy, judged, refusing, planOf, guarded, fromThree, stepPlan, stepOf, Item, mmix}
+use Rattle.model.specs.Opcodes.{armOf}
+use Rattle.model.specs.Step.{refusalOf, unruledBy, refusing, planOf, guarded, fromThree, stepPlan, stepOf, Item, mmix}
 use Rattle.model.specs.Demand.{SameOutside}
 use Rattle.model.specs.declared.State.{State}
 use Rattle.model.proofs.Bools.{and-left, and-right, on}

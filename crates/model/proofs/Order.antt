@@ -18,7 +18,7 @@ use Rattle.model.specs.Control.{yzOf}
 use Rattle.model.specs.Frames.{noFrame, misplaced, popRule, popFrame}
 use Rattle.model.specs.Contexts.{extent, saved, savedState, saveContext, below, unsaved, contextRest, contextCount, contextAt, unsaveContext}
 use Rattle.model.specs.Trips.{enabled, isLoaded, withAdded, tripTo, raised}
-use Rattle.model.specs.Step.{refusalOf, unruledBy, refusing, planOf, guarded, fromThree, stepPlan, stepOf, exceptionOf}
+use Rattle.model.specs.Step.{refusalOf, refusing, planOf, stepOf, exceptionOf}
 use Rattle.model.specs.Order.{refusedBy, haltedBy, Passes, Packed, Counted, StepsInOrder}
 use Rattle.model.specs.declared.State.{State}
 use Rattle.model.proofs.Runs.{length-tab}

@@ -11,7 +11,7 @@ use borrow.Author.Tests.{leb-true, le-ltb, lt-leb}
 use Rattle.model.specs.Fill.{tab}
 use Rattle.model.specs.Octa.{octa}
 use Rattle.model.specs.Registers.{withParts, rJ, rO, rS, rG, sp, reg, admissible, next, withSpecial, spilled}
-use Rattle.model.specs.Memory.{Windows, shapesOf, ruled, both}
+use Rattle.model.specs.Memory.{Windows, shapesOf, both}
 use Rattle.model.specs.Plan.{Plan, answer, Outcome, perform, mapPlan, mapOutcome}
 use Rattle.model.specs.Opcodes.{Operand, register, immediate, Arm, branch, jump, getAddress, go, pushJump, pushGo, pop, put, get, save, unsave, sync, swym, trip, trap, none, armOf}
 use Rattle.model.specs.NoMemory.{say, tell}

@@ -16,7 +16,7 @@ use Rattle.model.specs.Opcodes.{armOf}
 use Rattle.model.specs.NoMemory.{Said, say, tell}
 use Rattle.model.specs.Frames.{framed, pushed, pushFrame, popped, popTo, popRule, noFrame, misplaced, popFrame}
 use Rattle.model.specs.Contexts.{savedUnspilled, savedState, saveContext, unsavedUnspilled, unsaved, unsaveContext}
-use Rattle.model.specs.Step.{refusalOf, unruledBy, refusing, planOf, guarded, fromThree, stepPlan, stepOf}
+use Rattle.model.specs.Step.{refusalOf, refusing, planOf, fromThree, stepPlan, stepOf}
 use Rattle.model.specs.Numbers.{Lost}
 use Rattle.model.specs.declared.State.{State}
 use Rattle.model.proofs.Bools.{on, on-both}

@@ -1,7 +1,7 @@
 -- 01, 'Steps': the context reader, which "given an address, hands back the saved context as a part of the caller's window, first
 -- local to packed octabyte, after UNSAVE's own checks. It takes no state and changes nothing; when it refuses (2, 6, 14, 15, 16)
 -- the part is empty."
-use Prim.Native.Nat.{ℕ, _+_, _-_, _*_}
+use Prim.Native.Nat.{ℕ, _*_}
 use mathlib.Core.Bool.{cond}
 use mathlib.Core.List.{List}
 use lib.ListN.{take, drop}

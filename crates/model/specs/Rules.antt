@@ -11,7 +11,7 @@ use lib.ListN.{getD}
 use Rattle.model.specs.Fill.{over, tab}
 use Rattle.model.specs.Octa.{octa}
 use Rattle.model.specs.Registers.{withParts, rJ, rC, rO, rI, rU, rG, rL, rA, sp, reg, following, admissible, goes, next, withSpecial, isMarginal, setRegister, spilled}
-use Rattle.model.specs.Memory.{Windows, Shapes, shapesOf, ruled, both}
+use Rattle.model.specs.Memory.{Windows, shapesOf, both}
 use Rattle.model.specs.Plan.{Plan, answer, read, Outcome, mapPlan, perform}
 use Rattle.model.specs.Opcodes.{Operand, register, immediate, Arm, branch, jump, getAddress, go, pushJump, pushGo, pop, put, get, save, unsave, sync, swym, trip, trap, none, armOf}
 use Rattle.model.specs.NoMemory.{Said, say, tell}

@@ -7,7 +7,7 @@ use lib.Dec.{leb, ltb, eqb}
 use Rattle.model.specs.Memory.{Windows, shapesOf, both}
 use Rattle.model.specs.Plan.{ups, clear, missing, look}
 use Rattle.model.specs.Lists.{needsOf}
-use Rattle.model.specs.Registers.{rO, rG, rL, sp, reg}
+use Rattle.model.specs.Registers.{rO, rG, sp, reg}
 use Rattle.model.specs.Opcodes.{Arm, branch, jump, getAddress, go, pushJump, pushGo, pop, put, get, save, unsave, sync, swym, trip, trap, none, armOf, opPUSHJ, opPUSHJB, opPUSHGO, opPUSHGOI, opSAVE, opUNSAVE, opPUT, opPUTI, opGET, opSWYM}
 use Rattle.model.specs.Frames.{hole, noFrame, misplaced}
 use Rattle.model.specs.Contexts.{extent, below, packedAt, octasOf, countBelow}
