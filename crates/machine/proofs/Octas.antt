@@ -1,9 +1,9 @@
--- Laws of the octabytes of a window: what a read and a write of one are, inside and outside; addresses modulo 2^64; and a list written
--- octabyte by octabyte.
+-- Laws of the octabytes of a window: what a read and a write of one are, inside and outside; addresses modulo 2^64; a list written
+-- octabyte by octabyte; and a run written by a loop. The test of a run is in RunTest.
 use mathlib.Core.Path.{_≡_, refl, sym, ap, _∙_}
 use mathlib.Core.Bool.{Bool, true, false, cond}
 use mathlib.Core.List.{List, [], _∷_, _++_}
-use Prim.Native.Nat.{ℕ, zero, suc, _+_, _*_, _%_, _^_, _≤_, _<_}
+use Prim.Native.Nat.{ℕ, zero, suc, _+_, _-_, _*_, _%_, _^_, _≤_, _<_}
 use native.Mathlib.Numerals.{add-one}
 use native.Mathlib.Omega.{arith}
 use lib.ListN.{length, getD, take}
@@ -17,8 +17,9 @@ use Rattle.model.specs.Step.{refusing}
 use Rattle.model.specs.Parts.{lent}
 use Rattle.model.proofs.Memory.{write-shape, has-octa, one-lawful}
 use Rattle.model.proofs.Plan.{puts-more}
+use Rattle.model.proofs.SaveUnsave.{further}
 use Rattle.model.proofs.Runs.{octa-mod, worst-of, length-tab, getD-looks, look-mod}
-use Rattle.machine.specs.Octas.{readOcta, writtenOcta}
+use Rattle.machine.specs.Octas.{readOcta, writtenOcta, writtenRun}
 use Rattle.machine.proofs.Spans.{run-one}
 
 -- ---- one octabyte
@@ -182,3 +183,33 @@ module _ (w : Window) (a n : ℕ) (pass : worst (refusing (shapeOf w)) a n ≡ 0
   puts-tab f v q =
       puts-next (tab 0 i f) v (length-tab i 0 f)
       ∙ ap (puts one w a) (ap (λ (x : ℕ). tab 0 i f ++ (x ∷ [])) q ∙ sym (tab-more i 0 f ∙ ap (λ (k : ℕ). tab 0 i f ++ (f k ∷ [])) (omega arith)) ∙ ap (λ (k : ℕ). tab 0 k f) (sym (add-one i)))
+
+-- ---- a run written
+
+pub run-none : (w : Window) (a n : ℕ) (f : ℕ → ℕ) → n ≡ 0 → w ≡ writtenRun w a n f
+unfolding writtenRun
+run-none w a n f e = rw e refl
+
+-- a turn of the loop that writes it: i counts from `from`, the address wraps
+pub run-more : (w u t : Window) (a from i at v : ℕ) (f : ℕ → ℕ) → from ≤ i → u ≡ writtenRun w a (i - from) f → at ≡ (a + 8 * (i - from)) % 2 ^ 64
+    → v ≡ f (i - from) → t ≡ writtenOcta u at v → t ≡ writtenRun w a (i + 1 - from) f
+unfolding writtenRun
+run-more w u t a from i at v f l eu ea ev et =
+    let count : i + 1 - from ≡ suc (i - from) = omega arith in
+    let same : at % 2 ^ 64 ≡ (a + 8 * (i - from)) % 2 ^ 64 = omega arith in
+    et ∙ written-mod u at (a + 8 * (i - from)) same v ∙ rw (eu, ev, count)
+
+-- a run written after the first k octabytes of a list that passes, which are these: the first k + n
+module _ (w : Window) (o k m : ℕ) (f : ℕ → ℕ) (pass : worst (refusing (shapeOf w)) o m ≡ 0) (v : Window) (e : v ≡ puts one w o (tab 0 k f)) where
+  pub puts-run : (a : ℕ) → a % 2 ^ 64 ≡ (o + 8 * k) % 2 ^ 64 → (g : ℕ → ℕ) (n : ℕ) → k + n ≤ m → ((i : ℕ) → i < n → g i ≡ f (k + i))
+      → writtenRun v a n g ≡ puts one w o (tab 0 (k + n) f)
+  unfolding writtenRun
+  puts-run a q g zero l h = e ∙ ap (λ (j : ℕ). puts one w o (tab 0 j f)) (omega arith)
+  puts-run a q g (suc n) l h =
+      let last : ℕ = (o + 8 * (k + n)) % 2 ^ 64 in
+      let same : (a + 8 * n) % 2 ^ 64 ≡ last % 2 ^ 64 = further o a k n q ∙ (omega arith) in
+      let count : k + n + 1 ≡ k + suc n = omega arith in
+      ap (λ (u : Window). writtenOcta u (a + 8 * n) (g n)) (puts-run a q g n (omega arith) (λ i b. h i (omega arith)))
+      ∙ written-mod (puts one w o (tab 0 (k + n) f)) (a + 8 * n) last same (g n)
+      ∙ puts-tab w o m pass (k + n) last (omega arith) refl f (g n) (h n (omega arith))
+      ∙ ap (λ (j : ℕ). puts one w o (tab 0 j f)) count

@@ -8,7 +8,7 @@ ghost use Rattle.model.specs.Memory.{shapeOf, ruled, offset};
 ghost use Rattle.model.specs.Plan.{worst};
 ghost use Rattle.model.specs.Step.{refusing};
 ghost use Rattle.model.specs.Parts.{lent};
-ghost use Rattle.machine.specs.Octas.{readOcta, writtenOcta};
+ghost use Rattle.machine.specs.Octas.{readOcta, writtenOcta, writtenRange};
 
 /// Whether length and base obey the window's rule.
 pub fn is_ruled(window: &[u8], base: u64) -> bool
@@ -131,6 +131,28 @@ pub fn load_range(general: &mut [u64; 256], window: &[u8], base: u64, addr: u64,
         let place = super::number::wrapping_add(addr, 8 * (i - from));
         let v = read_octa(window, base, place);
         general[i as usize] = v;
+        i += 1;
+    }
+}
+
+/// They go to the octabytes from `addr` up; those outside the window go nowhere.
+pub fn store_range(
+    general: &[u64; 256],
+    window: &mut [u8],
+    base: u64,
+    addr: u64,
+    from: u64,
+    to: u64,
+)
+    ensures { λ _. ⌜ lent base (now (window .exit)) ≡ writtenRange (lent base (now (window .entry))) addr from to (now (general .entry)) ⌝ }
+{
+    super::registers::of_256(*general);
+    let end = super::number::least(to, 256);
+    let mut i = from;
+    while i < end {
+        let place = super::number::wrapping_add(addr, 8 * (i - from));
+        let v = general[i as usize];
+        write_octa(window, base, place, v);
         i += 1;
     }
 }

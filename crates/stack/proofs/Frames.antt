@@ -12,7 +12,7 @@ use lib.Seq.{ext-getD, getD-set-same, getD-set-other}
 use borrow.Author.Tests.{lt-ltb, le-ltb, lt-leb, le-leb, eq-eqb, ne-eqb, ltb-true}
 use Rattle.model.specs.Fill.{over, tab}
 use Rattle.model.specs.Registers.{rJ, rO, rS, rG, rL, stackStart, sp, reg, admissible, withSpecial, spilled}
-use Rattle.model.specs.Memory.{Windows, Shapes, shapesOf, shapeOf, both}
+use Rattle.model.specs.Memory.{Windows, shapesOf, both}
 use Rattle.model.specs.Plan.{worst, looks, puts}
 use Rattle.model.specs.Frames.{framed, slid, slide, pushedRule, pushed, countOf, lastOutput, restored, unslide, popped, misplaced}
 use Rattle.model.specs.Parts.{made}
@@ -23,8 +23,8 @@ use Rattle.model.proofs.Bools.{and-right}
 use Rattle.model.proofs.Memory.{one-lawful}
 use Rattle.model.proofs.Runs.{getD-looks}
 use Rattle.model.proofs.AdmissibleKept.{adm, spec-other}
-use Rattle.machine.specs.Octas.{readOcta, writtenOcta}
-use Rattle.machine.proofs.Octas.{puts-shape, puts-tab, run-read}
+use Rattle.machine.specs.Octas.{readOcta, writtenOcta, writtenRange}
+use Rattle.machine.proofs.Octas.{puts-none, puts-tab, puts-run, run-read}
 use Rattle.stack.specs.Frame.{Held, Placed, bottomOf, restoredBy}
 use Rattle.stack.proofs.Spans.{over-before, over-alike}
 
@@ -87,9 +87,15 @@ pub framed-hole : (s : State) (h : ℕ) → framed s h h ≡ h
 unfolding framed
 framed-hole s h = rw (le-ltb h h (omega arith))
 
-pub puts-length : (w : Windows) (a : ℕ) (vs : List ℕ) → length (puts both w a vs .bytes) ≡ length (w .bytes)
-unfolding shapeOf
-puts-length w a vs = ap (λ (z : Shapes). z .size) (puts-shape w a vs)
+-- its locals, which are a range of the registers
+pub locals-stored : (w u : Windows) (s : State) (a h : ℕ) → h ≤ 255 → worst (refusing (shapesOf w)) a (h + 1) ≡ 0
+    → u ≡ writtenRange w a 0 h (s .general) → u ≡ puts both w a (tab 0 h (framed s h))
+unfolding writtenRange
+locals-stored w u s a h l pass e =
+    let n : min h 256 - 0 ≡ h = omega arith in
+    let z : (i : ℕ) → 0 + i ≡ i = λ i. omega arith in
+    e ∙ rw n (puts-run w a 0 (h + 1) (framed s h) pass w (sym (puts-none w a (framed s h))) a (omega arith) _ h (omega arith)
+    (λ i b. ap (reg s) (z i) ∙ sym (framed-local s h i b) ∙ ap (framed s h) (sym (z i))) ∙ ap (λ (k : ℕ). puts both w a (tab 0 k (framed s h))) (z h))
 
 -- one octabyte more of a list that is stored
 pub store-next : (w : Windows) (a n i at : ℕ) → worst (refusing (shapesOf w)) a n ≡ 0 → i < n → at ≡ (a + 8 * i) % 2 ^ 64

@@ -1,4 +1,4 @@
--- What the contracts of the private functions cite: bounds, a run of stores that goes on, octabytes as code reads them, and the
+-- What the contracts of the private functions cite: bounds, the context stored, octabytes as code reads them, and the
 -- twelve special registers loaded one after another.
 use Prim.Native.Nat.{ℕ, zero, suc, _+_, _-_, _*_, _%_, _^_, _≤_, _<_}
 use mathlib.Core.Path.{_≡_}
@@ -19,12 +19,6 @@ pub record Ranged (special : List ℕ) : Type 0 where
   pub g-high : getD special rG 0 ≤ 255
   pub l-g : getD special rL 0 ≤ getD special rG 0
   pub a-high : getD special rA 0 ≤ 0x3FFFF
-
--- u is v with g 0 to g (n − 1) stored from addr up, as a part of a longer run: where v is w with the first k of the octabytes
--- f 0, f 1, .. of a run of m inside it, and these are the next n, u is w with the first k + n
-pub record Continues (v : Windows) (addr n : ℕ) (g : ℕ → ℕ) (u : Windows) : Type 0 where
-  pub goes-on : (w : Windows) (o k m : ℕ) (f : ℕ → ℕ) → v ≡ puts both w o (tab 0 k f) → addr % 2 ^ 64 ≡ (o + 8 * k) % 2 ^ 64 → k + n ≤ m
-      → worst (refusing (shapesOf w)) o m ≡ 0 → ((i : ℕ) → i < n → g i ≡ f (k + i)) → u ≡ puts both w o (tab 0 (k + n) f)
 
 -- v is w with the context of these registers stored from rO up, where it lies inside
 pub record StoresContext (general special : List ℕ) (w v : Windows) : Type 0 where

@@ -6,10 +6,10 @@ ghost use Rattle.model.specs.Fill.{over};
 ghost use Rattle.model.specs.Contexts.{savedSpecial, unsavedGeneral, unsaved};
 ghost use Rattle.model.specs.Numbers.{replyOf};
 ghost use Rattle.model.specs.Parts.{made, lent};
-ghost use Rattle.machine.specs.Octas.{readOcta};
+ghost use Rattle.machine.specs.Octas.{readOcta, writtenRun};
 ghost use Rattle.stack.specs.Gives.{Gives};
 ghost use Rattle.stack.specs.Context.{saveOf, unsaveOf};
-ghost use Rattle.stack.specs.Work.{Ranged, Continues, StoresContext, leftGeneral, leftSpecial, octasFrom, loaded};
+ghost use Rattle.stack.specs.Work.{Ranged, StoresContext, leftGeneral, leftSpecial, octasFrom, loaded};
 use super::layout::Located;
 use model::Reply;
 use model::State;
@@ -25,24 +25,9 @@ fn save_special(i: usize) -> usize
     i + 16
 }
 
-/// The n registers from $from up, stored from address addr up.
-fn store_run(general: &[u64; 256], window: &mut [u8], base: u64, addr: u64, from: u64, n: u64)
-    requires { ⌜ from + n ≤ 256 ⌝ }
-    ensures { λ _. ⌜ Continues (lent base (now (window .entry))) addr n (λ (i : ℕ). getD (now (general .entry)) (from + i) 0) (lent base (now (window .exit))) ⌝ }
-{
-    let mut i: u64 = 0;
-    while i < n {
-        let place = machine::number::wrapping_add(addr, 8 * i);
-        let k = from + i;
-        let v = general[k as usize];
-        machine::memory::write_octa(window, base, place, v);
-        i += 1;
-    }
-}
-
 /// The twelve special registers, stored from address addr up.
 fn store_specials(special: &[u64; 32], window: &mut [u8], base: u64, addr: u64)
-    ensures { λ _. ⌜ Continues (lent base (now (window .entry))) addr 12 (λ (i : ℕ). getD (now (special .entry)) (savedSpecial i) 0) (lent base (now (window .exit))) ⌝ }
+    ensures { λ _. ⌜ lent base (now (window .exit)) ≡ writtenRun (lent base (now (window .entry))) addr 12 (λ (i : ℕ). getD (now (special .entry)) (savedSpecial i) 0) ⌝ }
 {
     let mut i: usize = 0;
     while i < 12 {
@@ -63,11 +48,11 @@ fn store_context(general: &[u64; 256], special: &[u64; 32], window: &mut [u8], b
     let rl = special[State::RL];
     let rg = special[State::RG];
     let ra = special[State::RA];
-    store_run(general, window, base, ro, 0, rl);
+    machine::memory::store_range(general, window, base, ro, 0, rl);
     let marker = machine::number::wrapping_add(ro, 8 * rl);
     machine::memory::write_octa(window, base, marker, rl);
     let globals = machine::number::wrapping_add(ro, 8 * (rl + 1));
-    store_run(general, window, base, globals, rg, 256 - rg);
+    machine::memory::store_range(general, window, base, globals, rg, 256);
     let specials = machine::number::wrapping_add(ro, 8 * (rl + 257 - rg));
     store_specials(special, window, base, specials);
     let packed = machine::number::wrapping_add(ro, 8 * (rl + 269 - rg));

@@ -45,26 +45,12 @@ fn hole_of(rg: u64, rl: u64, x: u8) -> u64
     at
 }
 
-/// $0 to $(h − 1), stored from address ro up.
-fn store_locals(general: &[u64; 256], window: &mut [u8], base: u64, ro: u64, h: u64)
-    requires { ⌜ (h ≤ 255) × (worst (refusing (shapesOf (lent base (now window)))) ro (h + 1) ≡ 0) ⌝ }
-    ensures { λ _. ⌜ ((special : List ℕ) (pc halt marks : ℕ) → lent base (now (window .exit)) ≡ puts both (lent base (now (window .entry))) ro (tab 0 h (framed (made (now (general .entry)) special pc halt marks) h))) ⌝ }
-{
-    let mut i: u64 = 0;
-    while i < h {
-        let addr = machine::number::wrapping_add(ro, 8 * i);
-        let v = general[i as usize];
-        machine::memory::write_octa(window, base, addr, v);
-        i += 1;
-    }
-}
-
 /// The frame with hole h, stored from address ro up.
 fn store_frame(general: &[u64; 256], window: &mut [u8], base: u64, ro: u64, h: u64)
     requires { ⌜ (h ≤ 255) × (worst (refusing (shapesOf (lent base (now window)))) ro (h + 1) ≡ 0) ⌝ }
     ensures { λ _. ⌜ ((special : List ℕ) (pc halt marks : ℕ) → lent base (now (window .exit)) ≡ puts both (lent base (now (window .entry))) ro (tab 0 (h + 1) (framed (made (now (general .entry)) special pc halt marks) h))) ⌝ }
 {
-    store_locals(general, window, base, ro, h);
+    machine::memory::store_range(general, window, base, ro, 0, h);
     let addr = machine::number::wrapping_add(ro, 8 * h);
     machine::memory::write_octa(window, base, addr, h);
 }
