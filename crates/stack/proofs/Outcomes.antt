@@ -52,11 +52,11 @@ module _ (w : Windows) (s : State) (x : ℕ) where
     unfolding pushOf
     push-open = guarded-open w s _ a r ∙ ap (λ (n : ℕ). performOn w s (pushFrame s n (s .pc))) (sym e)
 
-    pub push-six : (Inside w (sp s rO) (h + 1) → ⊥) → Gives (pushOf w s x) s reply.Missing s w
+    pub push-six : (Inside w (sp s rO) (h + 1) → ⊥) → (q : Reply) → q ≡ reply.Missing → Gives (pushOf w s x) s q s w
     unfolding replyOf pushFrame
-    push-six f =
+    push-six f q d =
         let len : length (tab 0 (h + 1) (framed s h)) ≡ h + 1 = length-tab (h + 1) 0 (framed s h) in
-        gives 6 reply.Missing s s w w (push-open ∙ store-lacks w s 0 _ (sp s rO) (tab 0 (h + 1) (framed s h)) (λ i. f (rw len at i))) refl stays refl
+        rw d (gives 6 reply.Missing s s w w (push-open ∙ store-lacks w s 0 _ (sp s rO) (tab 0 (h + 1) (framed s h)) (λ i. f (rw len at i))) refl stays refl)
 
     pub push-done : (t : State) (v : Windows) → Inside w (sp s rO) (h + 1) → v ≡ puts both w (sp s rO) (tab 0 (h + 1) (framed s h)) → t ≡ pushed s h → Gives (pushOf w s x) s reply.Done t v
     unfolding replyOf

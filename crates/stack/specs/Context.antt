@@ -11,12 +11,16 @@ use Rattle.model.specs.Plan.{Outcome, perform, look}
 use Rattle.model.specs.Contexts.{below, saveContext, contextAt, unsaveContext}
 use Rattle.model.specs.Step.{refusing}
 use Rattle.model.specs.Reader.{readContext, bytesIn}
+use Rattle.model.specs.Numbers.{numberOf, replyOf}
 use Rattle.model.specs.Parts.{lent}
-use Rattle.stack.specs.Gives.{guardedOn}
+use Rattle.stack.specs.Gives.{guardedOn, Gives}
 use Rattle.model.specs.declared.State.{State}
+use Rattle.model.specs.declared.Reply.{Reply}
+use Rattle.stack.specs.declared.layout.SavedContext.{SavedContext}
 use Rattle.stack.specs.declared.layout.Located.{Located}
+use Rattle.stack.specs.declared.layout.Located.the-variants.{Found, Bad, Lost}
 use Rattle.stack.specs.declared.layout.Layout.{Layout}
-use Rattle.stack.specs.declared.layout.Layout.the-variants.{Found, Excess, Outside}
+use Rattle.stack.specs.declared.layout.Layout.the-variants as layout
 use Rattle.stack.specs.declared.layout.SaveContextLayout.{SaveContextLayout}
 use Rattle.stack.specs.declared.reader.Place.{Place}
 
@@ -25,6 +29,14 @@ saveOf w s x = guardedOn w s (saveContext s x)
 
 unfoldable pub unsaveOf : Windows → State → ℕ → Outcome State Windows
 unsaveOf w s p = guardedOn w s (unsaveContext s p)
+
+-- SAVE $x of s and w answers r and leaves t and v
+abbrev pub SaveGives : Windows → State → ℕ → Reply → State → Windows → Type 0
+SaveGives w s x r t v = Gives (saveOf w s x) s r t v
+
+-- UNSAVE of the context at p answers r and leaves t; it writes nothing
+abbrev pub UnsaveGives : Windows → State → ℕ → Reply → State → Type 0
+UnsaveGives w s p r t = Gives (unsaveOf w s p) s r t w
 
 -- the parts of a context below its packed octabyte at p, for a threshold g and l locals
 unfoldable pub layoutAt : ℕ → ℕ → ℕ → SaveContextLayout
@@ -42,39 +54,49 @@ countReply w p g = cond (inside (shapesOf w) (below p (269 - g))) (cond (leb (lo
 
 -- 01's number of each case
 unfoldable pub layoutNumber : Layout → ℕ
-layoutNumber (Found l) = 0
-layoutNumber (Excess count) = 16
-layoutNumber Outside = 6
+layoutNumber (layout.Found l) = 0
+layoutNumber (layout.Excess count) = 16
+layoutNumber (layout.Outside reply) = numberOf reply
 
 -- the case of each number, with its values, where the count is l
 unfoldable pub layoutAnswer : ℕ → ℕ → ℕ → ℕ → Layout
-layoutAnswer p g l n = cond (eqb n 0) (Found (layoutAt p g l)) (cond (eqb n 16) (Excess l) Outside)
+layoutAnswer p g l n = cond (eqb n 0) (layout.Found (layoutAt p g l)) (cond (eqb n 16) (layout.Excess l) (layout.Outside (replyOf n)))
 
 pub record LayoutIs (w : Windows) (p g : ℕ) (r : Layout) : Type 0 where
   pub answer-is : r ≡ layoutAnswer p g (look both w (below p (269 - g))) (countReply w p g)
   pub number-is : layoutNumber r ≡ countReply w p g
 
--- where the context at p is: its first local's address, rG, rA and local count; all 0 where it is refused
-unfoldable pub spot : ℕ → ℕ → ℕ → ℕ → ℕ → Located
-spot n o g a l = record { reply = n; first = o; rg = g; ra = a; count = l }
+-- where a context is: its first local's address, rG, rA and local count; all 0 where it is refused
+unfoldable pub spot : ℕ → ℕ → ℕ → ℕ → SavedContext
+spot o g a l = record { first = o; rg = g; ra = a; count = l }
 
 -- the context plan that UNSAVE and the reader share, with the place as its answer
-unfoldable pub locatedOf : Windows → ℕ → Outcome Located Windows
-locatedOf w p = perform both (refusing (shapesOf w)) (spot 6 0 0 0 0) (contextAt (spot 0 0 0 0 0) (λ o g a l vs. spot 0 o g a l) p) w
+unfoldable pub locatedOf : Windows → ℕ → Outcome SavedContext Windows
+locatedOf w p = perform both (refusing (shapesOf w)) (spot 0 0 0 0) (contextAt (spot 0 0 0 0) (λ o g a l vs. spot o g a l) p) w
+
+-- 01's number of each case
+unfoldable pub locatedNumber : Located → ℕ
+locatedNumber (Found at) = 0
+locatedNumber (Bad reply) = numberOf reply
+locatedNumber (Lost reply) = numberOf reply
+
+-- the case of each number, with its value
+unfoldable pub locatedAnswer : ℕ → SavedContext → Located
+locatedAnswer n at = cond (eqb n 0) (Found at) (cond (eqb n 6) (Lost (replyOf n)) (Bad (replyOf n)))
 
 pub record LocatedIs (w : Windows) (p : ℕ) (r : Located) : Type 0 where
-  pub reply-is : r .reply ≡ locatedOf w p .reply
-  pub first-is : r .first ≡ locatedOf w p .state .first
-  pub rg-is : r .rg ≡ locatedOf w p .state .rg
-  pub ra-is : r .ra ≡ locatedOf w p .state .ra
-  pub count-is : r .count ≡ locatedOf w p .state .count
+  pub answer-is : r ≡ locatedAnswer (locatedOf w p .reply) (locatedOf w p .state)
+  pub number-is : locatedNumber r ≡ locatedOf w p .reply
 
--- the reader's reply and part as numbers; the part lies in the window
+unfoldable pub placed : Reply → ℕ → ℕ → Place
+placed reply start size = record { reply = reply; start = start; size = size }
+
+-- the reader's reply and part; the part lies in the window
 pub record PlaceIs (w : Windows) (p : ℕ) (r : Place) : Type 0 where
-  pub reply-is : r .reply ≡ readContext w p .reply
+  pub reply-is : r .reply ≡ replyOf (readContext w p .reply)
+  pub number-is : numberOf (r .reply) ≡ readContext w p .reply
   pub start-is : r .start ≡ readContext w p .state .start
   pub size-is : r .size ≡ readContext w p .state .size
-  pub reply-most : r .reply ≤ 16
   pub lies-inside : r .start + r .size ≤ length (w .bytes)
 
 -- the reader's reply, and the part r that it hands back of the window v: its bytes, and where it lies, as far behind v's first byte as

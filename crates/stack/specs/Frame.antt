@@ -10,14 +10,19 @@ use Rattle.model.specs.Plan.{Outcome}
 use Rattle.model.specs.Registers.{rJ, rO, rG, rL, stackStart, sp, goes}
 use Rattle.model.specs.Frames.{hole, pushFrame, noFrame, popFrame}
 use Rattle.machine.specs.Octas.{readOcta}
-use Rattle.stack.specs.Gives.{guardedOn}
+use Rattle.stack.specs.Gives.{guardedOn, Gives}
 use Rattle.model.specs.declared.State.{State}
+use Rattle.model.specs.declared.Reply.{Reply}
 use Rattle.stack.specs.declared.frame.PopFrame.{PopFrame}
 use Rattle.stack.specs.declared.frame.PopFrame.the-variants.{Frame, NoFrame, Rejected, Missing, NotAdmissible, WindowRule}
 
 -- PUSH with x; where the call goes is the arm's business
 unfoldable pub pushOf : Windows → State → ℕ → Outcome State Windows
 pushOf w s x = guardedOn w s (pushFrame s (hole s x) (s .pc))
+
+-- PUSH with x of s and w answers r and leaves t and v
+abbrev pub PushGives : Windows → State → ℕ → Reply → State → Windows → Type 0
+PushGives w s x r t v = Gives (pushOf w s x) s r t v
 
 -- POP with x; where it goes is the arm's business
 unfoldable pub popOf : Windows → State → ℕ → Outcome State Windows

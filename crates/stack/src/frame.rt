@@ -12,8 +12,7 @@ ghost use Rattle.model.specs.Frames.{hole, framed, pushed, countOf, lastOutput,
 ghost use Rattle.model.specs.Parts.{made, lent};
 ghost use Rattle.model.specs.Step.{refusing};
 ghost use Rattle.model.specs.declared.State.{State};
-ghost use Rattle.stack.specs.Gives.{Gives};
-ghost use Rattle.stack.specs.Frame.{Held, Placed, pushOf, restoredBy, bottomOf, PopGives};
+ghost use Rattle.stack.specs.Frame.{Held, Placed, PushGives, restoredBy, bottomOf, PopGives};
 use model::Reply;
 use model::State;
 
@@ -98,24 +97,27 @@ pub fn push_frame(
     base: u64,
     x: u8,
 ) -> Reply
-    ensures { λ r. ⌜ ((halt : ℕ) → Gives (pushOf (lent base (now (window .entry))) (made (now (general .entry)) (now (special .entry)) pc halt marks) x) (made (now (general .entry)) (now (special .entry)) pc halt marks) r (made (now (general .exit)) (now (special .exit)) pc halt marks) (lent base (now (window .exit)))) ⌝ }
+    ensures { λ r. ⌜ ((halt : ℕ) → PushGives (lent base (now (window .entry)))
+        (made (now (general .entry)) (now (special .entry)) pc halt marks) x r
+        (made (now (general .exit)) (now (special .exit)) pc halt marks) (lent base (now (window .exit)))) ⌝ }
 {
-    if machine::registers::admissible(special, marks) {
-        if machine::memory::is_ruled(window, base) {
-            let rg = special[State::RG];
-            let rl = special[State::RL];
-            let ro = special[State::RO];
-            let h = hole_of(rg, rl, x);
-            if machine::memory::run_refusal(window, base, ro, h + 1) == 0 {
-                store_frame(general, window, base, ro, h);
-                enter(general, special, pc, h);
-                return Reply::Done;
-            }
-            return Reply::Missing;
-        }
+    if !machine::registers::admissible(special, marks) {
+        return Reply::NotAdmissible;
+    }
+    if !machine::memory::is_ruled(window, base) {
         return Reply::WindowRule;
     }
-    Reply::NotAdmissible
+    let rg = special[State::RG];
+    let rl = special[State::RL];
+    let ro = special[State::RO];
+    let h = hole_of(rg, rl, x);
+    let number = machine::memory::run_refusal(window, base, ro, h + 1);
+    if number != 0 {
+        return super::reply::lost(number);
+    }
+    store_frame(general, window, base, ro, h);
+    enter(general, special, pc, h);
+    Reply::Done
 }
 
 /// How many outputs there are.
@@ -229,18 +231,18 @@ fn pop_at(
     let rg = special[State::RG];
     let rj = special[State::RJ];
     let below = machine::number::wrapping_sub(ro, 8);
-    if machine::memory::run_refusal(window, base, below, 1) == 0 {
-        let h = machine::memory::read_octa(window, base, below) % 256;
-        let bottom = machine::number::wrapping_sub(ro, 8 * (h + 1));
-        let n = machine::number::least(h, rg);
-        if machine::memory::run_refusal(window, base, bottom, n) == 0 {
-            leave(general, special, window, base, x, h);
-            let target = machine::number::wrapping_add(rj, 4 * (yz as u64));
-            return PopFrame::Frame(target);
-        }
+    if machine::memory::run_refusal(window, base, below, 1) != 0 {
         return PopFrame::Missing;
     }
-    PopFrame::Missing
+    let h = machine::memory::read_octa(window, base, below) % 256;
+    let bottom = machine::number::wrapping_sub(ro, 8 * (h + 1));
+    let n = machine::number::least(h, rg);
+    if machine::memory::run_refusal(window, base, bottom, n) != 0 {
+        return PopFrame::Missing;
+    }
+    leave(general, special, window, base, x, h);
+    let target = machine::number::wrapping_add(rj, 4 * (yz as u64));
+    PopFrame::Frame(target)
 }
 
 /// POP x, yz.
@@ -256,19 +258,19 @@ pub fn pop_frame(
 ) -> PopFrame
     ensures { λ r. ⌜ ((pc : ℕ) → PopGives (lent base (now (window .entry))) (made (now (general .entry)) (now (special .entry)) pc (now (halt .entry)) marks) x yz r (made (now (general .exit)) (now (special .exit)) pc (now (halt .exit)) marks)) ⌝ }
 {
-    if machine::registers::admissible(special, marks) {
-        if machine::memory::is_ruled(window, base) {
-            let ro = special[State::RO];
-            if ro <= State::STACK_START {
-                return PopFrame::NoFrame;
-            }
-            if is_misplaced(ro) {
-                *halt = 1;
-                return PopFrame::Rejected;
-            }
-            return pop_at(general, special, window, base, x, yz);
-        }
+    if !machine::registers::admissible(special, marks) {
+        return PopFrame::NotAdmissible;
+    }
+    if !machine::memory::is_ruled(window, base) {
         return PopFrame::WindowRule;
     }
-    PopFrame::NotAdmissible
+    let ro = special[State::RO];
+    if ro <= State::STACK_START {
+        return PopFrame::NoFrame;
+    }
+    if is_misplaced(ro) {
+        *halt = 1;
+        return PopFrame::Rejected;
+    }
+    pop_at(general, special, window, base, x, yz)
 }

@@ -1,5 +1,5 @@
-//! The register stack (stack.rs): frames in `frame`, contexts in `context`, where one lies in `layout`, the reader in `reader`; and in `pass` what the
-//! layer above needs of the machine. All work in place; `value` has the Rust's functions on a state that goes in and comes back.
+//! The register stack (stack.rs): frames in `frame`, contexts in `context`, where one lies in `layout`, the reader in `reader`,
+//! replies and their numbers in `reply`; and in `pass` what the layer above needs of the machine. All work in place; `value` has the Rust's functions on a state that goes in and comes back.
 //! PC is the business of the layer above.
 
 pub mod context;
@@ -7,4 +7,5 @@ pub mod frame;
 pub mod layout;
 pub mod pass;
 pub mod reader;
+pub mod reply;
 pub mod value;
