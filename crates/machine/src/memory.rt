@@ -10,6 +10,9 @@ ghost use Rattle.model.specs.Step.{refusing};
 ghost use Rattle.model.specs.Parts.{lent};
 ghost use Rattle.machine.specs.Octas.{readOcta, writtenOcta, writtenRange};
 
+/// The longest window, in bytes.
+pub const WINDOW_MAX: usize = 65536;
+
 /// Whether length and base obey the window's rule.
 pub fn is_ruled(window: &[u8], base: u64) -> bool
     ensures { λ r. ⌜ r ≡ ruled (shapeOf (lent base (now (window .entry)))) ⌝ }
@@ -21,7 +24,7 @@ pub fn is_ruled(window: &[u8], base: u64) -> bool
     if len % 8 != 0 {
         return false;
     }
-    if len <= 65536 {
+    if len <= WINDOW_MAX {
         return true;
     }
     false
@@ -122,7 +125,8 @@ pub fn write_octa(window: &mut [u8], base: u64, addr: u64, v: u64)
 
 /// The general registers from `from` up to, not including, `to` become the octabytes from `addr` up; there are 256, whatever `to` says.
 pub fn load_range(general: &mut [u64; 256], window: &[u8], base: u64, addr: u64, from: u64, to: u64)
-    ensures { λ _. ⌜ now (general .exit) ≡ over (λ (k : ℕ). readOcta (lent base (now (window .entry))) (addr + 8 * (k - from))) from to (now (general .entry)) ⌝ }
+    ensures { λ _. ⌜ now (general .exit)
+        ≡ over (λ (k : ℕ). readOcta (lent base (now (window .entry))) (addr + 8 * (k - from))) from to (now (general .entry)) ⌝ }
 {
     super::registers::of_256(*general);
     let end = super::number::least(to, 256);

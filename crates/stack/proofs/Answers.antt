@@ -24,7 +24,7 @@ use Rattle.model.proofs.Numbers.{numbered}
 use Rattle.model.proofs.Entry.{performOn, Inside, said}
 use Rattle.stack.specs.Gives.{Gives}
 use Rattle.stack.specs.Context.{saveOf, unsaveOf, UnsaveGives, LocatedIs}
-use Rattle.stack.specs.Work.{Ranged, StoresContext, octasFrom}
+use Rattle.stack.specs.Work.{Ranged, StoresContext, unsavedAs}
 use Rattle.stack.specs.declared.layout.SavedContext.{SavedContext}
 use Rattle.stack.specs.declared.layout.Located.{Located}
 use Rattle.stack.specs.declared.layout.Located.the-variants.{Found, Bad, Lost}
@@ -117,13 +117,13 @@ module _ (w : Windows) (s : State) (p : ℕ) where
       opened = guarded-open w s (unsaveContext s p) a r
 
       pub unsave-done : (c : SavedContext) → at ≡ Found c → (t : State)
-          → t ≡ unsaved s (c .first) (c .rg) (c .ra) (c .count) (octasFrom w (c .first) (c .count + 270 - c .rg)) → UnsaveGives w s p Done t
+          → t ≡ unsavedAs w s c → UnsaveGives w s p Done t
       unfolding replyOf
       unsave-done c z t d =
-          moves w s _ 0 Done refl t (unsaved s (c .first) (c .rg) (c .ra) (c .count) (octasFrom w (c .first) (c .count + 270 - c .rg))) d same
+          moves w s _ 0 Done refl t (unsavedAs w s c) d same
           (opened ∙ comes w p s (halted s) found at h .done c z)
         where
-          same : unsaved s (c .first) (c .rg) (c .ra) (c .count) (octasFrom w (c .first) (c .count + 270 - c .rg)) .pc ≡ s .pc
+          same : unsavedAs w s c .pc ≡ s .pc
           same = unfold unsaved spilled withSpecial unsavedUnspilled in refl
 
       pub unsave-lost : (q : Reply) → at ≡ Lost q → UnsaveGives w s p q s

@@ -8,10 +8,12 @@ use Rattle.model.specs.Fill.{over, tab}
 use Rattle.model.specs.Memory.{Windows, shapesOf, both}
 use Rattle.model.specs.Plan.{worst, puts}
 use Rattle.model.specs.Registers.{rO, rS, rG, rL, rA}
-use Rattle.model.specs.Contexts.{extent, savedSpecial, saved}
+use Rattle.model.specs.Contexts.{extent, savedSpecial, saved, unsaved}
 use Rattle.model.specs.Step.{refusing}
 use Rattle.model.specs.Parts.{made}
 use Rattle.machine.specs.Octas.{readOcta}
+use Rattle.model.specs.declared.State.{State}
+use Rattle.stack.specs.declared.layout.SavedContext.{SavedContext}
 
 -- what a context's size and packed octabyte rest on
 pub record Ranged (special : List ℕ) : Type 0 where
@@ -38,6 +40,10 @@ leftSpecial special =
 -- the n octabytes from address a up, as code reads them
 unfoldable pub octasFrom : Windows → ℕ → ℕ → List ℕ
 octasFrom w a n = tab 0 n (λ i. readOcta w ((a + 8 * i) % 2 ^ 64))
+
+-- the state that UNSAVE makes of s by a context that was found
+abbrev pub unsavedAs : Windows → State → SavedContext → State
+unsavedAs w s c = unsaved s (c .first) (c .rg) (c .ra) (c .count) (octasFrom w (c .first) (c .count + 270 - c .rg))
 
 -- l with f k at the place of the special that is number k of the twelve, for each k below n
 unfoldable pub loaded : (ℕ → ℕ) → ℕ → List ℕ → List ℕ

@@ -3,11 +3,11 @@ ghost use mathlib.Core.Path.{_≡_};
 ghost use Prim.Native.Nat.{ℕ, _+_, _-_, _*_, _%_, _^_, _≤_, _<_};
 ghost use lib.ListN.{getD};
 ghost use Rattle.model.specs.Fill.{over};
-ghost use Rattle.model.specs.Contexts.{savedSpecial, unsavedGeneral, unsaved};
+ghost use Rattle.model.specs.Contexts.{savedSpecial, unsavedGeneral};
 ghost use Rattle.model.specs.Parts.{made, lent};
 ghost use Rattle.machine.specs.Octas.{readOcta, writtenRun};
 ghost use Rattle.stack.specs.Context.{SaveGives, UnsaveGives};
-ghost use Rattle.stack.specs.Work.{Ranged, StoresContext, leftGeneral, leftSpecial, octasFrom, loaded};
+ghost use Rattle.stack.specs.Work.{Ranged, StoresContext, leftGeneral, leftSpecial, octasFrom, unsavedAs, loaded};
 use super::layout::AT_PACKED;
 use super::layout::AT_SPECIALS;
 use super::layout::CONTEXT_OCTAS;
@@ -31,7 +31,8 @@ fn save_special(i: usize) -> usize
 
 /// The twelve special registers, stored from address addr up.
 fn store_specials(special: &[u64; 32], window: &mut [u8], base: u64, addr: u64)
-    ensures { λ _. ⌜ lent base (now (window .exit)) ≡ writtenRun (lent base (now (window .entry))) addr 12 (λ (i : ℕ). getD (now (special .entry)) (savedSpecial i) 0) ⌝ }
+    ensures { λ _. ⌜ lent base (now (window .exit))
+        ≡ writtenRun (lent base (now (window .entry))) addr 12 (λ (i : ℕ). getD (now (special .entry)) (savedSpecial i) 0) ⌝ }
 {
     let mut i: usize = 0;
     while i < CONTEXT_SPECIALS {
@@ -66,7 +67,8 @@ fn store_context(general: &[u64; 256], special: &[u64; 32], window: &mut [u8], b
 /// The context is stored; then the registers below rG become 0 and $x gets the context's address.
 fn put_away(general: &mut [u64; 256], special: &[u64; 32], window: &mut [u8], base: u64, x: u8)
     requires { ⌜ Ranged (now special) ⌝ }
-    ensures { λ _. ⌜ StoresContext (now (general .entry)) (now (special .entry)) (lent base (now (window .entry))) (lent base (now (window .exit))) × (now (general .exit) ≡ leftGeneral (now (general .entry)) (now (special .entry)) x) ⌝ }
+    ensures { λ _. ⌜ StoresContext (now (general .entry)) (now (special .entry)) (lent base (now (window .entry))) (lent base (now (window .exit)))
+        × (now (general .exit) ≡ leftGeneral (now (general .entry)) (now (special .entry)) x) ⌝ }
 {
     let ro = special[State::RO];
     let rl = special[State::RL];
@@ -133,7 +135,8 @@ pub fn save_context(
 /// the globals.
 fn load_general(general: &mut [u64; 256], window: &[u8], base: u64, first: u64, rg: u64, count: u64)
     requires { ⌜ (rg ≤ 255) × (count ≤ rg) ⌝ }
-    ensures { λ _. ⌜ now (general .exit) ≡ over (unsavedGeneral rg count (octasFrom (lent base (now (window .entry))) first (count + 270 - rg))) 0 256 (now (general .entry)) ⌝ }
+    ensures { λ _. ⌜ now (general .exit)
+        ≡ over (unsavedGeneral rg count (octasFrom (lent base (now (window .entry))) first (count + 270 - rg))) 0 256 (now (general .entry)) ⌝ }
 {
     let globals = machine::number::wrapping_add(first, 8 * (count + 1));
     machine::memory::load_range(general, window, base, first, 0, count);
@@ -143,7 +146,8 @@ fn load_general(general: &mut [u64; 256], window: &[u8], base: u64, first: u64, 
 
 /// The twelve special registers from a context, from address addr up.
 fn load_specials(special: &mut [u64; 32], window: &[u8], base: u64, addr: u64)
-    ensures { λ _. ⌜ now (special .exit) ≡ loaded (λ (i : ℕ). readOcta (lent base (now (window .entry))) ((addr + 8 * i) % 2 ^ 64)) 12 (now (special .entry)) ⌝ }
+    ensures { λ _. ⌜ now (special .exit)
+        ≡ loaded (λ (i : ℕ). readOcta (lent base (now (window .entry))) ((addr + 8 * i) % 2 ^ 64)) 12 (now (special .entry)) ⌝ }
 {
     let mut i: usize = 0;
     while i < CONTEXT_SPECIALS {
@@ -164,7 +168,8 @@ fn arrive(
     at: SavedContext,
 )
     requires { ⌜ (at .rg ≤ 255) × (at .count ≤ at .rg) ⌝ }
-    ensures { λ _. ⌜ ((pc halt marks : ℕ) → made (now (general .exit)) (now (special .exit)) pc halt marks ≡ unsaved (made (now (general .entry)) (now (special .entry)) pc halt marks) (at .first) (at .rg) (at .ra) (at .count) (octasFrom (lent base (now (window .entry))) (at .first) (at .count + 270 - at .rg))) ⌝ }
+    ensures { λ _. ⌜ ((pc halt marks : ℕ) → made (now (general .exit)) (now (special .exit)) pc halt marks
+        ≡ unsavedAs (lent base (now (window .entry))) (made (now (general .entry)) (now (special .entry)) pc halt marks) at) ⌝ }
 {
     machine::registers::counted(general, special);
     let first = at.first;

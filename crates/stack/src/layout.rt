@@ -91,10 +91,10 @@ pub fn locate(window: &[u8], base: u64, address: u64) -> Located
     let packed = machine::memory::read_octa(window, base, address);
     let rg = packed / PACKED_RG;
     let ra = packed % PACKED_RG;
-    if rg < 32 {
+    if rg < machine::registers::THRESHOLD_MIN {
         return Located::Bad(Reply::SavedThreshold);
     }
-    if 0x3FFFF < ra {
+    if machine::registers::STATUS_MAX < ra {
         return Located::Bad(Reply::SavedStatus);
     }
     let layout = save_context_layout(window, base, address, rg as u8);

@@ -25,13 +25,13 @@ run-refusal-requires c κs = search needs
 
 returns : tie.Need-returns
 returns c =
-    λ pc halt marks adm rul well.
+    λ pc halt marks good.
     let first = c .before in
     let start = first .before .before .before .before .before .before in
     let a = start .args in
     let w = lent (a .base) (a .window .now) in
     let l = a .special .now in
-    pop-lacks w (made (a .general .now) l pc halt marks) (a .x) (a .yz) adm rul (start .pre .1 .above) well
+    pop-lacks w (made (a .general .now) l pc halt marks) (a .x) (a .yz) (good .state-good) (good .window-good) (start .pre .1 .above) (good .place-good)
     (λ i. c .if1 .taken (hole-run w l (start .pre .1) _ (first .before .wrapping-sub .ensures) _ (first .run-refusal .ensures) ∙ i))
 
 read-octa-requires : tie.Need-read-octa-requires
@@ -54,14 +54,14 @@ run-refusal-requires-2 c κs = search needs
 
 returns-2 : tie.Need-returns-2
 returns-2 c =
-    λ pc halt marks adm rul well.
+    λ pc halt marks good.
     let judged = c .before in
     let first = judged .before .before .before .before .before in
     let start = first .before .before .before .before .before .before in
     let a = start .args in
     let w = lent (a .base) (a .window .now) in
     let l = a .special .now in
-    pop-short w (made (a .general .now) l pc halt marks) (a .x) (a .yz) adm rul (start .pre .1 .above) well
+    pop-short w (made (a .general .now) l pc halt marks) (a .x) (a .yz) (good .state-good) (good .window-good) (start .pre .1 .above) (good .place-good)
     (sym (hole-run w l (start .pre .1) _ (first .before .wrapping-sub .ensures) _ (first .run-refusal .ensures)) ∙ judged .before .before .before .before .if1 .left)
     _ (hole-is w l (start .pre .1) _ (first .before .wrapping-sub .ensures) _ (judged .before .before .before .read-octa .ensures))
     (λ i. c .if2 .taken (frame-run w l (start .pre .1) _ _ _ _ (omega arith) (judged .before .before .wrapping-sub2 .ensures) (judged .before .least .ensures) (judged .run-refusal2 .ensures) ∙ i))
@@ -82,14 +82,14 @@ wrapping-add-requires c κs = search needs
 
 returns-3 : tie.Need-returns-3
 returns-3 c =
-    λ pc halt marks adm rul well.
+    λ pc halt marks good.
     let judged = c .before .before .before .before .before in
     let first = judged .before .before .before .before .before in
     let start = first .before .before .before .before .before .before in
     let a = start .args in
     let w = lent (a .base) (a .window .now) in
     let l = a .special .now in
-    pop-done w (made (a .general .now) l pc halt marks) (a .x) (a .yz) adm rul (start .pre .1 .above) well
+    pop-done w (made (a .general .now) l pc halt marks) (a .x) (a .yz) (good .state-good) (good .window-good) (start .pre .1 .above) (good .place-good)
     (sym (hole-run w l (start .pre .1) _ (first .before .wrapping-sub .ensures) _ (first .run-refusal .ensures)) ∙ judged .before .before .before .before .if1 .left)
     _ (hole-is w l (start .pre .1) _ (first .before .wrapping-sub .ensures) _ (judged .before .before .before .read-octa .ensures)) _ _
     (sym (frame-run w l (start .pre .1) _ _ _ _ (omega arith) (judged .before .before .wrapping-sub2 .ensures) (judged .before .least .ensures) (judged .run-refusal2 .ensures)) ∙ c .before .before .before .before .if2 .left)

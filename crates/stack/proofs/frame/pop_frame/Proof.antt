@@ -71,8 +71,12 @@ returns-5 c =
     let judged = placed .before .before .before .before in
     let a = judged .before .before .before .before .before .before .args in
     let s = made (a .general .now) (a .special .now) pc (a .halt .now) (a .marks) in
-    c .pop-at .ensures pc (a .halt .now) (a .marks) (granted _ _ (judged .before .before .before .admissible .ensures (a .general .now) pc (a .halt .now)) (judged .before .before .if1 .left))
-    (granted _ _ (judged .before .is-ruled .ensures) (judged .if2 .left)) (sym (placed .before .is-misplaced .ensures s refl) ∙ placed .if4 .left)
+    c .pop-at .ensures pc (a .halt .now) (a .marks)
+    (record {
+      state-good = granted _ _ (judged .before .before .before .admissible .ensures (a .general .now) pc (a .halt .now)) (judged .before .before .if1 .left);
+      window-good = granted _ _ (judged .before .is-ruled .ensures) (judged .if2 .left);
+      place-good = sym (placed .before .is-misplaced .ensures s refl) ∙ placed .if4 .left;
+    })
 
 pub pop-frame-spec : {M : Type 1} → statement M
 pop-frame-spec =

@@ -1,10 +1,18 @@
 -- `save_context_layout` meets its contract: the count outside, above the threshold, and the layout.
-use mathlib.Core.Path.{sym, _∙_}
+use mathlib.Core.Path.{_≡_, sym, _∙_}
+use Rattle.model.specs.Memory.{shapesOf}
+use Rattle.model.specs.Plan.{worst}
+use Rattle.model.specs.Step.{refusing}
+use Rattle.model.specs.Parts.{lent}
 use Rattle.stack.proofs.Places.{layout-outside, layout-excess, layout-found}
 use Rattle.stack.proofs.Judged.{lost-by, missing-by}
 use borrow.Author.Needs.{needs}
 use Rattle.stack.proofs.layout.save_context_layout.Statement.{statement}
 use Rattle.stack.proofs.layout.save_context_layout.Tie as tie
+
+-- the local count lies inside
+inside : (c : tie.Else1) → worst (refusing (shapesOf (lent (c .before .before .before .before .args .base) (c .before .before .before .before .args .window .now)))) (c .before .before .wrapping-sub .result) 1 ≡ 0
+inside c = sym (c .before .run-refusal .ensures) ∙ c .if1 .left
 
 sub-wrapping-sub : tie.Need-sub-wrapping-sub
 sub-wrapping-sub c = search needs
@@ -33,7 +41,7 @@ read-octa-requires c κs = search needs
 returns-2 : tie.Need-returns-2
 returns-2 c =
     let read = c .before in
-    layout-excess _ _ _ _ (read .before .before .before .wrapping-sub .ensures) _ (sym (read .before .before .run-refusal .ensures) ∙ read .before .if1 .left) (read .read-octa .ensures) (c .if2 .taken)
+    layout-excess _ _ _ _ (read .before .before .before .wrapping-sub .ensures) _ (inside (read .before)) (read .read-octa .ensures) (c .if2 .taken)
 
 mul-wrapping-sub-2 : tie.Need-mul-wrapping-sub-2
 mul-wrapping-sub-2 c = search needs
@@ -72,7 +80,7 @@ returns-3 : tie.Need-returns-3
 returns-3 c =
     let counted = c .before .before .before in
     let read = counted .before in
-    layout-found _ _ _ _ (read .before .before .before .wrapping-sub .ensures) _ (sym (read .before .before .run-refusal .ensures) ∙ read .before .if1 .left) (read .read-octa .ensures) _ _ _
+    layout-found _ _ _ _ (read .before .before .before .wrapping-sub .ensures) _ (inside (read .before)) (read .read-octa .ensures) _ _ _
     (counted .if2 .left) (c .before .before .wrapping-sub2 .ensures) (c .before .wrapping-sub3 .ensures) (c .wrapping-sub4 .ensures)
 
 pub save-context-layout-spec : {M : Type 1} → statement M
