@@ -6,21 +6,20 @@ use mathlib.Core.List.{List, [], _∷_, _++_}
 use Prim.Native.Nat.{ℕ, zero, suc, _+_, _-_, _*_, _%_, _^_, _≤_, _<_}
 use native.Mathlib.Numerals.{add-one}
 use native.Mathlib.Omega.{arith}
-use lib.ListN.{length, getD, take}
-use lib.Seq.{take-suc, length-take-le}
+use lib.ListN.{length}
 use borrow.Author.Tests.{leb-true}
 use Rattle.model.specs.Fill.{tab}
 use Rattle.model.specs.Octa.{part, written, valueOf, bytesOf}
 use Rattle.model.specs.Memory.{Window, Shape, shapeOf, offset, has, octaBytes, writeOcta, one}
-use Rattle.model.specs.Plan.{worst, look, looks, puts}
+use Rattle.model.specs.Plan.{worst, look, puts}
 use Rattle.model.specs.Step.{refusing}
 use Rattle.model.specs.Parts.{lent}
 use Rattle.model.proofs.Memory.{write-shape, has-octa, one-lawful}
 use Rattle.model.proofs.Plan.{puts-more}
 use Rattle.model.proofs.SaveUnsave.{further}
-use Rattle.model.proofs.Runs.{octa-mod, worst-of, length-tab, getD-looks, look-mod}
+use Rattle.model.proofs.Runs.{octa-mod, worst-of, length-tab, look-mod}
 use Rattle.machine.specs.Octas.{readOcta, writtenOcta, writtenRun}
-use Rattle.machine.proofs.Spans.{run-one}
+use Rattle.machine.proofs.RunTest.{run-one}
 
 -- ---- one octabyte
 
@@ -126,9 +125,6 @@ module _ (w : Window) (a n : ℕ) (pass : worst (refusing (shapeOf w)) a n ≡ 0
   pub run-read : readOcta w at ≡ look one w (a + 8 * i)
   run-read = read-mod w at (a + 8 * i) e ∙ read-in w (a + 8 * i) (worst-of (refusing (shapeOf w)) n a i pass l)
 
-  pub run-looks : readOcta w at ≡ getD (looks one w a n) i 0
-  run-looks = run-read ∙ sym (getD-looks one one-lawful n w a i l)
-
   pub run-written : (v : ℕ) → writtenOcta w at v ≡ writeOcta w (a + 8 * i) v
   run-written v = written-mod w at (a + 8 * i) e v ∙ written-in w (a + 8 * i) v (worst-of (refusing (shapeOf w)) n a i pass l)
 
@@ -139,24 +135,10 @@ unfolding puts one
 puts-shape w a [] = refl
 puts-shape w a (v ∷ vs) = puts-shape (writeOcta w a v) (a + 8) vs ∙ write-shape w a v
 
-pub puts-length : (base : ℕ) (l m : List ℕ) (a : ℕ) (vs : List ℕ) → lent base m ≡ puts one (lent base l) a vs → length m ≡ length l
-puts-length base l m a vs e = same-size base l m _ e (puts-shape (lent base l) a vs)
-
 -- where a loop starts
 pub puts-none : (w : Window) (a : ℕ) (f : ℕ → ℕ) → puts one w a (tab 0 0 f) ≡ w
 unfolding puts tab
 puts-none w a f = refl
-
-pub puts-start : (w : Window) (a : ℕ) (vs : List ℕ) → puts one w a (take 0 vs) ≡ w
-unfolding puts
-puts-start w a vs = refl
-
-pub puts-mod : (w : Window) (a b : ℕ) (vs : List ℕ) → a % 2 ^ 64 ≡ b % 2 ^ 64 → puts one w a vs ≡ puts one w b vs
-unfolding puts one
-puts-mod w a b [] e = refl
-puts-mod w a b (v ∷ vs) e =
-    let next : (a + 8) % 2 ^ 64 ≡ (b + 8) % 2 ^ 64 = omega arith in
-    ap (λ (u : Window). puts one u (a + 8) vs) (write-mod w a b e v) ∙ puts-mod (writeOcta w b v) (a + 8) (b + 8) vs next
 
 tab-more : (n i : ℕ) (f : ℕ → ℕ) → tab i (suc n) f ≡ tab i n f ++ (f (i + n) ∷ [])
 unfolding tab
@@ -171,12 +153,6 @@ module _ (w : Window) (a n : ℕ) (pass : worst (refusing (shapeOf w)) a n ≡ 0
       run-written (puts one w a vs) a n h i at l (omega arith) v
       ∙ ap (λ (k : ℕ). writeOcta (puts one w a vs) (a + 8 * k) v) (sym d)
       ∙ sym (puts-more one w a vs v ∙ (unfold one in refl))
-
-  -- a turn of the loop that stores a list
-  pub puts-turn : (vs : List ℕ) → i < length vs → writtenOcta (puts one w a (take i vs)) at (getD vs i 0) ≡ puts one w a (take (i + 1) vs)
-  puts-turn vs h =
-      puts-next (take i vs) (getD vs i 0) (length-take-le i vs (omega arith))
-      ∙ ap (puts one w a) (sym (take-suc vs i 0 h) ∙ ap (λ (k : ℕ). take k vs) (sym (add-one i)))
 
   -- a turn of the loop that stores f 0, f 1, ..
   pub puts-tab : (f : ℕ → ℕ) (v : ℕ) → v ≡ f i → writtenOcta (puts one w a (tab 0 i f)) at v ≡ puts one w a (tab 0 (i + 1) f)

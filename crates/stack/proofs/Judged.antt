@@ -1,4 +1,6 @@
--- A guarded plan as judged: 1, 2, or the plan; and 6, where an octabyte that it reads or stores is missing.
+-- A guarded plan as judged: what a branch on `!b` tells; 1, 2, or the plan; 6, where an octabyte that it reads or stores is missing; and
+-- the run that code tests, with the reply of its number. The answers of each function are in PushPopAnswers, SaveUnsaveAnswers and
+-- ReaderAnswers.
 use mathlib.Core.Path.{_≡_, sym, ap, _∙_}
 use mathlib.Core.Bool.{Bool, true, false, not}
 use mathlib.Core.List.{List}
@@ -19,7 +21,7 @@ use Rattle.model.proofs.Runs.{worst-of, of-worst}
 use Rattle.model.proofs.Entry.{performOn, Inside}
 use Rattle.model.proofs.Entry as entry
 use Rattle.model.proofs.ArmAnswers.{worst-six}
-use Rattle.stack.specs.Gives.{guardedOn}
+use Rattle.stack.specs.GivenBack.{guardedOn}
 
 -- a judgement t, which code has as b and branches on as `!b`
 pub denied : (b t : Bool) → b ≡ t → not b ≡ true → t ≡ false

@@ -6,8 +6,8 @@ ghost use Rattle.model.specs.Fill.{over};
 ghost use Rattle.model.specs.Contexts.{savedSpecial, unsavedGeneral};
 ghost use Rattle.model.specs.Parts.{made, lent};
 ghost use Rattle.machine.specs.Octas.{readOcta, writtenRun};
-ghost use Rattle.stack.specs.Context.{SaveGives, UnsaveGives};
-ghost use Rattle.stack.specs.Work.{Ranged, StoresContext, leftGeneral, leftSpecial, octasFrom, unsavedAs, loaded};
+ghost use Rattle.stack.specs.SaveUnsave.{SaveGives, UnsaveGives, contextOctas, contextSpecials};
+ghost use Rattle.stack.specs.ContextWork.{Ranged, StoresContext, leftGeneral, leftSpecial, octasFrom, unsavedAs, loaded};
 use super::layout::AT_PACKED;
 use super::layout::AT_SPECIALS;
 use super::layout::CONTEXT_OCTAS;
@@ -20,7 +20,7 @@ use model::State;
 
 /// The special register that is number i of the twelve (`SAVE_SPECIALS`): rB to rR, which are 0 to 6, then rP to rZ, 23 to 27.
 fn save_special(i: usize) -> usize
-    requires { ⌜ i < 12 ⌝ }
+    requires { ⌜ i < contextSpecials ⌝ }
     ensures { λ r. ⌜ (r ≡ savedSpecial i) × (r < 32) ⌝ }
 {
     if i <= State::RR {
@@ -32,7 +32,7 @@ fn save_special(i: usize) -> usize
 /// The twelve special registers, stored from address addr up.
 fn store_specials(special: &[u64; 32], window: &mut [u8], base: u64, addr: u64)
     ensures { λ _. ⌜ lent base (now (window .exit))
-        ≡ writtenRun (lent base (now (window .entry))) addr 12 (λ (i : ℕ). getD (now (special .entry)) (savedSpecial i) 0) ⌝ }
+        ≡ writtenRun (lent base (now (window .entry))) addr contextSpecials (λ (i : ℕ). getD (now (special .entry)) (savedSpecial i) 0) ⌝ }
 {
     let mut i: usize = 0;
     while i < CONTEXT_SPECIALS {
@@ -136,7 +136,7 @@ pub fn save_context(
 fn load_general(general: &mut [u64; 256], window: &[u8], base: u64, first: u64, rg: u64, count: u64)
     requires { ⌜ (rg ≤ 255) × (count ≤ rg) ⌝ }
     ensures { λ _. ⌜ now (general .exit)
-        ≡ over (unsavedGeneral rg count (octasFrom (lent base (now (window .entry))) first (count + 270 - rg))) 0 256 (now (general .entry)) ⌝ }
+        ≡ over (unsavedGeneral rg count (octasFrom (lent base (now (window .entry))) first (contextOctas rg count))) 0 256 (now (general .entry)) ⌝ }
 {
     let globals = machine::number::wrapping_add(first, 8 * (count + 1));
     machine::memory::load_range(general, window, base, first, 0, count);
@@ -147,7 +147,7 @@ fn load_general(general: &mut [u64; 256], window: &[u8], base: u64, first: u64, 
 /// The twelve special registers from a context, from address addr up.
 fn load_specials(special: &mut [u64; 32], window: &[u8], base: u64, addr: u64)
     ensures { λ _. ⌜ now (special .exit)
-        ≡ loaded (λ (i : ℕ). readOcta (lent base (now (window .entry))) ((addr + 8 * i) % 2 ^ 64)) 12 (now (special .entry)) ⌝ }
+        ≡ loaded (λ (i : ℕ). readOcta (lent base (now (window .entry))) ((addr + 8 * i) % 2 ^ 64)) contextSpecials (now (special .entry)) ⌝ }
 {
     let mut i: usize = 0;
     while i < CONTEXT_SPECIALS {

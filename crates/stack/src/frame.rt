@@ -11,7 +11,7 @@ ghost use Rattle.model.specs.Frames.{hole, framed, pushed, countOf, lastOutput,
 ghost use Rattle.model.specs.Parts.{made, lent};
 ghost use Rattle.model.specs.Step.{refusing};
 ghost use Rattle.model.specs.declared.State.{State};
-ghost use Rattle.stack.specs.Frame.{Held, Placed, PushGives, restoredBy, bottomOf, poppedAs, PassedPopGives, PopGives};
+ghost use Rattle.stack.specs.PushPop.{Held, Placed, PushGives, restoredBy, bottomOf, poppedAs, PassedPopGives, PopGives};
 use model::Reply;
 use model::State;
 

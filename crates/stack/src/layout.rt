@@ -1,7 +1,7 @@
 // Where a context lies in the window, below its packed octabyte. One of l locals and threshold g has l + 270 − g octabytes: the locals,
 // their count, 256 − g globals, the twelve specials, and the packed octabyte.
 ghost use Rattle.model.specs.Parts.{lent};
-ghost use Rattle.stack.specs.Context.{LayoutIs, LocatedIs};
+ghost use Rattle.stack.specs.SaveUnsave.{LayoutIs, LocatedIs};
 use model::Reply;
 
 /// How many special registers a context has.

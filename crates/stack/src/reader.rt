@@ -2,7 +2,7 @@
 // `read_context` hands out the part itself, for a caller in this language: no crate here is one.
 ghost use mathlib.Core.Path.{_≡_};
 ghost use Rattle.model.specs.Parts.{lent};
-ghost use Rattle.stack.specs.Context.{placed, PlaceIs, PartIs};
+ghost use Rattle.stack.specs.SaveUnsave.{placed, PlaceIs, PartIs};
 use super::layout::CONTEXT_OCTAS;
 use super::layout::Located;
 use model::Reply;

@@ -1,8 +1,8 @@
 // The Rust's functions on a state by value, under its names: the fields go into locals, the work is done in place. 01 asks for them;
 // the layer above works in place and calls none.
 ghost use Rattle.model.specs.Parts.{lent};
-ghost use Rattle.stack.specs.Frame.{PushGives, PopGives};
-ghost use Rattle.stack.specs.Context.{SaveGives, UnsaveGives};
+ghost use Rattle.stack.specs.PushPop.{PushGives, PopGives};
+ghost use Rattle.stack.specs.SaveUnsave.{SaveGives, UnsaveGives};
 use super::frame::PopFrame;
 use model::Reply;
 use model::State;

@@ -7,10 +7,10 @@ use borrow.Author.Needs.{needs}
 use Rattle.model.specs.Memory.{shapesOf, ruled}
 use Rattle.model.specs.Registers.{admissible, halted}
 use Rattle.model.specs.Parts.{made, lent}
-use Rattle.stack.specs.Work.{Ranged}
-use Rattle.stack.proofs.Stores.{departed}
+use Rattle.stack.specs.ContextWork.{Ranged}
+use Rattle.stack.proofs.SaveStores.{departed}
 use Rattle.stack.proofs.Judged.{granted, denied, lost-by, missing-by}
-use Rattle.stack.proofs.Answers.{ranged, save-state, save-window, save-local, save-missing, save-done}
+use Rattle.stack.proofs.SaveUnsaveAnswers.{ranged, save-state, save-window, save-local, save-missing, save-done}
 use Rattle.stack.proofs.context.save_context.Statement.{statement}
 use Rattle.stack.proofs.context.save_context.Tie as tie
 

@@ -1,6 +1,6 @@
 -- `store_context` meets its contract: its five stores, one after another, are the context.
 use borrow.Author.Needs.{needs}
-use Rattle.stack.proofs.Stores.{context-stored}
+use Rattle.stack.proofs.SaveStores.{context-stored}
 use Rattle.stack.proofs.context.store_context.Statement.{statement}
 use Rattle.stack.proofs.context.store_context.Tie as tie
 

@@ -6,9 +6,9 @@ use borrow.Author.Needs.{needs}
 use Rattle.model.specs.Memory.{shapesOf, ruled}
 use Rattle.model.specs.Registers.{admissible, halted}
 use Rattle.model.specs.Parts.{made, lent}
-use Rattle.stack.proofs.Turns.{stands-at}
+use Rattle.stack.proofs.LocateAnswers.{stands-at}
 use Rattle.stack.proofs.Judged.{granted, denied}
-use Rattle.stack.proofs.Answers.{unsave-state, unsave-window, unsave-done, unsave-bad, unsave-lost}
+use Rattle.stack.proofs.SaveUnsaveAnswers.{unsave-state, unsave-window, unsave-done, unsave-bad, unsave-lost}
 use Rattle.stack.proofs.context.unsave_context.Statement.{statement}
 use Rattle.stack.proofs.context.unsave_context.Tie as tie
 

@@ -2,8 +2,8 @@
 use mathlib.Core.Path.{sym, _∙_}
 use native.Mathlib.Omega.{arith}
 use Rattle.model.specs.Parts.{made, lent}
-use Rattle.stack.proofs.Frames.{hole-run, hole-is, frame-run}
-use Rattle.stack.proofs.Outcomes.{pop-lacks, pop-short, pop-done}
+use Rattle.stack.proofs.PushPopRegisters.{hole-run, hole-is, frame-run}
+use Rattle.stack.proofs.PushPopAnswers.{pop-lacks, pop-short, pop-done}
 use borrow.Author.Needs.{needs}
 use Rattle.stack.proofs.frame.pop_at.Statement.{statement}
 use Rattle.stack.proofs.frame.pop_at.Tie as tie

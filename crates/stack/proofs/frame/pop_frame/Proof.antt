@@ -3,9 +3,9 @@ use mathlib.Core.Path.{refl, sym, _∙_}
 use borrow.Author.Needs.{needs}
 use Rattle.model.specs.Registers.{halted}
 use Rattle.model.specs.Parts.{made, lent}
-use Rattle.stack.proofs.Frames.{held-by, placed-by}
+use Rattle.stack.proofs.PushPopRegisters.{held-by, placed-by}
 use Rattle.stack.proofs.Judged.{granted, denied}
-use Rattle.stack.proofs.Outcomes.{pop-one, pop-two, pop-none, pop-rejected}
+use Rattle.stack.proofs.PushPopAnswers.{pop-one, pop-two, pop-none, pop-rejected}
 use Rattle.stack.proofs.frame.pop_frame.Statement.{statement}
 use Rattle.stack.proofs.frame.pop_frame.Tie as tie
 

@@ -6,9 +6,9 @@ use native.Mathlib.Omega.{arith}
 use Rattle.model.specs.Memory.{shapesOf, ruled}
 use Rattle.model.specs.Registers.{admissible}
 use Rattle.model.specs.Parts.{made, lent}
-use Rattle.stack.proofs.Frames.{held-by}
+use Rattle.stack.proofs.PushPopRegisters.{held-by}
 use Rattle.stack.proofs.Judged.{granted, denied, passed, failed, lost-by, missing-by}
-use Rattle.stack.proofs.Outcomes.{push-one, push-two, push-six, push-done}
+use Rattle.stack.proofs.PushPopAnswers.{push-one, push-two, push-six, push-done}
 use borrow.Author.Needs.{needs}
 use Rattle.stack.proofs.frame.push_frame.Statement.{statement}
 use Rattle.stack.proofs.frame.push_frame.Tie as tie
@@ -105,7 +105,7 @@ returns-4 c =
     let s = made (a .general .now) (a .special .now) (a .pc) halt (a .marks) in
     push-done (lent (a .base) (a .window .now)) s (a .x)
     (admitted (judged .before .before .before) (a .pc) halt) (windowed judged)
-    _ (c .before .before .before .before .before .before .before .before .before .before .before .hole-of .ensures .0 s refl refl) _ _ (passed _ _ _ _ _ (c .before .before .before .before .before .before .before .before .before .run-refusal .ensures) (c .before .before .before .before .before .before .before .before .if3 .left) (omega arith))
+    _ (c .before .before .before .before .before .before .before .before .before .before .before .hole-of .ensures .0 s refl refl) _ _ (passed (lent (a .base) (a .window .now)) _ _ _ _ (c .before .before .before .before .before .before .before .before .before .run-refusal .ensures) (c .before .before .before .before .before .before .before .before .if3 .left) (omega arith))
     (c .before .before .before .before .before .store-frame .ensures (a .special .now) (a .pc) halt (a .marks)) (c .enter .ensures halt (a .marks))
 
 pub push-frame-spec : {M : Type 1} → statement M

@@ -4,7 +4,7 @@ use native.Mathlib.Omega.{arith}
 use Prim.Native.Nat.{_+_}
 use Rattle.model.specs.Frames.{framed}
 use Rattle.model.specs.Parts.{made, lent}
-use Rattle.stack.proofs.Frames.{framed-hole, locals-stored, store-next}
+use Rattle.stack.proofs.PushPopRegisters.{framed-hole, locals-stored, store-next}
 use borrow.Author.Needs.{needs}
 use Rattle.stack.proofs.frame.store_frame.Statement.{statement}
 use Rattle.stack.proofs.frame.store_frame.Tie as tie

@@ -7,7 +7,7 @@ use Rattle.model.specs.Plan.{worst}
 use Rattle.model.specs.Step.{refusing}
 use Rattle.model.specs.Parts.{lent}
 use Rattle.stack.proofs.Judged.{lost-by, missing-by}
-use Rattle.stack.proofs.Places.{told-count, way-lost, way-threshold, way-status, way-outside, way-excess, way-short, way-found}
+use Rattle.stack.proofs.ContextPlaces.{told-count, way-lost, way-threshold, way-status, way-outside, way-excess, way-short, way-found}
 use Rattle.stack.proofs.layout.locate.Statement.{statement}
 use Rattle.stack.proofs.layout.locate.Tie as tie
 

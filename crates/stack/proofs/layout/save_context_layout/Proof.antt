@@ -4,7 +4,7 @@ use Rattle.model.specs.Memory.{shapesOf}
 use Rattle.model.specs.Plan.{worst}
 use Rattle.model.specs.Step.{refusing}
 use Rattle.model.specs.Parts.{lent}
-use Rattle.stack.proofs.Places.{layout-outside, layout-excess, layout-found}
+use Rattle.stack.proofs.ContextPlaces.{layout-outside, layout-excess, layout-found}
 use Rattle.stack.proofs.Judged.{lost-by, missing-by}
 use borrow.Author.Needs.{needs}
 use Rattle.stack.proofs.layout.save_context_layout.Statement.{statement}

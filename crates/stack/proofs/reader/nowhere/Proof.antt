@@ -1,6 +1,6 @@
 -- `nowhere` meets its contract: what it makes is the place at nothing.
 use mathlib.Core.Path.{refl}
-use Rattle.stack.specs.Context.{placed}
+use Rattle.stack.specs.SaveUnsave.{placed}
 use Rattle.stack.proofs.reader.nowhere.Statement.{statement}
 use Rattle.stack.proofs.reader.nowhere.Tie as tie
 

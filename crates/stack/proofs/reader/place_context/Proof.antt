@@ -3,8 +3,8 @@ use native.Mathlib.Omega.{arith}
 use borrow.Author.Needs.{needs}
 use Rattle.model.specs.Parts.{lent}
 use Rattle.stack.proofs.Judged.{granted, denied}
-use Rattle.stack.proofs.Turns.{Standing, stands-at}
-use Rattle.stack.proofs.Reading.{place-rule, place-part, place-bad, place-lost}
+use Rattle.stack.proofs.LocateAnswers.{Standing, stands-at}
+use Rattle.stack.proofs.ReaderAnswers.{place-rule, place-part, place-bad, place-lost}
 use Rattle.stack.proofs.reader.place_context.Statement.{statement}
 use Rattle.stack.proofs.reader.place_context.Tie as tie
 

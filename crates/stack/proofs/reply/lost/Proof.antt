@@ -1,5 +1,5 @@
 -- `lost` meets its contract: 6 is the one number that refuses a run.
-use mathlib.Core.Path.{_≡_, sym, ap}
+use mathlib.Core.Path.{sym, ap}
 use Rattle.model.specs.Numbers.{replyOf}
 use Rattle.stack.proofs.reply.lost.Statement.{statement}
 use Rattle.stack.proofs.reply.lost.Tie as tie

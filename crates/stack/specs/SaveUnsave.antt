@@ -1,4 +1,4 @@
--- What save_context, unsave_context, save_context_layout, locate and read_context answer and leave.
+-- What save_context, unsave_context, save_context_layout, locate, place_context and read_context answer and leave.
 use Prim.Native.Nat.{ℕ, _+_, _-_, _%_, _^_, _≤_}
 use mathlib.Core.List.{List}
 use mathlib.Core.Path.{_≡_}
@@ -13,7 +13,7 @@ use Rattle.model.specs.Step.{refusing}
 use Rattle.model.specs.Reader.{readContext, bytesIn}
 use Rattle.model.specs.Numbers.{numberOf, replyOf}
 use Rattle.model.specs.Parts.{lent}
-use Rattle.stack.specs.Gives.{guardedOn, Gives}
+use Rattle.stack.specs.GivenBack.{guardedOn, Gives}
 use Rattle.model.specs.declared.State.{State}
 use Rattle.model.specs.declared.Reply.{Reply}
 use Rattle.stack.specs.declared.layout.SavedContext.{SavedContext}
@@ -38,19 +38,33 @@ SaveGives w s x r t v = Gives (saveOf w s x) s r t v
 abbrev pub UnsaveGives : Windows → State → ℕ → Reply → State → Type 0
 UnsaveGives w s p r t = Gives (unsaveOf w s p) s r t w
 
+-- a context of l locals and threshold g: how many octabytes it has, the number of its packed octabyte, and how many specials
+abbrev pub contextOctas : ℕ → ℕ → ℕ
+contextOctas g l = l + 270 - g
+
+abbrev pub packedAt : ℕ → ℕ → ℕ
+packedAt g l = l + 269 - g
+
+abbrev pub contextSpecials : ℕ
+contextSpecials = 12
+
+-- where its count is, below its packed octabyte at p
+abbrev pub countBelow : ℕ → ℕ → ℕ
+countBelow p g = below p (269 - g)
+
 -- the parts of a context below its packed octabyte at p, for a threshold g and l locals
 unfoldable pub layoutAt : ℕ → ℕ → ℕ → SaveContextLayout
 layoutAt p g l = record {
-  «specials_base» = below p 12 % 2 ^ 64;
+  «specials_base» = below p contextSpecials % 2 ^ 64;
   «globals_base» = below p (268 - g) % 2 ^ 64;
   «global_count» = 256 - g;
   «local_count» = l;
-  «locals_base» = below p (l + 269 - g) % 2 ^ 64;
+  «locals_base» = below p (packedAt g l) % 2 ^ 64;
 }
 
 -- the number of the local count below p: 6 where it is missing, 16 where it is above g, compared at full width
 unfoldable pub countReply : Windows → ℕ → ℕ → ℕ
-countReply w p g = cond (inside (shapesOf w) (below p (269 - g))) (cond (leb (look both w (below p (269 - g))) g) 0 16) 6
+countReply w p g = cond (inside (shapesOf w) (countBelow p g)) (cond (leb (look both w (countBelow p g)) g) 0 16) 6
 
 -- 01's number of each case
 unfoldable pub layoutNumber : Layout → ℕ
@@ -63,7 +77,7 @@ unfoldable pub layoutAnswer : ℕ → ℕ → ℕ → ℕ → Layout
 layoutAnswer p g l n = cond (eqb n 0) (layout.Found (layoutAt p g l)) (cond (eqb n 16) (layout.Excess l) (layout.Outside (replyOf n)))
 
 pub record LayoutIs (w : Windows) (p g : ℕ) (r : Layout) : Type 0 where
-  pub answer-is : r ≡ layoutAnswer p g (look both w (below p (269 - g))) (countReply w p g)
+  pub answer-is : r ≡ layoutAnswer p g (look both w (countBelow p g)) (countReply w p g)
   pub number-is : layoutNumber r ≡ countReply w p g
 
 -- where a context is: its first local's address, rG, rA and local count; all 0 where it is refused

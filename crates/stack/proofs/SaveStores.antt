@@ -1,5 +1,6 @@
--- Laws of SAVE: stores one after another are the whole run of a context's octabytes, and what the registers are after it.
-use mathlib.Core.Path.{_≡_, refl, sym, ap, _∙_}
+-- Laws of SAVE: a run that goes on, stores one after another as the whole run of a context's octabytes, and the registers after it.
+-- What is answered is in SaveUnsaveAnswers.
+use mathlib.Core.Path.{_≡_, sym, ap, _∙_}
 use mathlib.Core.List.{List}
 use Prim.Native.Nat.{ℕ, _+_, _-_, _*_, _%_, _^_, _≤_, _<_, min}
 use native.Mathlib.Omega.{arith}
@@ -16,8 +17,8 @@ use Rattle.model.specs.declared.State.{State}
 use Rattle.model.proofs.AdmissibleKept.{Adm}
 use Rattle.model.proofs.SaveUnsave.{saved-local, saved-count, saved-global, saved-twelve, saved-packed}
 use Rattle.machine.specs.Octas.{writtenOcta, writtenRun, writtenRange}
-use Rattle.machine.proofs.Octas.{puts-tab, puts-run}
-use Rattle.stack.specs.Work.{Ranged, StoresContext, leftGeneral, leftSpecial}
+use Rattle.machine.proofs.Octas.{puts-none, puts-tab, puts-run}
+use Rattle.stack.specs.ContextWork.{Ranged, StoresContext, leftGeneral, leftSpecial}
 
 -- ---- a run that goes on
 
@@ -33,10 +34,6 @@ ranged-run : (v u : Windows) (addr from to n : ℕ) (general : List ℕ) → u �
     → u ≡ writtenRun v addr n (λ i. getD general (from + i) 0)
 unfolding writtenRange
 ranged-run v u addr from to n general e d = e ∙ rw d
-
-none-put : (w : Windows) (o : ℕ) (f : ℕ → ℕ) → w ≡ puts both w o (tab 0 0 f)
-unfolding puts tab
-none-put w o f = refl
 
 -- ---- the context
 
@@ -56,7 +53,7 @@ module _ (s : State) (b : Adm s) (w w1 w2 w3 w4 w5 : Windows) (marker globals sp
       let lg : sp s rL ≤ sp s rG = b .l-g in
       let gh : sp s rG ≤ 255 = b .g-high in
       let f1 : w1 ≡ puts both w (sp s rO) (tab 0 (sp s rL) (saved s))
-      = continued w w w1 (sp s rO) (sp s rO) 0 (extent s) (sp s rL) (sp s rL) (saved s) _ (ranged-run w w1 (sp s rO) 0 (sp s rL) (sp s rL) (s .general) c1 (omega arith)) (omega arith) (none-put w (sp s rO) (saved s)) (omega arith) (omega arith) pass locals in
+      = continued w w w1 (sp s rO) (sp s rO) 0 (extent s) (sp s rL) (sp s rL) (saved s) _ (ranged-run w w1 (sp s rO) 0 (sp s rL) (sp s rL) (s .general) c1 (omega arith)) (omega arith) (sym (puts-none w (sp s rO) (saved s))) (omega arith) (omega arith) pass locals in
       let f2 : w2 ≡ puts both w (sp s rO) (tab 0 (sp s rL + 1) (saved s))
       = single w1 w2 (sp s rL) marker (sp s rL) pass (omega arith) em f1 e2 (sym (saved-count s b)) in
       let f3 : w3 ≡ puts both w (sp s rO) (tab 0 (sp s rL + 257 - sp s rG) (saved s))

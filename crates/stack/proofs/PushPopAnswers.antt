@@ -1,4 +1,5 @@
--- What PUSH and POP answer and leave, for each way out of the code: 1, 2, the octabytes that are there, those that are not.
+-- What PUSH and POP answer and leave, for each way out of the code: 1, 2, the octabytes that are there, those that are not. What the
+-- registers are is in PushPopRegisters.
 use mathlib.Core.Path.{_≡_, refl, sym, ap, _∙_}
 use mathlib.Core.Bool.{true, false}
 use mathlib.Core.List.{List, []}
@@ -23,8 +24,8 @@ use Rattle.model.proofs.Entry.{performOn, Inside, said}
 use Rattle.model.proofs.PushPop.{called, push-is}
 use Rattle.machine.specs.Octas.{readOcta}
 use Rattle.machine.proofs.Octas.{run-read}
-use Rattle.stack.specs.Gives.{Gives}
-use Rattle.stack.specs.Frame.{pushOf, popOf, popNumber, popAnswer, PopGives}
+use Rattle.stack.specs.GivenBack.{Gives}
+use Rattle.stack.specs.PushPop.{pushOf, popOf, popNumber, popAnswer, PopGives}
 use Rattle.stack.specs.declared.frame.PopFrame.{PopFrame}
 use Rattle.stack.specs.declared.frame.PopFrame.the-variants.{Frame, NoFrame, Rejected, Missing, NotAdmissible, WindowRule}
 use Rattle.stack.proofs.Judged.{ended, guarded-one, guarded-two, guarded-open, read-lacks, store-lacks}

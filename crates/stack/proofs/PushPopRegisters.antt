@@ -1,7 +1,8 @@
--- What code does to registers and window for PUSH and POP is what the definitions do, from the facts that its calls leave.
+-- What code does to registers and window for PUSH and POP is what the definitions do, from the facts that its calls leave: what judging
+-- gives, PUSH, POP. What is answered is in PushPopAnswers.
 use mathlib.Core.Path.{_≡_, refl, sym, ap, _∙_}
 use mathlib.Core.Logic.{⊎-elim}
-use mathlib.Core.Bool.{Bool, true, false, not}
+use mathlib.Core.Bool.{true, false}
 use mathlib.Core.List.{List}
 use Prim.Native.Nat.{ℕ, _+_, _-_, _*_, _%_, _^_, _≤_, _<_, min}
 use native.Mathlib.Nat.{eq-or-lt-of-le}
@@ -25,8 +26,9 @@ use Rattle.model.proofs.Runs.{getD-looks}
 use Rattle.model.proofs.AdmissibleKept.{adm, spec-other}
 use Rattle.machine.specs.Octas.{readOcta, writtenOcta, writtenRange}
 use Rattle.machine.proofs.Octas.{puts-none, puts-tab, puts-run, run-read}
-use Rattle.stack.specs.Frame.{Held, Placed, bottomOf, restoredBy}
-use Rattle.stack.proofs.Spans.{over-before, over-alike}
+use Rattle.stack.specs.PushPop.{Held, Placed, bottomOf, restoredBy}
+use Rattle.stack.proofs.Judged.{granted}
+use Rattle.stack.proofs.SlidRanges.{over-before, over-alike}
 
 -- ---- what judging gives
 
@@ -40,13 +42,9 @@ held-by s a =
       l-g = f .l-g;
     }
 
-not-false : (t : Bool) → not t ≡ false → t ≡ true
-not-false true e = refl
-not-false false e = sym e
-
 pub placed-by : (s : State) → stackStart < sp s rO → misplaced s ≡ false → Placed (s .special)
 unfolding misplaced
-placed-by s a m = record { above = a; beneath = ltb-true _ _ (and-right (eqb (sp s rO % 8) 0) _ (not-false _ m)) }
+placed-by s a m = record { above = a; beneath = ltb-true _ _ (and-right (eqb (sp s rO % 8) 0) _ (granted _ _ refl m)) }
 
 -- ---- PUSH
 

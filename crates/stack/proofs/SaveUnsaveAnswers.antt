@@ -1,8 +1,9 @@
--- The ways out of save_context and unsave_context: each is what the guarded plan gives, PC apart.
+-- The ways out of save_context and unsave_context, in that order: each is what the guarded plan gives, PC apart. What SAVE stores is in
+-- SaveStores, what UNSAVE loads in UnsaveLoads, what `locate` tells in LocateAnswers.
 use mathlib.Core.Path.{_≡_, refl, sym, ap, _∙_}
 use mathlib.Core.Bool.{true, false}
 use mathlib.Core.List.{List}
-use Prim.Native.Nat.{ℕ, _+_, _-_, _≤_, _<_}
+use Prim.Native.Nat.{ℕ, _-_, _≤_, _<_}
 use lib.Dec.{eqb}
 use borrow.Author.Tests.{lt-ltb, le-ltb, eq-eqb, ne-eqb}
 use Rattle.model.specs.Fill.{tab}
@@ -22,14 +23,14 @@ use Rattle.model.proofs.ArmAnswers.{worst-six}
 use Rattle.model.proofs.Runs.{length-tab}
 use Rattle.model.proofs.Numbers.{numbered}
 use Rattle.model.proofs.Entry.{performOn, Inside, said}
-use Rattle.stack.specs.Gives.{Gives}
-use Rattle.stack.specs.Context.{saveOf, unsaveOf, UnsaveGives, LocatedIs}
-use Rattle.stack.specs.Work.{Ranged, StoresContext, unsavedAs}
+use Rattle.stack.specs.GivenBack.{Gives}
+use Rattle.stack.specs.SaveUnsave.{saveOf, unsaveOf, UnsaveGives, LocatedIs}
+use Rattle.stack.specs.ContextWork.{Ranged, StoresContext, unsavedAs}
 use Rattle.stack.specs.declared.layout.SavedContext.{SavedContext}
 use Rattle.stack.specs.declared.layout.Located.{Located}
 use Rattle.stack.specs.declared.layout.Located.the-variants.{Found, Bad, Lost}
 use Rattle.stack.proofs.Judged.{guarded-one, guarded-two, guarded-open}
-use Rattle.stack.proofs.Turns.{comes}
+use Rattle.stack.proofs.LocateAnswers.{comes}
 
 -- the bounds of an admissible state
 pub ranged : (general special : List ℕ) (pc halt marks : ℕ) → admissible (made general special pc halt marks) ≡ true → Ranged special

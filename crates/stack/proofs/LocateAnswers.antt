@@ -1,4 +1,5 @@
--- One context plan for two kinds of state: what `locate` found of it is what UNSAVE or the reader makes of it.
+-- One context plan for two kinds of state: what `locate` answered of it is what UNSAVE or the reader makes of it. First the two plans side
+-- by side, then what comes of each answer.
 use mathlib.Core.Path.{_≡_, refl, ap, _∙_}
 use mathlib.Core.Bool.{_&&_}
 use mathlib.Core.List.{List, []}
@@ -19,13 +20,13 @@ use Rattle.model.proofs.Bools.{on-both, and-right}
 use Rattle.model.proofs.ArmAnswers.{worst-six}
 use Rattle.model.proofs.SaveUnsave.{octasOf}
 use Rattle.model.proofs.Entry.{performOn, Inside}
-use Rattle.stack.specs.Context.{spot, locatedOf, locatedAnswer, LocatedIs}
-use Rattle.stack.specs.Work.{octasFrom}
+use Rattle.stack.specs.SaveUnsave.{spot, locatedOf, locatedAnswer, LocatedIs}
+use Rattle.stack.specs.ContextWork.{octasFrom}
 use Rattle.stack.specs.declared.layout.SavedContext.{SavedContext}
 use Rattle.stack.specs.declared.layout.Located.{Located}
 use Rattle.stack.specs.declared.layout.Located.the-variants.{Found, Bad, Lost}
-use Rattle.stack.proofs.Loads.{octas-are}
-use Rattle.stack.proofs.Places.{run-back}
+use Rattle.stack.proofs.UnsaveLoads.{octas-are}
+use Rattle.stack.proofs.ContextPlaces.{run-back}
 
 -- the outcome o of a plan and the outcome of the same plan that only locates
 pub data Turns {S : Type 0} (w : Windows) (p : ℕ) (s bad : S) (found : ℕ → ℕ → ℕ → ℕ → List ℕ → S) : Outcome S Windows → Outcome SavedContext Windows → Type 0 where

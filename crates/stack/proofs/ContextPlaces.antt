@@ -1,5 +1,5 @@
--- Where a context is: the stages 6, 14, 15, 6, 16, 6 as code goes through them, and what a context that code has located is to
--- UNSAVE and to the reader.
+-- Where a context is: an octabyte at an address modulo 2^64, the layout, the stages 6, 14, 15, 6, 16, 6 as code goes through them, what a
+-- layout tells, and the ways out of `locate`. What UNSAVE and the reader make of its answer is in LocateAnswers.
 use mathlib.Core.Path.{_≡_, refl, sym, ap, subst, _∙_}
 use mathlib.Core.Bool.{true, false}
 use mathlib.Core.List.{List, []}
@@ -9,7 +9,7 @@ use lib.Dec.{leb, eqb}
 use lib.ListN.{getD}
 use borrow.Author.Tests.{leb-true, leb-false, le-leb, lt-leb, ne-eqb}
 use Rattle.model.specs.Memory.{Windows, shapesOf, inside, both}
-use Rattle.model.specs.Plan.{Plan, answer, read, Outcome, perform, worst, named, look}
+use Rattle.model.specs.Plan.{Plan, answer, read, perform, worst, named, look}
 use Rattle.model.specs.Contexts.{below, contextRest, contextCount, contextAt}
 use Rattle.model.specs.Step.{refusing}
 use Rattle.model.specs.Numbers.{numberOf, replyOf}
@@ -23,9 +23,8 @@ use Rattle.model.proofs.SaveUnsave.{refusing-mod, looked, Context, context-foun
 use Rattle.model.proofs.Entry.{performOn, Inside, said, inside-judged}
 use Rattle.machine.specs.Octas.{readOcta}
 use Rattle.machine.proofs.Octas.{passed-has, missed-has, read-in, read-mod}
-use Rattle.machine.proofs.Spans.{run-one}
-use Rattle.stack.specs.Context.{layoutAt, countReply, layoutNumber, layoutAnswer, LayoutIs, spot, locatedOf, locatedNumber, locatedAnswer, LocatedIs}
-use Rattle.stack.specs.declared.layout.Located.{Located}
+use Rattle.machine.proofs.RunTest.{run-one}
+use Rattle.stack.specs.SaveUnsave.{layoutAt, countReply, layoutNumber, layoutAnswer, LayoutIs, spot, locatedOf, locatedNumber, locatedAnswer, LocatedIs}
 use Rattle.stack.specs.declared.layout.Layout.{Layout}
 use Rattle.stack.specs.declared.layout.Layout.the-variants.{Excess, Outside}
 use Rattle.stack.specs.declared.layout.Layout.the-variants as layout

@@ -1,4 +1,4 @@
--- What push_frame and pop_frame answer and leave.
+-- What push_frame and pop_frame answer and leave, and what their private functions go by.
 use Prim.Native.Nat.{ℕ, _+_, _-_, _*_, _%_, _^_, _≤_, _<_, min}
 use mathlib.Core.Path.{_≡_}
 use mathlib.Core.Bool.{true, false, cond}
@@ -10,7 +10,7 @@ use Rattle.model.specs.Plan.{Outcome, looks}
 use Rattle.model.specs.Registers.{rJ, rO, rG, rL, stackStart, sp, admissible, goes}
 use Rattle.model.specs.Frames.{hole, pushFrame, noFrame, misplaced, popped, popFrame}
 use Rattle.machine.specs.Octas.{readOcta}
-use Rattle.stack.specs.Gives.{guardedOn, Gives}
+use Rattle.stack.specs.GivenBack.{guardedOn, Gives}
 use Rattle.model.specs.declared.State.{State}
 use Rattle.model.specs.declared.Reply.{Reply}
 use Rattle.stack.specs.declared.frame.PopFrame.{PopFrame}

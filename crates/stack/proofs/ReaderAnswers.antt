@@ -1,4 +1,4 @@
--- The ways out of place_context: each answers the part that the reader's plan says, and its reply.
+-- The ways out of place_context: each answers the part that the reader's plan says, and its reply. What `locate` tells is in LocateAnswers.
 use mathlib.Core.Path.{_≡_, refl, sym, _∙_}
 use mathlib.Core.Bool.{true, false}
 use mathlib.Core.List.{List}
@@ -15,14 +15,14 @@ use Rattle.model.specs.declared.Reply.the-variants.{Done, WindowRule}
 use Rattle.model.proofs.Numbers.{numbered}
 use Rattle.model.proofs.Entry.{performOn}
 use Rattle.model.proofs.Reader.{reader-open}
-use Rattle.machine.proofs.Spans.{run-end}
-use Rattle.stack.specs.Context.{LocatedIs, placed, PlaceIs}
-use Rattle.stack.specs.Work.{octasFrom}
+use Rattle.machine.proofs.RunTest.{run-end}
+use Rattle.stack.specs.SaveUnsave.{LocatedIs, placed, PlaceIs}
+use Rattle.stack.specs.ContextWork.{octasFrom}
 use Rattle.stack.specs.declared.layout.SavedContext.{SavedContext}
 use Rattle.stack.specs.declared.layout.Located.{Located}
 use Rattle.stack.specs.declared.layout.Located.the-variants.{Found, Bad, Lost}
 use Rattle.stack.specs.declared.reader.Place.{Place}
-use Rattle.stack.proofs.Turns.{Standing, stands-at, Comes, comes}
+use Rattle.stack.proofs.LocateAnswers.{Standing, stands-at, Comes, comes}
 
 by-outcome : (w : Windows) (p n : ℕ) (q : Part) (r : Reply) → r ≡ replyOf n → numberOf r ≡ n → q .start + q .size ≤ length (w .bytes)
     → readContext w p ≡ record { reply = n; state = q; memory = w } → PlaceIs w p (placed r (q .start) (q .size))
