@@ -19,7 +19,7 @@ use Rattle.model.specs.declared.Reply.{Reply}
 use Rattle.model.specs.declared.Reply.the-variants.{Done}
 use Rattle.model.proofs.Entry.{performOn, step-open}
 use Rattle.model.proofs.StepByArm.{step-told}
-use Rattle.stack.specs.Gives.{guardedOn}
+use Rattle.stack.specs.GivenBack.{guardedOn}
 use Rattle.stack.proofs.Judged.{guarded-open}
 use Rattle.instruction.specs.Whole.{Whole}
 use Rattle.instruction.specs.Arms.{Controls, lastOf, branchOf}

@@ -24,7 +24,7 @@ use Rattle.model.proofs.ArmAnswers.{Answers, context-meets, perform-meets}
 use Rattle.model.proofs.ItemInvariant.{Any}
 use Rattle.model.proofs.StepByArm.{sent, backTo, save-sent, unsave-sent}
 use Rattle.model.specs.Step.{unruledBy, guarded}
-use Rattle.stack.specs.Gives.{guardedOn, Gives}
+use Rattle.stack.specs.GivenBack.{guardedOn, Gives}
 use Rattle.instruction.specs.Whole.{Whole}
 use Rattle.instruction.proofs.Sends.{unruled-most}
 use Rattle.instruction.proofs.Tells.{refusals, tag-is}

@@ -24,8 +24,8 @@ use Rattle.model.proofs.Entry.{performOn, said}
 use Rattle.model.proofs.ItemInvariant.{Any}
 use Rattle.model.proofs.ArmAnswers.{Answers, perform-meets}
 use Rattle.model.proofs.StepByArm.{sent, push-sent, pop-sent}
-use Rattle.stack.specs.Gives.{guardedOn, Gives}
-use Rattle.stack.specs.Frame.{pushOf, popOf, returnTo, popNumber, popAnswer, PopGives}
+use Rattle.stack.specs.GivenBack.{guardedOn, Gives}
+use Rattle.stack.specs.PushPop.{pushOf, popOf, returnTo, popNumber, popAnswer, PopGives}
 use Rattle.stack.specs.declared.frame.PopFrame.{PopFrame}
 use Rattle.stack.specs.declared.frame.PopFrame.the-variants.{Frame, NoFrame, Rejected, Missing, NotAdmissible, WindowRule}
 use Rattle.instruction.specs.Whole.{Whole}

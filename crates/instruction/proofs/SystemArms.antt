@@ -20,7 +20,7 @@ use Rattle.model.specs.declared.Reply.{Reply}
 use Rattle.model.proofs.Bools.{on}
 use Rattle.model.proofs.Entry.{step-open}
 use Rattle.model.proofs.StepByArm.{step-told, step-refused}
-use Rattle.stack.specs.Gives.{guardedOn}
+use Rattle.stack.specs.GivenBack.{guardedOn}
 use Rattle.stack.proofs.Judged.{guarded-open}
 use Rattle.instruction.specs.Told.{getOf, tripOf, trapStep, Told}
 use Rattle.instruction.specs.Whole.{Whole}

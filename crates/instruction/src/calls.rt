@@ -5,7 +5,7 @@ ghost use Rattle.model.specs.Registers.{rJ, sp};
 ghost use Rattle.model.specs.Control.{yzOf};
 ghost use Rattle.model.specs.Frames.{hole, pushFrame, popFrame};
 ghost use Rattle.model.specs.Parts.{made, lent};
-ghost use Rattle.stack.specs.Gives.{guardedOn};
+ghost use Rattle.stack.specs.GivenBack.{guardedOn};
 ghost use Rattle.instruction.specs.Whole.{Whole};
 use model::Reply;
 use model::State;

@@ -2,7 +2,7 @@
 // @ + 4 where that is done. Each judges 1 and 2, as the stack does.
 ghost use Rattle.model.specs.Contexts.{saveContext, unsaveContext};
 ghost use Rattle.model.specs.Parts.{made, lent};
-ghost use Rattle.stack.specs.Gives.{guardedOn};
+ghost use Rattle.stack.specs.GivenBack.{guardedOn};
 ghost use Rattle.instruction.specs.Whole.{Whole};
 use model::Reply;
 

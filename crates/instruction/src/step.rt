@@ -10,7 +10,7 @@ ghost use Rattle.model.specs.Control.{near, sumOf};
 ghost use Rattle.model.specs.Frames.{hole, pushFrame};
 ghost use Rattle.model.specs.Parts.{made, lent};
 ghost use Rattle.model.specs.Step.{stepOf};
-ghost use Rattle.stack.specs.Gives.{guardedOn};
+ghost use Rattle.stack.specs.GivenBack.{guardedOn};
 ghost use Rattle.instruction.specs.Whole.{Whole};
 ghost use Rattle.instruction.specs.Arms.{Controls, lastOf, branchOf};
 use model::Reply;

@@ -10,7 +10,7 @@ ghost use Rattle.model.specs.System.{putSpecial};
 ghost use Rattle.model.specs.Contexts.{unsaveContext};
 ghost use Rattle.model.specs.Step.{stepOf};
 ghost use Rattle.model.specs.Parts.{made, lent};
-ghost use Rattle.stack.specs.Gives.{guardedOn};
+ghost use Rattle.stack.specs.GivenBack.{guardedOn};
 ghost use Rattle.instruction.specs.Told.{Told};
 ghost use Rattle.instruction.specs.Whole.{Whole};
 ghost use Rattle.instruction.specs.Groups.{isSystem};

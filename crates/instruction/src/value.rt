@@ -18,29 +18,7 @@ pub struct Outcome {
 pub fn number_of(reply: Reply) -> u64
     ensures { λ r. ⌜ r ≡ numberOf reply ⌝ }
 {
-    match reply {
-        Reply::Done => 0,
-        Reply::NotAdmissible => 1,
-        Reply::WindowRule => 2,
-        Reply::NoArm => 3,
-        Reply::NamedTrap => 4,
-        Reply::NoSpecial => 5,
-        Reply::Missing => 6,
-        Reply::PutUnknown => 7,
-        Reply::PutPrivileged => 8,
-        Reply::PutIllegal => 9,
-        Reply::PutThreshold => 10,
-        Reply::PutStatus => 11,
-        Reply::Misplaced => 12,
-        Reply::SaveLocal => 13,
-        Reply::SavedThreshold => 14,
-        Reply::SavedStatus => 15,
-        Reply::SavedCount => 16,
-        Reply::SyncPrivileged => 17,
-        Reply::SyncIllegal => 18,
-        Reply::NotLoaded => 19,
-        Reply::Trapped => 20,
-    }
+    stack::reply::number_of(reply)
 }
 
 /// One exception on a state by value.

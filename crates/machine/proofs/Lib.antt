@@ -1,6 +1,6 @@
 -- The laws of this crate's definitions, for its proofs and for those of the crates above it.
-pub mod Ranges
-pub mod Spans
+pub mod RegisterRanges
+pub mod RunTest
 pub mod Octas
-pub mod Puts
+pub mod PutRegisters
 pub mod OctabyteRuns

@@ -1,25 +1,25 @@
--- Laws of the octabytes of a window: what a read and a write of one are, inside and outside; addresses modulo 2^64; and a list written
--- octabyte by octabyte.
+-- Laws of the octabytes of a window: what a read and a write of one are, inside and outside; addresses modulo 2^64; a list written
+-- octabyte by octabyte; and a run written by a loop. The test of a run is in RunTest.
 use mathlib.Core.Path.{_≡_, refl, sym, ap, _∙_}
 use mathlib.Core.Bool.{Bool, true, false, cond}
 use mathlib.Core.List.{List, [], _∷_, _++_}
-use Prim.Native.Nat.{ℕ, zero, suc, _+_, _*_, _%_, _^_, _≤_, _<_}
+use Prim.Native.Nat.{ℕ, zero, suc, _+_, _-_, _*_, _%_, _^_, _≤_, _<_}
 use native.Mathlib.Numerals.{add-one}
 use native.Mathlib.Omega.{arith}
-use lib.ListN.{length, getD, take}
-use lib.Seq.{take-suc, length-take-le}
+use lib.ListN.{length}
 use borrow.Author.Tests.{leb-true}
 use Rattle.model.specs.Fill.{tab}
 use Rattle.model.specs.Octa.{part, written, valueOf, bytesOf}
 use Rattle.model.specs.Memory.{Window, Shape, shapeOf, offset, has, octaBytes, writeOcta, one}
-use Rattle.model.specs.Plan.{worst, look, looks, puts}
+use Rattle.model.specs.Plan.{worst, look, puts}
 use Rattle.model.specs.Step.{refusing}
 use Rattle.model.specs.Parts.{lent}
 use Rattle.model.proofs.Memory.{write-shape, has-octa, one-lawful}
 use Rattle.model.proofs.Plan.{puts-more}
-use Rattle.model.proofs.Runs.{octa-mod, worst-of, length-tab, getD-looks, look-mod}
-use Rattle.machine.specs.Octas.{readOcta, writtenOcta}
-use Rattle.machine.proofs.Spans.{run-one}
+use Rattle.model.proofs.SaveUnsave.{further}
+use Rattle.model.proofs.Runs.{octa-mod, worst-of, length-tab, look-mod}
+use Rattle.machine.specs.Octas.{readOcta, writtenOcta, writtenRun}
+use Rattle.machine.proofs.RunTest.{run-one}
 
 -- ---- one octabyte
 
@@ -125,9 +125,6 @@ module _ (w : Window) (a n : ℕ) (pass : worst (refusing (shapeOf w)) a n ≡ 0
   pub run-read : readOcta w at ≡ look one w (a + 8 * i)
   run-read = read-mod w at (a + 8 * i) e ∙ read-in w (a + 8 * i) (worst-of (refusing (shapeOf w)) n a i pass l)
 
-  pub run-looks : readOcta w at ≡ getD (looks one w a n) i 0
-  run-looks = run-read ∙ sym (getD-looks one one-lawful n w a i l)
-
   pub run-written : (v : ℕ) → writtenOcta w at v ≡ writeOcta w (a + 8 * i) v
   run-written v = written-mod w at (a + 8 * i) e v ∙ written-in w (a + 8 * i) v (worst-of (refusing (shapeOf w)) n a i pass l)
 
@@ -138,24 +135,10 @@ unfolding puts one
 puts-shape w a [] = refl
 puts-shape w a (v ∷ vs) = puts-shape (writeOcta w a v) (a + 8) vs ∙ write-shape w a v
 
-pub puts-length : (base : ℕ) (l m : List ℕ) (a : ℕ) (vs : List ℕ) → lent base m ≡ puts one (lent base l) a vs → length m ≡ length l
-puts-length base l m a vs e = same-size base l m _ e (puts-shape (lent base l) a vs)
-
 -- where a loop starts
 pub puts-none : (w : Window) (a : ℕ) (f : ℕ → ℕ) → puts one w a (tab 0 0 f) ≡ w
 unfolding puts tab
 puts-none w a f = refl
-
-pub puts-start : (w : Window) (a : ℕ) (vs : List ℕ) → puts one w a (take 0 vs) ≡ w
-unfolding puts
-puts-start w a vs = refl
-
-pub puts-mod : (w : Window) (a b : ℕ) (vs : List ℕ) → a % 2 ^ 64 ≡ b % 2 ^ 64 → puts one w a vs ≡ puts one w b vs
-unfolding puts one
-puts-mod w a b [] e = refl
-puts-mod w a b (v ∷ vs) e =
-    let next : (a + 8) % 2 ^ 64 ≡ (b + 8) % 2 ^ 64 = omega arith in
-    ap (λ (u : Window). puts one u (a + 8) vs) (write-mod w a b e v) ∙ puts-mod (writeOcta w b v) (a + 8) (b + 8) vs next
 
 tab-more : (n i : ℕ) (f : ℕ → ℕ) → tab i (suc n) f ≡ tab i n f ++ (f (i + n) ∷ [])
 unfolding tab
@@ -171,14 +154,38 @@ module _ (w : Window) (a n : ℕ) (pass : worst (refusing (shapeOf w)) a n ≡ 0
       ∙ ap (λ (k : ℕ). writeOcta (puts one w a vs) (a + 8 * k) v) (sym d)
       ∙ sym (puts-more one w a vs v ∙ (unfold one in refl))
 
-  -- a turn of the loop that stores a list
-  pub puts-turn : (vs : List ℕ) → i < length vs → writtenOcta (puts one w a (take i vs)) at (getD vs i 0) ≡ puts one w a (take (i + 1) vs)
-  puts-turn vs h =
-      puts-next (take i vs) (getD vs i 0) (length-take-le i vs (omega arith))
-      ∙ ap (puts one w a) (sym (take-suc vs i 0 h) ∙ ap (λ (k : ℕ). take k vs) (sym (add-one i)))
-
   -- a turn of the loop that stores f 0, f 1, ..
   pub puts-tab : (f : ℕ → ℕ) (v : ℕ) → v ≡ f i → writtenOcta (puts one w a (tab 0 i f)) at v ≡ puts one w a (tab 0 (i + 1) f)
   puts-tab f v q =
       puts-next (tab 0 i f) v (length-tab i 0 f)
       ∙ ap (puts one w a) (ap (λ (x : ℕ). tab 0 i f ++ (x ∷ [])) q ∙ sym (tab-more i 0 f ∙ ap (λ (k : ℕ). tab 0 i f ++ (f k ∷ [])) (omega arith)) ∙ ap (λ (k : ℕ). tab 0 k f) (sym (add-one i)))
+
+-- ---- a run written
+
+pub run-none : (w : Window) (a n : ℕ) (f : ℕ → ℕ) → n ≡ 0 → w ≡ writtenRun w a n f
+unfolding writtenRun
+run-none w a n f e = rw e refl
+
+-- a turn of the loop that writes it: i counts from `from`, the address wraps
+pub run-more : (w u t : Window) (a from i at v : ℕ) (f : ℕ → ℕ) → from ≤ i → u ≡ writtenRun w a (i - from) f → at ≡ (a + 8 * (i - from)) % 2 ^ 64
+    → v ≡ f (i - from) → t ≡ writtenOcta u at v → t ≡ writtenRun w a (i + 1 - from) f
+unfolding writtenRun
+run-more w u t a from i at v f l eu ea ev et =
+    let count : i + 1 - from ≡ suc (i - from) = omega arith in
+    let same : at % 2 ^ 64 ≡ (a + 8 * (i - from)) % 2 ^ 64 = omega arith in
+    et ∙ written-mod u at (a + 8 * (i - from)) same v ∙ rw (eu, ev, count)
+
+-- a run written after the first k octabytes of a list that passes, which are these: the first k + n
+module _ (w : Window) (o k m : ℕ) (f : ℕ → ℕ) (pass : worst (refusing (shapeOf w)) o m ≡ 0) (v : Window) (e : v ≡ puts one w o (tab 0 k f)) where
+  pub puts-run : (a : ℕ) → a % 2 ^ 64 ≡ (o + 8 * k) % 2 ^ 64 → (g : ℕ → ℕ) (n : ℕ) → k + n ≤ m → ((i : ℕ) → i < n → g i ≡ f (k + i))
+      → writtenRun v a n g ≡ puts one w o (tab 0 (k + n) f)
+  unfolding writtenRun
+  puts-run a q g zero l h = e ∙ ap (λ (j : ℕ). puts one w o (tab 0 j f)) (omega arith)
+  puts-run a q g (suc n) l h =
+      let last : ℕ = (o + 8 * (k + n)) % 2 ^ 64 in
+      let same : (a + 8 * n) % 2 ^ 64 ≡ last % 2 ^ 64 = further o a k n q ∙ (omega arith) in
+      let count : k + n + 1 ≡ k + suc n = omega arith in
+      ap (λ (u : Window). writtenOcta u (a + 8 * n) (g n)) (puts-run a q g n (omega arith) (λ i b. h i (omega arith)))
+      ∙ written-mod (puts one w o (tab 0 (k + n) f)) (a + 8 * n) last same (g n)
+      ∙ puts-tab w o m pass (k + n) last (omega arith) refl f (g n) (h n (omega arith))
+      ∙ ap (λ (j : ℕ). puts one w o (tab 0 j f)) count

@@ -8,7 +8,10 @@ ghost use Rattle.model.specs.Memory.{shapeOf, ruled, offset};
 ghost use Rattle.model.specs.Plan.{worst};
 ghost use Rattle.model.specs.Step.{refusing};
 ghost use Rattle.model.specs.Parts.{lent};
-ghost use Rattle.machine.specs.Octas.{readOcta, writtenOcta};
+ghost use Rattle.machine.specs.Octas.{readOcta, writtenOcta, writtenRange};
+
+/// The longest window, in bytes.
+pub const WINDOW_MAX: usize = 65536;
 
 /// Whether length and base obey the window's rule.
 pub fn is_ruled(window: &[u8], base: u64) -> bool
@@ -21,7 +24,7 @@ pub fn is_ruled(window: &[u8], base: u64) -> bool
     if len % 8 != 0 {
         return false;
     }
-    if len <= 65536 {
+    if len <= WINDOW_MAX {
         return true;
     }
     false
@@ -122,7 +125,8 @@ pub fn write_octa(window: &mut [u8], base: u64, addr: u64, v: u64)
 
 /// The general registers from `from` up to, not including, `to` become the octabytes from `addr` up; there are 256, whatever `to` says.
 pub fn load_range(general: &mut [u64; 256], window: &[u8], base: u64, addr: u64, from: u64, to: u64)
-    ensures { λ _. ⌜ now (general .exit) ≡ over (λ (k : ℕ). readOcta (lent base (now (window .entry))) (addr + 8 * (k - from))) from to (now (general .entry)) ⌝ }
+    ensures { λ _. ⌜ now (general .exit)
+        ≡ over (λ (k : ℕ). readOcta (lent base (now (window .entry))) (addr + 8 * (k - from))) from to (now (general .entry)) ⌝ }
 {
     super::registers::of_256(*general);
     let end = super::number::least(to, 256);
@@ -131,6 +135,28 @@ pub fn load_range(general: &mut [u64; 256], window: &[u8], base: u64, addr: u64,
         let place = super::number::wrapping_add(addr, 8 * (i - from));
         let v = read_octa(window, base, place);
         general[i as usize] = v;
+        i += 1;
+    }
+}
+
+/// They go to the octabytes from `addr` up; those outside the window go nowhere.
+pub fn store_range(
+    general: &[u64; 256],
+    window: &mut [u8],
+    base: u64,
+    addr: u64,
+    from: u64,
+    to: u64,
+)
+    ensures { λ _. ⌜ lent base (now (window .exit)) ≡ writtenRange (lent base (now (window .entry))) addr from to (now (general .entry)) ⌝ }
+{
+    super::registers::of_256(*general);
+    let end = super::number::least(to, 256);
+    let mut i = from;
+    while i < end {
+        let place = super::number::wrapping_add(addr, 8 * (i - from));
+        let v = general[i as usize];
+        write_octa(window, base, place, v);
         i += 1;
     }
 }

@@ -12,6 +12,48 @@ ghost use Rattle.machine.specs.Put.{PutGives};
 use model::Reply;
 use model::State;
 
+/// rG is from the first to the second.
+pub const THRESHOLD_MIN: u64 = 32;
+
+pub const THRESHOLD_MAX: u64 = 255;
+
+/// The largest rA: 18 bits.
+pub const STATUS_MAX: u64 = 0x3FFFF;
+
+/// Marks of nine vectors are below this.
+const MARKS_END: u64 = 512;
+
+// The special registers that PUT tells apart, as it numbers them.
+const RC: u8 = State::RC as u8;
+
+const RN: u8 = State::RN as u8;
+
+const RO: u8 = State::RO as u8;
+
+const RS: u8 = State::RS as u8;
+
+const RI: u8 = State::RI as u8;
+
+const RT: u8 = State::RT as u8;
+
+const RTT: u8 = State::RTT as u8;
+
+const RK: u8 = State::RK as u8;
+
+const RQ: u8 = State::RQ as u8;
+
+const RU: u8 = State::RU as u8;
+
+const RV: u8 = State::RV as u8;
+
+const RG: u8 = State::RG as u8;
+
+const RL: u8 = State::RL as u8;
+
+const RA: u8 = State::RA as u8;
+
+const RZZ: u8 = State::RZZ as u8;
+
 /// Whether the registers and marks are those of an admissible state.
 pub fn admissible(special: &[u64; 32], marks: u64) -> bool
     ensures { λ r. ⌜ ((general : List ℕ) (pc halt : ℕ) → r ≡ admissible (made general (now (special .entry)) pc halt marks)) ⌝ }
@@ -19,19 +61,19 @@ pub fn admissible(special: &[u64; 32], marks: u64) -> bool
     let rg = special[State::RG];
     let rl = special[State::RL];
     let ra = special[State::RA];
-    if rg < 32 {
+    if rg < THRESHOLD_MIN {
         return false;
     }
-    if 255 < rg {
+    if THRESHOLD_MAX < rg {
         return false;
     }
     if rg < rl {
         return false;
     }
-    if 0x3FFFF < ra {
+    if STATUS_MAX < ra {
         return false;
     }
-    if marks < 512 {
+    if marks < MARKS_END {
         return true;
     }
     false
@@ -54,7 +96,8 @@ pub fn clear_range(general: &mut [u64; 256], from: u64, to: u64)
 
 /// $reg is to be written: a marginal one becomes local, and it and those down to rL become 0.
 pub fn claim_local(general: &mut [u64; 256], special: &mut [u64; 32], reg: u8)
-    ensures { λ _. ⌜ ((s : State) → withParts s (now (general .exit)) (now (special .exit)) ≡ claimLocal (withParts s (now (general .entry)) (now (special .entry))) reg) ⌝ }
+    ensures { λ _. ⌜ ((s : State) → withParts s (now (general .exit)) (now (special .exit))
+        ≡ claimLocal (withParts s (now (general .entry)) (now (special .entry))) reg) ⌝ }
 {
     let rg = special[State::RG];
     let rl = special[State::RL];
@@ -71,7 +114,8 @@ pub fn claim_local(general: &mut [u64; 256], special: &mut [u64; 32], reg: u8)
 
 /// $reg becomes v.
 pub fn set_register(general: &mut [u64; 256], special: &mut [u64; 32], reg: u8, v: u64)
-    ensures { λ _. ⌜ ((s : State) → withParts s (now (general .exit)) (now (special .exit)) ≡ setRegister (withParts s (now (general .entry)) (now (special .entry))) reg v) ⌝ }
+    ensures { λ _. ⌜ ((s : State) → withParts s (now (general .exit)) (now (special .exit))
+        ≡ setRegister (withParts s (now (general .entry)) (now (special .entry))) reg v) ⌝ }
 {
     claim_local(general, special, reg);
     general[reg as usize] = v;
@@ -79,7 +123,8 @@ pub fn set_register(general: &mut [u64; 256], special: &mut [u64; 32], reg: u8, 
 
 /// PUT rL: it is only ever lowered, and what is dropped becomes 0.
 pub fn put_rl(general: &mut [u64; 256], special: &mut [u64; 32], value: u64)
-    ensures { λ _. ⌜ ((s : State) → withParts s (now (general .exit)) (now (special .exit)) ≡ putLocals (withParts s (now (general .entry)) (now (special .entry))) value) ⌝ }
+    ensures { λ _. ⌜ ((s : State) → withParts s (now (general .exit)) (now (special .exit))
+        ≡ putLocals (withParts s (now (general .entry)) (now (special .entry))) value) ⌝ }
 {
     let rl = special[State::RL];
     let low = super::number::least(value, rl);
@@ -89,7 +134,8 @@ pub fn put_rl(general: &mut [u64; 256], special: &mut [u64; 32], value: u64)
 
 /// PUT rG of a value that it may have: what lies between the two thresholds becomes 0.
 pub fn put_rg(general: &mut [u64; 256], special: &mut [u64; 32], value: u64)
-    ensures { λ _. ⌜ ((s : State) → withParts s (now (general .exit)) (now (special .exit)) ≡ putGlobals (withParts s (now (general .entry)) (now (special .entry))) value) ⌝ }
+    ensures { λ _. ⌜ ((s : State) → withParts s (now (general .exit)) (now (special .exit))
+        ≡ putGlobals (withParts s (now (general .entry)) (now (special .entry))) value) ⌝ }
 {
     let rg = special[State::RG];
     let low = super::number::least(value, rg);
@@ -100,38 +146,39 @@ pub fn put_rg(general: &mut [u64; 256], special: &mut [u64; 32], value: u64)
 
 /// Special register x becomes `value`, or one of 7 to 11 and nothing changes. Neither PC nor halt code is its business.
 pub fn put_special(general: &mut [u64; 256], special: &mut [u64; 32], x: u8, value: u64) -> Reply
-    ensures { λ r. ⌜ ((s : State) → PutGives (withParts s (now (general .entry)) (now (special .entry))) x value r (withParts s (now (general .exit)) (now (special .exit)))) ⌝ }
+    ensures { λ r. ⌜ ((s : State) → PutGives (withParts s (now (general .entry)) (now (special .entry))) x value r
+        (withParts s (now (general .exit)) (now (special .exit)))) ⌝ }
 {
     match x {
-        8 | 12 | 13 | 14 | 15 | 16 | 17 | 18 => Reply::PutPrivileged,
-        9 | 10 | 11 => Reply::PutIllegal,
-        19 => {
+        RC | RI | RT | RTT | RK | RQ | RU | RV => Reply::PutPrivileged,
+        RN | RO | RS => Reply::PutIllegal,
+        RG => {
             let rl = special[State::RL];
-            if value < 32 {
+            if value < THRESHOLD_MIN {
                 return Reply::PutThreshold;
             }
             if value < rl {
                 return Reply::PutThreshold;
             }
-            if 255 < value {
+            if THRESHOLD_MAX < value {
                 return Reply::PutThreshold;
             }
             put_rg(general, special, value);
             Reply::Done
         }
-        20 => {
+        RL => {
             put_rl(general, special, value);
             Reply::Done
         }
-        21 => {
-            if 0x3FFFF < value {
+        RA => {
+            if STATUS_MAX < value {
                 return Reply::PutStatus;
             }
             special[State::RA] = value;
             Reply::Done
         }
         _ => {
-            if 31 < x {
+            if RZZ < x {
                 return Reply::PutUnknown;
             }
             special[x as usize] = value;

@@ -1,4 +1,5 @@
-// The register functions on a state by value, under the Rust's names: the fields go into locals, the work is done in place.
+// The register functions on a state by value, under the Rust's names: the fields go into locals, the work is done in place. 01 asks for
+// them; of the crates above only the script calls one, and the instruction layer works in place.
 ghost use mathlib.Core.Path.{_≡_};
 ghost use Rattle.model.specs.Registers.{admissible, claimLocal, setRegister, putLocals, putGlobals};
 ghost use Rattle.machine.specs.Put.{PutGives};

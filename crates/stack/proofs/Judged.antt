@@ -1,6 +1,8 @@
--- A guarded plan as judged: 1, 2, or the plan; and 6, where an octabyte that it reads or stores is missing.
-use mathlib.Core.Path.{_≡_, sym, _∙_}
-use mathlib.Core.Bool.{true, false}
+-- A guarded plan as judged: what a branch on `!b` tells; 1, 2, or the plan; 6, where an octabyte that it reads or stores is missing; and
+-- the run that code tests, with the reply of its number. The answers of each function are in PushPopAnswers, SaveUnsaveAnswers and
+-- ReaderAnswers.
+use mathlib.Core.Path.{_≡_, sym, ap, _∙_}
+use mathlib.Core.Bool.{Bool, true, false, not}
 use mathlib.Core.List.{List}
 use Prim.Native.Nat.{ℕ, _≤_}
 use native.Mathlib.Omega.{arith}
@@ -11,12 +13,24 @@ use Rattle.model.specs.Memory.{Windows, shapesOf, ruled}
 use Rattle.model.specs.Plan.{Plan, answer, read, Outcome, perform, worst, named}
 use Rattle.model.specs.Registers.{admissible}
 use Rattle.model.specs.Step.{refusing}
+use Rattle.model.specs.Numbers.{Lost, replyOf}
 use Rattle.model.specs.declared.State.{State}
+use Rattle.model.specs.declared.Reply.{Reply}
+use Rattle.model.specs.declared.Reply.the-variants.{Missing}
 use Rattle.model.proofs.Runs.{worst-of, of-worst}
 use Rattle.model.proofs.Entry.{performOn, Inside}
 use Rattle.model.proofs.Entry as entry
 use Rattle.model.proofs.ArmAnswers.{worst-six}
-use Rattle.stack.specs.Gives.{guardedOn}
+use Rattle.stack.specs.GivenBack.{guardedOn}
+
+-- a judgement t, which code has as b and branches on as `!b`
+pub denied : (b t : Bool) → b ≡ t → not b ≡ true → t ≡ false
+denied true t e h = sym e ∙ sym h
+denied false t e h = sym e
+
+pub granted : (b t : Bool) → b ≡ t → not b ≡ false → t ≡ true
+granted true t e h = sym e
+granted false t e h = sym e ∙ sym h
 
 abbrev pub ended : {S : Type 0} → ℕ → S → Windows → Outcome S Windows
 ended n t v = record { reply = n; state = t; memory = v }
@@ -52,3 +66,12 @@ module _ (w : Windows) (a m n r : ℕ) where
 
   pub failed : r ≡ worst (refusing (shapesOf w)) a n → (r ≡ 0 → ⊥) → n ≤ m → Inside w a m → ⊥
   failed e f l i = f (e ∙ of-worst (refusing (shapesOf w)) n a (λ j k. worst-of (refusing (shapesOf w)) m a j i (omega arith)))
+
+-- its number where it fails, and the reply of that
+module _ (w : Windows) (a n r : ℕ) (e : r ≡ worst (refusing (shapesOf w)) a n) (f : r ≡ 0 → ⊥) where
+  pub lost-by : Lost r
+  lost-by = e ∙ worst-six (shapesOf w) n a (ne-eqb _ _ (λ z. f (e ∙ z)))
+
+  pub missing-by : (q : Reply) → q ≡ replyOf r → q ≡ Missing
+  unfolding replyOf
+  missing-by q d = d ∙ ap replyOf lost-by

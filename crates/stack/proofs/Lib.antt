@@ -1,11 +1,11 @@
 -- The laws of this crate's definitions, for its proofs and for those of the crates above it.
-pub mod Spans
-pub mod Frames
+pub mod SlidRanges
+pub mod PushPopRegisters
 pub mod Judged
-pub mod Outcomes
-pub mod Stores
-pub mod Loads
-pub mod Places
-pub mod Turns
-pub mod Answers
-pub mod Reading
+pub mod PushPopAnswers
+pub mod SaveStores
+pub mod UnsaveLoads
+pub mod ContextPlaces
+pub mod LocateAnswers
+pub mod SaveUnsaveAnswers
+pub mod ReaderAnswers

@@ -1,5 +1,5 @@
 -- What the stack's contracts cite beside the model.
-pub mod Gives
-pub mod Frame
-pub mod Context
-pub mod Work
+pub mod GivenBack
+pub mod PushPop
+pub mod SaveUnsave
+pub mod ContextWork

@@ -3,20 +3,24 @@ ghost use mathlib.Core.Path.{_≡_};
 ghost use Prim.Native.Nat.{ℕ, _+_, _-_, _*_, _%_, _^_, _≤_, _<_};
 ghost use lib.ListN.{getD};
 ghost use Rattle.model.specs.Fill.{over};
-ghost use Rattle.model.specs.Contexts.{savedSpecial, unsavedGeneral, unsaved};
-ghost use Rattle.model.specs.Numbers.{replyOf};
+ghost use Rattle.model.specs.Contexts.{savedSpecial, unsavedGeneral};
 ghost use Rattle.model.specs.Parts.{made, lent};
-ghost use Rattle.machine.specs.Octas.{readOcta};
-ghost use Rattle.stack.specs.Gives.{Gives};
-ghost use Rattle.stack.specs.Context.{saveOf, unsaveOf};
-ghost use Rattle.stack.specs.Work.{Ranged, Continues, StoresContext, leftGeneral, leftSpecial, octasFrom, loaded};
+ghost use Rattle.machine.specs.Octas.{readOcta, writtenRun};
+ghost use Rattle.stack.specs.SaveUnsave.{SaveGives, UnsaveGives, contextOctas, contextSpecials};
+ghost use Rattle.stack.specs.ContextWork.{Ranged, StoresContext, leftGeneral, leftSpecial, octasFrom, unsavedAs, loaded};
+use super::layout::AT_PACKED;
+use super::layout::AT_SPECIALS;
+use super::layout::CONTEXT_OCTAS;
+use super::layout::CONTEXT_SPECIALS;
 use super::layout::Located;
+use super::layout::PACKED_RG;
+use super::layout::SavedContext;
 use model::Reply;
 use model::State;
 
 /// The special register that is number i of the twelve (`SAVE_SPECIALS`): rB to rR, which are 0 to 6, then rP to rZ, 23 to 27.
 fn save_special(i: usize) -> usize
-    requires { ⌜ i < 12 ⌝ }
+    requires { ⌜ i < contextSpecials ⌝ }
     ensures { λ r. ⌜ (r ≡ savedSpecial i) × (r < 32) ⌝ }
 {
     if i <= State::RR {
@@ -25,27 +29,13 @@ fn save_special(i: usize) -> usize
     i + 16
 }
 
-/// The n registers from $from up, stored from address addr up.
-fn store_run(general: &[u64; 256], window: &mut [u8], base: u64, addr: u64, from: u64, n: u64)
-    requires { ⌜ from + n ≤ 256 ⌝ }
-    ensures { λ _. ⌜ Continues (lent base (now (window .entry))) addr n (λ (i : ℕ). getD (now (general .entry)) (from + i) 0) (lent base (now (window .exit))) ⌝ }
-{
-    let mut i: u64 = 0;
-    while i < n {
-        let place = machine::number::wrapping_add(addr, 8 * i);
-        let k = from + i;
-        let v = general[k as usize];
-        machine::memory::write_octa(window, base, place, v);
-        i += 1;
-    }
-}
-
 /// The twelve special registers, stored from address addr up.
 fn store_specials(special: &[u64; 32], window: &mut [u8], base: u64, addr: u64)
-    ensures { λ _. ⌜ Continues (lent base (now (window .entry))) addr 12 (λ (i : ℕ). getD (now (special .entry)) (savedSpecial i) 0) (lent base (now (window .exit))) ⌝ }
+    ensures { λ _. ⌜ lent base (now (window .exit))
+        ≡ writtenRun (lent base (now (window .entry))) addr contextSpecials (λ (i : ℕ). getD (now (special .entry)) (savedSpecial i) 0) ⌝ }
 {
     let mut i: usize = 0;
-    while i < 12 {
+    while i < CONTEXT_SPECIALS {
         let place = machine::number::wrapping_add(addr, 8 * (i as u64));
         let k = save_special(i);
         let v = special[k];
@@ -63,26 +53,27 @@ fn store_context(general: &[u64; 256], special: &[u64; 32], window: &mut [u8], b
     let rl = special[State::RL];
     let rg = special[State::RG];
     let ra = special[State::RA];
-    store_run(general, window, base, ro, 0, rl);
+    machine::memory::store_range(general, window, base, ro, 0, rl);
     let marker = machine::number::wrapping_add(ro, 8 * rl);
     machine::memory::write_octa(window, base, marker, rl);
     let globals = machine::number::wrapping_add(ro, 8 * (rl + 1));
-    store_run(general, window, base, globals, rg, 256 - rg);
-    let specials = machine::number::wrapping_add(ro, 8 * (rl + 257 - rg));
+    machine::memory::store_range(general, window, base, globals, rg, 256);
+    let specials = machine::number::wrapping_add(ro, 8 * (rl + AT_SPECIALS - rg));
     store_specials(special, window, base, specials);
-    let packed = machine::number::wrapping_add(ro, 8 * (rl + 269 - rg));
-    machine::memory::write_octa(window, base, packed, rg * 0x100000000000000 + ra);
+    let packed = machine::number::wrapping_add(ro, 8 * (rl + AT_PACKED - rg));
+    machine::memory::write_octa(window, base, packed, rg * PACKED_RG + ra);
 }
 
 /// The context is stored; then the registers below rG become 0 and $x gets the context's address.
 fn put_away(general: &mut [u64; 256], special: &[u64; 32], window: &mut [u8], base: u64, x: u8)
     requires { ⌜ Ranged (now special) ⌝ }
-    ensures { λ _. ⌜ StoresContext (now (general .entry)) (now (special .entry)) (lent base (now (window .entry))) (lent base (now (window .exit))) × (now (general .exit) ≡ leftGeneral (now (general .entry)) (now (special .entry)) x) ⌝ }
+    ensures { λ _. ⌜ StoresContext (now (general .entry)) (now (special .entry)) (lent base (now (window .entry))) (lent base (now (window .exit)))
+        × (now (general .exit) ≡ leftGeneral (now (general .entry)) (now (special .entry)) x) ⌝ }
 {
     let ro = special[State::RO];
     let rl = special[State::RL];
     let rg = special[State::RG];
-    let address = machine::number::wrapping_add(ro, 8 * (rl + 269 - rg));
+    let address = machine::number::wrapping_add(ro, 8 * (rl + AT_PACKED - rg));
     store_context(general, special, window, base);
     machine::registers::clear_range(general, 0, rg);
     general[x as usize] = address;
@@ -96,7 +87,7 @@ fn depart(special: &mut [u64; 32])
     let ro = special[State::RO];
     let rl = special[State::RL];
     let rg = special[State::RG];
-    let new_ro = machine::number::wrapping_add(ro, 8 * (rl + 270 - rg));
+    let new_ro = machine::number::wrapping_add(ro, 8 * (rl + CONTEXT_OCTAS - rg));
     special[State::RL] = 0;
     special[State::RO] = new_ro;
     special[State::RS] = new_ro;
@@ -112,36 +103,40 @@ pub fn save_context(
     base: u64,
     x: u8,
 ) -> Reply
-    ensures { λ r. ⌜ ((pc : ℕ) → Gives (saveOf (lent base (now (window .entry))) (made (now (general .entry)) (now (special .entry)) pc (now (halt .entry)) marks) x) (made (now (general .entry)) (now (special .entry)) pc (now (halt .entry)) marks) r (made (now (general .exit)) (now (special .exit)) pc (now (halt .exit)) marks) (lent base (now (window .exit)))) ⌝ }
+    ensures { λ r. ⌜ ((pc : ℕ) → SaveGives (lent base (now (window .entry)))
+        (made (now (general .entry)) (now (special .entry)) pc (now (halt .entry)) marks) x r
+        (made (now (general .exit)) (now (special .exit)) pc (now (halt .exit)) marks) (lent base (now (window .exit)))) ⌝ }
 {
-    if machine::registers::admissible(special, marks) {
-        if machine::memory::is_ruled(window, base) {
-            let rg = special[State::RG];
-            let rl = special[State::RL];
-            let ro = special[State::RO];
-            let at = x as u64;
-            if at < rg {
-                *halt = 1;
-                return Reply::SaveLocal;
-            }
-            if machine::memory::run_refusal(window, base, ro, rl + 270 - rg) == 0 {
-                machine::registers::counted(general, special);
-                put_away(general, special, window, base, x);
-                depart(special);
-                return Reply::Done;
-            }
-            return Reply::Missing;
-        }
+    if !machine::registers::admissible(special, marks) {
+        return Reply::NotAdmissible;
+    }
+    if !machine::memory::is_ruled(window, base) {
         return Reply::WindowRule;
     }
-    Reply::NotAdmissible
+    let rg = special[State::RG];
+    let rl = special[State::RL];
+    let ro = special[State::RO];
+    let at = x as u64;
+    if at < rg {
+        *halt = 1;
+        return Reply::SaveLocal;
+    }
+    let number = machine::memory::run_refusal(window, base, ro, rl + CONTEXT_OCTAS - rg);
+    if number != 0 {
+        return super::reply::lost(number);
+    }
+    machine::registers::counted(general, special);
+    put_away(general, special, window, base, x);
+    depart(special);
+    Reply::Done
 }
 
 /// All general registers from a context of `count` locals and threshold rg whose first local is at `first`: the locals, 0 above them,
 /// the globals.
 fn load_general(general: &mut [u64; 256], window: &[u8], base: u64, first: u64, rg: u64, count: u64)
     requires { ⌜ (rg ≤ 255) × (count ≤ rg) ⌝ }
-    ensures { λ _. ⌜ now (general .exit) ≡ over (unsavedGeneral rg count (octasFrom (lent base (now (window .entry))) first (count + 270 - rg))) 0 256 (now (general .entry)) ⌝ }
+    ensures { λ _. ⌜ now (general .exit)
+        ≡ over (unsavedGeneral rg count (octasFrom (lent base (now (window .entry))) first (contextOctas rg count))) 0 256 (now (general .entry)) ⌝ }
 {
     let globals = machine::number::wrapping_add(first, 8 * (count + 1));
     machine::memory::load_range(general, window, base, first, 0, count);
@@ -151,10 +146,11 @@ fn load_general(general: &mut [u64; 256], window: &[u8], base: u64, first: u64, 
 
 /// The twelve special registers from a context, from address addr up.
 fn load_specials(special: &mut [u64; 32], window: &[u8], base: u64, addr: u64)
-    ensures { λ _. ⌜ now (special .exit) ≡ loaded (λ (i : ℕ). readOcta (lent base (now (window .entry))) ((addr + 8 * i) % 2 ^ 64)) 12 (now (special .entry)) ⌝ }
+    ensures { λ _. ⌜ now (special .exit)
+        ≡ loaded (λ (i : ℕ). readOcta (lent base (now (window .entry))) ((addr + 8 * i) % 2 ^ 64)) contextSpecials (now (special .entry)) ⌝ }
 {
     let mut i: usize = 0;
-    while i < 12 {
+    while i < CONTEXT_SPECIALS {
         let place = machine::number::wrapping_add(addr, 8 * (i as u64));
         let v = machine::memory::read_octa(window, base, place);
         let k = save_special(i);
@@ -164,15 +160,22 @@ fn load_specials(special: &mut [u64; 32], window: &[u8], base: u64, addr: u64)
 }
 
 /// The registers become those of the context that was located.
-fn arrive(general: &mut [u64; 256], special: &mut [u64; 32], window: &[u8], base: u64, at: Located)
+fn arrive(
+    general: &mut [u64; 256],
+    special: &mut [u64; 32],
+    window: &[u8],
+    base: u64,
+    at: SavedContext,
+)
     requires { ⌜ (at .rg ≤ 255) × (at .count ≤ at .rg) ⌝ }
-    ensures { λ _. ⌜ ((pc halt marks : ℕ) → made (now (general .exit)) (now (special .exit)) pc halt marks ≡ unsaved (made (now (general .entry)) (now (special .entry)) pc halt marks) (at .first) (at .rg) (at .ra) (at .count) (octasFrom (lent base (now (window .entry))) (at .first) (at .count + 270 - at .rg))) ⌝ }
+    ensures { λ _. ⌜ ((pc halt marks : ℕ) → made (now (general .exit)) (now (special .exit)) pc halt marks
+        ≡ unsavedAs (lent base (now (window .entry))) (made (now (general .entry)) (now (special .entry)) pc halt marks) at) ⌝ }
 {
     machine::registers::counted(general, special);
     let first = at.first;
     let rg = at.rg;
     let count = at.count;
-    let specials = machine::number::wrapping_add(first, 8 * (count + 257 - rg));
+    let specials = machine::number::wrapping_add(first, 8 * (count + AT_SPECIALS - rg));
     load_general(general, window, base, first, rg, count);
     load_specials(special, window, base, specials);
     special[State::RO] = first;
@@ -180,20 +183,6 @@ fn arrive(general: &mut [u64; 256], special: &mut [u64; 32], window: &[u8], base
     special[State::RL] = count;
     special[State::RG] = rg;
     special[State::RS] = first;
-}
-
-/// 14, 15 or 16 as a reply.
-fn reply_of(number: u64) -> Reply
-    requires { ⌜ (14 ≤ number) × (number ≤ 16) ⌝ }
-    ensures { λ r. ⌜ r ≡ replyOf number ⌝ }
-{
-    if number == 14 {
-        return Reply::SavedThreshold;
-    }
-    if number == 15 {
-        return Reply::SavedStatus;
-    }
-    Reply::SavedCount
 }
 
 /// UNSAVE of the context whose packed octabyte is at `address`.
@@ -206,23 +195,26 @@ pub fn unsave_context(
     base: u64,
     address: u64,
 ) -> Reply
-    ensures { λ r. ⌜ ((pc : ℕ) → Gives (unsaveOf (lent base (now (window .entry))) (made (now (general .entry)) (now (special .entry)) pc (now (halt .entry)) marks) address) (made (now (general .entry)) (now (special .entry)) pc (now (halt .entry)) marks) r (made (now (general .exit)) (now (special .exit)) pc (now (halt .exit)) marks) (lent base (now (window .entry)))) ⌝ }
+    ensures { λ r. ⌜ ((pc : ℕ) → UnsaveGives (lent base (now (window .entry)))
+        (made (now (general .entry)) (now (special .entry)) pc (now (halt .entry)) marks) address r
+        (made (now (general .exit)) (now (special .exit)) pc (now (halt .exit)) marks)) ⌝ }
 {
-    if machine::registers::admissible(special, marks) {
-        if machine::memory::is_ruled(window, base) {
-            let at = super::layout::locate(window, base, address);
-            let number = at.reply;
-            if number == 0 {
-                arrive(general, special, window, base, at);
-                return Reply::Done;
-            }
-            if number == 6 {
-                return Reply::Missing;
-            }
-            *halt = 1;
-            return reply_of(number);
-        }
+    if !machine::registers::admissible(special, marks) {
+        return Reply::NotAdmissible;
+    }
+    if !machine::memory::is_ruled(window, base) {
         return Reply::WindowRule;
     }
-    Reply::NotAdmissible
+    let located = super::layout::locate(window, base, address);
+    match located {
+        Located::Found(at) => {
+            arrive(general, special, window, base, at);
+            Reply::Done
+        }
+        Located::Bad(reply) => {
+            *halt = 1;
+            reply
+        }
+        Located::Lost(reply) => reply,
+    }
 }

@@ -1,19 +1,17 @@
 // Frames in place: PUSH and POP.
 ghost use mathlib.Core.Path.{_≡_};
-ghost use mathlib.Core.Bool.{true, false};
 ghost use mathlib.Core.List.{List};
 ghost use Prim.Native.Nat.{ℕ, _+_, _-_, _≤_, _<_, min};
 ghost use lib.ListN.{getD};
 ghost use Rattle.model.specs.Fill.{over, tab};
-ghost use Rattle.model.specs.Memory.{shapesOf, ruled, both};
-ghost use Rattle.model.specs.Plan.{worst, looks, puts};
-ghost use Rattle.model.specs.Registers.{rO, rG, rL, sp, admissible};
-ghost use Rattle.model.specs.Frames.{hole, framed, pushed, countOf, lastOutput, popped, misplaced};
+ghost use Rattle.model.specs.Memory.{shapesOf, both};
+ghost use Rattle.model.specs.Plan.{worst, puts};
+ghost use Rattle.model.specs.Registers.{rO, rG, rL, sp};
+ghost use Rattle.model.specs.Frames.{hole, framed, pushed, countOf, lastOutput, misplaced};
 ghost use Rattle.model.specs.Parts.{made, lent};
 ghost use Rattle.model.specs.Step.{refusing};
 ghost use Rattle.model.specs.declared.State.{State};
-ghost use Rattle.stack.specs.Gives.{Gives};
-ghost use Rattle.stack.specs.Frame.{Held, Placed, pushOf, restoredBy, bottomOf, PopGives};
+ghost use Rattle.stack.specs.PushPop.{Held, Placed, PushGives, restoredBy, bottomOf, poppedAs, PassedPopGives, PopGives};
 use model::Reply;
 use model::State;
 
@@ -45,26 +43,13 @@ fn hole_of(rg: u64, rl: u64, x: u8) -> u64
     at
 }
 
-/// $0 to $(h − 1), stored from address ro up.
-fn store_locals(general: &[u64; 256], window: &mut [u8], base: u64, ro: u64, h: u64)
-    requires { ⌜ (h ≤ 255) × (worst (refusing (shapesOf (lent base (now window)))) ro (h + 1) ≡ 0) ⌝ }
-    ensures { λ _. ⌜ ((special : List ℕ) (pc halt marks : ℕ) → lent base (now (window .exit)) ≡ puts both (lent base (now (window .entry))) ro (tab 0 h (framed (made (now (general .entry)) special pc halt marks) h))) ⌝ }
-{
-    let mut i: u64 = 0;
-    while i < h {
-        let addr = machine::number::wrapping_add(ro, 8 * i);
-        let v = general[i as usize];
-        machine::memory::write_octa(window, base, addr, v);
-        i += 1;
-    }
-}
-
 /// The frame with hole h, stored from address ro up.
 fn store_frame(general: &[u64; 256], window: &mut [u8], base: u64, ro: u64, h: u64)
     requires { ⌜ (h ≤ 255) × (worst (refusing (shapesOf (lent base (now window)))) ro (h + 1) ≡ 0) ⌝ }
-    ensures { λ _. ⌜ ((special : List ℕ) (pc halt marks : ℕ) → lent base (now (window .exit)) ≡ puts both (lent base (now (window .entry))) ro (tab 0 (h + 1) (framed (made (now (general .entry)) special pc halt marks) h))) ⌝ }
+    ensures { λ _. ⌜ ((special : List ℕ) (pc halt marks : ℕ) → lent base (now (window .exit))
+        ≡ puts both (lent base (now (window .entry))) ro (tab 0 (h + 1) (framed (made (now (general .entry)) special pc halt marks) h))) ⌝ }
 {
-    store_locals(general, window, base, ro, h);
+    machine::memory::store_range(general, window, base, ro, 0, h);
     let addr = machine::number::wrapping_add(ro, 8 * h);
     machine::memory::write_octa(window, base, addr, h);
 }
@@ -86,7 +71,8 @@ fn slide(general: &mut [u64; 256], from: u64, n: u64)
 /// The registers after a push with hole h.
 fn enter(general: &mut [u64; 256], special: &mut [u64; 32], pc: u64, h: u64)
     requires { ⌜ (Held (now special)) × (h ≤ 255) ⌝ }
-    ensures { λ _. ⌜ ((halt marks : ℕ) → made (now (general .exit)) (now (special .exit)) pc halt marks ≡ pushed (made (now (general .entry)) (now (special .entry)) pc halt marks) h) ⌝ }
+    ensures { λ _. ⌜ ((halt marks : ℕ) → made (now (general .exit)) (now (special .exit)) pc halt marks
+        ≡ pushed (made (now (general .entry)) (now (special .entry)) pc halt marks) h) ⌝ }
 {
     let ro = special[State::RO];
     let rl = special[State::RL];
@@ -112,24 +98,27 @@ pub fn push_frame(
     base: u64,
     x: u8,
 ) -> Reply
-    ensures { λ r. ⌜ ((halt : ℕ) → Gives (pushOf (lent base (now (window .entry))) (made (now (general .entry)) (now (special .entry)) pc halt marks) x) (made (now (general .entry)) (now (special .entry)) pc halt marks) r (made (now (general .exit)) (now (special .exit)) pc halt marks) (lent base (now (window .exit)))) ⌝ }
+    ensures { λ r. ⌜ ((halt : ℕ) → PushGives (lent base (now (window .entry)))
+        (made (now (general .entry)) (now (special .entry)) pc halt marks) x r
+        (made (now (general .exit)) (now (special .exit)) pc halt marks) (lent base (now (window .exit)))) ⌝ }
 {
-    if machine::registers::admissible(special, marks) {
-        if machine::memory::is_ruled(window, base) {
-            let rg = special[State::RG];
-            let rl = special[State::RL];
-            let ro = special[State::RO];
-            let h = hole_of(rg, rl, x);
-            if machine::memory::run_refusal(window, base, ro, h + 1) == 0 {
-                store_frame(general, window, base, ro, h);
-                enter(general, special, pc, h);
-                return Reply::Done;
-            }
-            return Reply::Missing;
-        }
+    if !machine::registers::admissible(special, marks) {
+        return Reply::NotAdmissible;
+    }
+    if !machine::memory::is_ruled(window, base) {
         return Reply::WindowRule;
     }
-    Reply::NotAdmissible
+    let rg = special[State::RG];
+    let rl = special[State::RL];
+    let ro = special[State::RO];
+    let h = hole_of(rg, rl, x);
+    let number = machine::memory::run_refusal(window, base, ro, h + 1);
+    if number != 0 {
+        return super::reply::lost(number);
+    }
+    store_frame(general, window, base, ro, h);
+    enter(general, special, pc, h);
+    Reply::Done
 }
 
 /// How many outputs there are.
@@ -146,7 +135,8 @@ fn count_of(rl: u64, x: u8) -> u64
 
 /// The last output.
 fn last_output(general: &[u64; 256], rl: u64, x: u8) -> u64
-    ensures { λ r. ⌜ ((special : List ℕ) (pc halt marks : ℕ) → getD special rL 0 ≡ rl → r ≡ lastOutput (made (now (general .entry)) special pc halt marks) x) ⌝ }
+    ensures { λ r. ⌜ ((special : List ℕ) (pc halt marks : ℕ) → getD special rL 0 ≡ rl
+        → r ≡ lastOutput (made (now (general .entry)) special pc halt marks) x) ⌝ }
 {
     if rl < x as u64 {
         return 0;
@@ -186,7 +176,8 @@ fn restore(
     rg: u64,
 )
     requires { ⌜ (h ≤ 255) × (count ≤ 256) × (rg ≤ 255) ⌝ }
-    ensures { λ _. ⌜ now (general .exit) ≡ over (restoredBy (lent base (now (window .entry))) bottom last h count (now (general .entry))) 0 rg (now (general .entry)) ⌝ }
+    ensures { λ _. ⌜ now (general .exit)
+        ≡ over (restoredBy (lent base (now (window .entry))) bottom last h count (now (general .entry))) 0 rg (now (general .entry)) ⌝ }
 {
     let low = machine::number::least(h + count, rg);
     machine::registers::clear_range(general, low, rg);
@@ -211,8 +202,10 @@ fn is_misplaced(ro: u64) -> bool
 
 /// The registers after a pop with hole h.
 fn leave(general: &mut [u64; 256], special: &mut [u64; 32], window: &[u8], base: u64, x: u8, h: u64)
-    requires { ⌜ (Held (now special)) × (h ≤ 255) × (Placed (now special)) × (worst (refusing (shapesOf (lent base (now window)))) (bottomOf (now special) h) (min h (getD (now special) rG 0)) ≡ 0) ⌝ }
-    ensures { λ _. ⌜ ((pc halt marks : ℕ) → made (now (general .exit)) (now (special .exit)) pc halt marks ≡ popped (made (now (general .entry)) (now (special .entry)) pc halt marks) x h (looks both (lent base (now (window .entry))) (bottomOf (now (special .entry)) h) (min h (getD (now (special .entry)) rG 0)))) ⌝ }
+    requires { ⌜ (Held (now special)) × (h ≤ 255) × (Placed (now special))
+        × (worst (refusing (shapesOf (lent base (now window)))) (bottomOf (now special) h) (min h (getD (now special) rG 0)) ≡ 0) ⌝ }
+    ensures { λ _. ⌜ ((pc halt marks : ℕ) → made (now (general .exit)) (now (special .exit)) pc halt marks
+        ≡ poppedAs (lent base (now (window .entry))) (made (now (general .entry)) (now (special .entry)) pc halt marks) x h) ⌝ }
 {
     let ro = special[State::RO];
     let rg = special[State::RG];
@@ -237,24 +230,26 @@ fn pop_at(
     yz: u16,
 ) -> PopFrame
     requires { ⌜ (Held (now special)) × (Placed (now special)) ⌝ }
-    ensures { λ r. ⌜ ((pc halt marks : ℕ) → admissible (made (now (general .entry)) (now (special .entry)) pc halt marks) ≡ true → ruled (shapesOf (lent base (now (window .entry)))) ≡ true → misplaced (made (now (general .entry)) (now (special .entry)) pc halt marks) ≡ false → PopGives (lent base (now (window .entry))) (made (now (general .entry)) (now (special .entry)) pc halt marks) x yz r (made (now (general .exit)) (now (special .exit)) pc halt marks)) ⌝ }
+    ensures { λ r. ⌜ ((pc halt marks : ℕ) → PassedPopGives (lent base (now (window .entry)))
+        (made (now (general .entry)) (now (special .entry)) pc halt marks) x yz r
+        (made (now (general .exit)) (now (special .exit)) pc halt marks)) ⌝ }
 {
     let ro = special[State::RO];
     let rg = special[State::RG];
     let rj = special[State::RJ];
     let below = machine::number::wrapping_sub(ro, 8);
-    if machine::memory::run_refusal(window, base, below, 1) == 0 {
-        let h = machine::memory::read_octa(window, base, below) % 256;
-        let bottom = machine::number::wrapping_sub(ro, 8 * (h + 1));
-        let n = machine::number::least(h, rg);
-        if machine::memory::run_refusal(window, base, bottom, n) == 0 {
-            leave(general, special, window, base, x, h);
-            let target = machine::number::wrapping_add(rj, 4 * (yz as u64));
-            return PopFrame::Frame(target);
-        }
+    if machine::memory::run_refusal(window, base, below, 1) != 0 {
         return PopFrame::Missing;
     }
-    PopFrame::Missing
+    let h = machine::memory::read_octa(window, base, below) % 256;
+    let bottom = machine::number::wrapping_sub(ro, 8 * (h + 1));
+    let n = machine::number::least(h, rg);
+    if machine::memory::run_refusal(window, base, bottom, n) != 0 {
+        return PopFrame::Missing;
+    }
+    leave(general, special, window, base, x, h);
+    let target = machine::number::wrapping_add(rj, 4 * (yz as u64));
+    PopFrame::Frame(target)
 }
 
 /// POP x, yz.
@@ -268,21 +263,23 @@ pub fn pop_frame(
     x: u8,
     yz: u16,
 ) -> PopFrame
-    ensures { λ r. ⌜ ((pc : ℕ) → PopGives (lent base (now (window .entry))) (made (now (general .entry)) (now (special .entry)) pc (now (halt .entry)) marks) x yz r (made (now (general .exit)) (now (special .exit)) pc (now (halt .exit)) marks)) ⌝ }
+    ensures { λ r. ⌜ ((pc : ℕ) → PopGives (lent base (now (window .entry)))
+        (made (now (general .entry)) (now (special .entry)) pc (now (halt .entry)) marks) x yz r
+        (made (now (general .exit)) (now (special .exit)) pc (now (halt .exit)) marks)) ⌝ }
 {
-    if machine::registers::admissible(special, marks) {
-        if machine::memory::is_ruled(window, base) {
-            let ro = special[State::RO];
-            if ro <= State::STACK_START {
-                return PopFrame::NoFrame;
-            }
-            if is_misplaced(ro) {
-                *halt = 1;
-                return PopFrame::Rejected;
-            }
-            return pop_at(general, special, window, base, x, yz);
-        }
+    if !machine::registers::admissible(special, marks) {
+        return PopFrame::NotAdmissible;
+    }
+    if !machine::memory::is_ruled(window, base) {
         return PopFrame::WindowRule;
     }
-    PopFrame::NotAdmissible
+    let ro = special[State::RO];
+    if ro <= State::STACK_START {
+        return PopFrame::NoFrame;
+    }
+    if is_misplaced(ro) {
+        *halt = 1;
+        return PopFrame::Rejected;
+    }
+    pop_at(general, special, window, base, x, yz)
 }

@@ -1,7 +1,21 @@
-// Where a context lies in the window, below its packed octabyte.
-ghost use mathlib.Core.Path.{_≡_};
+// Where a context lies in the window, below its packed octabyte. One of l locals and threshold g has l + 270 − g octabytes: the locals,
+// their count, 256 − g globals, the twelve specials, and the packed octabyte.
 ghost use Rattle.model.specs.Parts.{lent};
-ghost use Rattle.stack.specs.Context.{LayoutIs, spot, LocatedIs};
+ghost use Rattle.stack.specs.SaveUnsave.{LayoutIs, LocatedIs};
+use model::Reply;
+
+/// How many special registers a context has.
+pub(crate) const CONTEXT_SPECIALS: usize = 12;
+
+/// l + this − g is the number of its first special, of its packed octabyte, and how many octabytes there are.
+pub(crate) const AT_SPECIALS: u64 = 257;
+
+pub(crate) const AT_PACKED: u64 = 269;
+
+pub(crate) const CONTEXT_OCTAS: u64 = 270;
+
+/// The packed octabyte is rG times this, and rA.
+pub(crate) const PACKED_RG: u64 = 0x100000000000000;
 
 /// Addresses below a saved context's packed octabyte.
 pub struct SaveContextLayout {
@@ -18,17 +32,26 @@ pub enum Layout {
     Found(SaveContextLayout),
     /// The local count is above the saved rG (16).
     Excess(u64),
-    /// The local count lies outside the window (6).
-    Outside,
+    /// The local count is not in the window: the reply that says so.
+    Outside(Reply),
 }
 
-/// Where a context is: its reply, the address of its first local, its rG, rA and local count.
-pub struct Located {
-    pub reply: u64,
+/// A context that is all in the window: the address of its first local, its rG, rA and local count.
+pub struct SavedContext {
     pub first: u64,
     pub rg: u64,
     pub ra: u64,
     pub count: u64,
+}
+
+/// Where a context is, or the reply that refuses it.
+pub enum Located {
+    /// It is there.
+    Found(SavedContext),
+    /// What is there is no context (14, 15, 16).
+    Bad(Reply),
+    /// An octabyte of it is not in the window (6).
+    Lost(Reply),
 }
 
 /// The parts of the context whose packed octabyte is at `packed_addr`, for its rG; the count is compared at full width.
@@ -36,75 +59,66 @@ pub fn save_context_layout(window: &[u8], base: u64, packed_addr: u64, rg_saved:
     ensures { λ r. ⌜ LayoutIs (lent base (now (window .entry))) «packed_addr» «rg_saved» r ⌝ }
 {
     let rg = rg_saved as u64;
-    let marker = machine::number::wrapping_sub(packed_addr, 8 * (269 - rg));
-    if machine::memory::run_refusal(window, base, marker, 1) == 0 {
-        let count = machine::memory::read_octa(window, base, marker);
-        if count <= rg {
-            let specials_base = machine::number::wrapping_sub(packed_addr, 96);
-            let globals_base = machine::number::wrapping_sub(packed_addr, 8 * (268 - rg));
-            let locals_base = machine::number::wrapping_sub(packed_addr, 8 * (count + 269 - rg));
-            return Layout::Found(SaveContextLayout {
-                specials_base: specials_base,
-                globals_base: globals_base,
-                global_count: 256 - rg,
-                local_count: count,
-                locals_base: locals_base,
-            });
-        }
+    let marker = machine::number::wrapping_sub(packed_addr, 8 * (AT_PACKED - rg));
+    let number = machine::memory::run_refusal(window, base, marker, 1);
+    if number != 0 {
+        return Layout::Outside(super::reply::lost(number));
+    }
+    let count = machine::memory::read_octa(window, base, marker);
+    if rg < count {
         return Layout::Excess(count);
     }
-    Layout::Outside
-}
-
-fn refused(reply: u64) -> Located
-    ensures { λ r. ⌜ r ≡ spot reply 0 0 0 0 ⌝ }
-{
-    Located {
-        reply: reply,
-        first: 0,
-        rg: 0,
-        ra: 0,
-        count: 0,
-    }
+    let specials_base = machine::number::wrapping_sub(packed_addr, 8 * (CONTEXT_SPECIALS as u64));
+    let globals_base = machine::number::wrapping_sub(packed_addr, 8 * (AT_PACKED - 1 - rg));
+    let locals_base = machine::number::wrapping_sub(packed_addr, 8 * (count + AT_PACKED - rg));
+    Layout::Found(SaveContextLayout {
+        specials_base: specials_base,
+        globals_base: globals_base,
+        global_count: 256 - rg,
+        local_count: count,
+        locals_base: locals_base,
+    })
 }
 
 /// The context whose packed octabyte is at `address`, after UNSAVE's own checks.
 pub fn locate(window: &[u8], base: u64, address: u64) -> Located
     ensures { λ r. ⌜ LocatedIs (lent base (now (window .entry))) address r ⌝ }
 {
-    if machine::memory::run_refusal(window, base, address, 1) == 0 {
-        let packed = machine::memory::read_octa(window, base, address);
-        let rg = packed / 0x100000000000000;
-        let ra = packed % 0x100000000000000;
-        if rg < 32 {
-            return refused(14);
-        }
-        if 0x3FFFF < ra {
-            return refused(15);
-        }
-        let layout = save_context_layout(window, base, address, rg as u8);
-        match layout {
-            Layout::Found(l) => {
-                let count = l.local_count;
-                let first = l.locals_base;
-                if machine::memory::run_refusal(window, base, first, count + 270 - rg) == 0 {
-                    return Located {
-                        reply: 0,
-                        first: first,
-                        rg: rg,
-                        ra: ra,
-                        count: count,
-                    };
-                }
-                return refused(6);
-            }
-            Layout::Excess(_) => {
-                return refused(16);
-            }
-            Layout::Outside => {
-                return refused(6);
-            }
-        }
+    let number = machine::memory::run_refusal(window, base, address, 1);
+    if number != 0 {
+        return Located::Lost(super::reply::lost(number));
     }
-    refused(6)
+    let packed = machine::memory::read_octa(window, base, address);
+    let rg = packed / PACKED_RG;
+    let ra = packed % PACKED_RG;
+    if rg < machine::registers::THRESHOLD_MIN {
+        return Located::Bad(Reply::SavedThreshold);
+    }
+    if machine::registers::STATUS_MAX < ra {
+        return Located::Bad(Reply::SavedStatus);
+    }
+    let layout = save_context_layout(window, base, address, rg as u8);
+    match layout {
+        Layout::Found(l) => {
+            let count = l.local_count;
+            let first = l.locals_base;
+            let short = machine::memory::run_refusal(
+                window,
+                base,
+                first,
+                count + CONTEXT_OCTAS - rg,
+            );
+            if short != 0 {
+                return Located::Lost(super::reply::lost(short));
+            }
+            Located::Found(SavedContext {
+                first: first,
+                rg: rg,
+                ra: ra,
+                count: count,
+            })
+        }
+        Layout::Excess(_) => Located::Bad(Reply::SavedCount),
+        Layout::Outside(reply) => Located::Lost(reply),
+    }
 }

@@ -1,8 +1,8 @@
-// The Rust's functions on a state by value, under its names: the fields go into locals, the work is done in place.
+// The Rust's functions on a state by value, under its names: the fields go into locals, the work is done in place. 01 asks for them;
+// the layer above works in place and calls none.
 ghost use Rattle.model.specs.Parts.{lent};
-ghost use Rattle.stack.specs.Gives.{Gives};
-ghost use Rattle.stack.specs.Frame.{pushOf, PopGives};
-ghost use Rattle.stack.specs.Context.{saveOf, unsaveOf};
+ghost use Rattle.stack.specs.PushPop.{PushGives, PopGives};
+ghost use Rattle.stack.specs.SaveUnsave.{SaveGives, UnsaveGives};
 use super::frame::PopFrame;
 use model::Reply;
 use model::State;
@@ -20,7 +20,7 @@ pub struct Popped {
 }
 
 pub fn push_frame(state: State, window: &mut [u8], base: u64, x: u8) -> Answer
-    ensures { λ r. ⌜ Gives (pushOf (lent base (now (window .entry))) state x) state (r .reply) (r .state) (lent base (now (window .exit))) ⌝ }
+    ensures { λ r. ⌜ PushGives (lent base (now (window .entry))) state x (r .reply) (r .state) (lent base (now (window .exit))) ⌝ }
 {
     let mut general = state.general;
     let mut special = state.special;
@@ -73,7 +73,7 @@ pub fn pop_frame(state: State, window: &[u8], base: u64, x: u8, yz: u16) -> Popp
 }
 
 pub fn save_context(state: State, window: &mut [u8], base: u64, x: u8) -> Answer
-    ensures { λ r. ⌜ Gives (saveOf (lent base (now (window .entry))) state x) state (r .reply) (r .state) (lent base (now (window .exit))) ⌝ }
+    ensures { λ r. ⌜ SaveGives (lent base (now (window .entry))) state x (r .reply) (r .state) (lent base (now (window .exit))) ⌝ }
 {
     let mut general = state.general;
     let mut special = state.special;
@@ -103,7 +103,7 @@ pub fn save_context(state: State, window: &mut [u8], base: u64, x: u8) -> Answer
 }
 
 pub fn unsave_context(state: State, window: &[u8], base: u64, address: u64) -> Answer
-    ensures { λ r. ⌜ Gives (unsaveOf (lent base (now (window .entry))) state address) state (r .reply) (r .state) (lent base (now (window .entry))) ⌝ }
+    ensures { λ r. ⌜ UnsaveGives (lent base (now (window .entry))) state address (r .reply) (r .state) ⌝ }
 {
     let mut general = state.general;
     let mut special = state.special;

@@ -1,7 +1,7 @@
 -- `save_to` meets its contract: the reply's number is the outcome's, so the match tells whether PC goes on.
 use borrow.Author.Needs.{needs}
 use Rattle.model.specs.Parts.{made, lent}
-use Rattle.stack.specs.Context.{saveOf}
+use Rattle.stack.specs.SaveUnsave.{saveOf}
 use Rattle.instruction.proofs.Onward.{save-onward, onward-done, onward-refused}
 use Rattle.instruction.proofs.contexts.save_to.Statement.{statement}
 use Rattle.instruction.proofs.contexts.save_to.Tie as tie

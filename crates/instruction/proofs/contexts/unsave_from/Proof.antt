@@ -1,7 +1,7 @@
 -- `unsave_from` meets its contract: the reply's number is the outcome's, so the match tells whether PC goes on.
 use borrow.Author.Needs.{needs}
 use Rattle.model.specs.Parts.{made, lent}
-use Rattle.stack.specs.Context.{unsaveOf}
+use Rattle.stack.specs.SaveUnsave.{unsaveOf}
 use Rattle.instruction.proofs.Onward.{unsave-onward, onward-done, onward-refused}
 use Rattle.instruction.proofs.contexts.unsave_from.Statement.{statement}
 use Rattle.instruction.proofs.contexts.unsave_from.Tie as tie

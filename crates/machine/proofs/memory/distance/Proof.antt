@@ -1,7 +1,7 @@
 -- `distance` meets its contract: an address less its low three bits is its octabyte's, and a base is below 2^64.
 use native.Mathlib.Omega.{arith}
 use borrow.Author.Needs.{needs}
-use Rattle.machine.proofs.Spans.{offset-of}
+use Rattle.machine.proofs.RunTest.{offset-of}
 use Rattle.machine.proofs.memory.distance.Statement.{statement}
 use Rattle.machine.proofs.memory.distance.Tie as tie
 

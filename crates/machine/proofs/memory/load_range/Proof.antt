@@ -8,7 +8,7 @@ use Rattle.model.specs.Parts.{lent}
 use Rattle.model.proofs.Fill.{over-none, over-end}
 use Rattle.machine.specs.Octas.{readOcta}
 use Rattle.machine.proofs.Octas.{read-wraps}
-use Rattle.machine.proofs.Ranges.{over-next, over-cut}
+use Rattle.machine.proofs.RegisterRanges.{over-next, over-cut}
 use Rattle.machine.proofs.memory.load_range.Statement.{statement}
 use Rattle.machine.proofs.memory.load_range.Tie as tie
 

@@ -4,7 +4,7 @@ use mathlib.Core.Path.{sym}
 use native.Mathlib.Omega.{arith}
 use borrow.Author.Needs.{needs}
 use Rattle.model.specs.Memory.{shapeOf}
-use Rattle.machine.proofs.Spans.{run-none, run-fits, run-lacks}
+use Rattle.machine.proofs.RunTest.{run-none, run-fits, run-lacks}
 use Rattle.machine.proofs.memory.run_refusal.Statement.{statement}
 use Rattle.machine.proofs.memory.run_refusal.Tie as tie
 

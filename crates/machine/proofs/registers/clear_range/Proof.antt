@@ -5,7 +5,7 @@ use native.Mathlib.Omega.{arith}
 use borrow.Author.Needs.{needs}
 use Rattle.model.specs.Fill.{over}
 use Rattle.model.proofs.Fill.{over-none, over-end}
-use Rattle.machine.proofs.Ranges.{over-next, over-cut}
+use Rattle.machine.proofs.RegisterRanges.{over-next, over-cut}
 use Rattle.machine.proofs.registers.clear_range.Statement.{statement}
 use Rattle.machine.proofs.registers.clear_range.Tie as tie
 

@@ -1,6 +1,6 @@
 -- `put_rg` meets its contract: what it clears is the definition's, and rG becomes the value.
 use borrow.Author.Needs.{needs}
-use Rattle.machine.proofs.Puts.{globals-put}
+use Rattle.machine.proofs.PutRegisters.{globals-put}
 use Rattle.machine.proofs.registers.put_rg.Statement.{statement}
 use Rattle.machine.proofs.registers.put_rg.Tie as tie
 

@@ -1,6 +1,6 @@
 -- `put_rl` meets its contract: what it clears and what rL becomes are the definition's.
 use borrow.Author.Needs.{needs}
-use Rattle.machine.proofs.Puts.{locals-put}
+use Rattle.machine.proofs.PutRegisters.{locals-put}
 use Rattle.machine.proofs.registers.put_rl.Statement.{statement}
 use Rattle.machine.proofs.registers.put_rl.Tie as tie
 

@@ -5,7 +5,7 @@ use native.Mathlib.Omega.{arith}
 use borrow.Author.Needs.{needs}
 use Rattle.model.specs.Numbers.{replyOf}
 use Rattle.model.specs.Registers.{withSpecial}
-use Rattle.machine.proofs.Puts.{refused, put-unknown, put-privileged, put-privileged-one, put-illegal, threshold-low, threshold-under, threshold-high, threshold-put, local-put, status-high, status-put, other-put}
+use Rattle.machine.proofs.PutRegisters.{refused, put-unknown, put-privileged, put-privileged-one, put-illegal, threshold-low, threshold-under, threshold-high, threshold-put, local-put, status-high, status-put, other-put}
 use Rattle.machine.proofs.registers.put_special.Statement.{statement}
 use Rattle.machine.proofs.registers.put_special.Tie as tie
 

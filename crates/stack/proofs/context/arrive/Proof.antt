@@ -1,5 +1,5 @@
 -- `arrive` meets its contract: the registers are those that UNSAVE leaves.
-use Rattle.stack.proofs.Loads.{arrived}
+use Rattle.stack.proofs.UnsaveLoads.{arrived}
 use borrow.Author.Needs.{needs}
 use Rattle.stack.proofs.context.arrive.Statement.{statement}
 use Rattle.stack.proofs.context.arrive.Tie as tie

@@ -1,6 +1,6 @@
 -- `depart` meets its contract: rL, rO and rS are written one after another.
 use borrow.Author.Needs.{needs}
-use Rattle.stack.specs.Work.{leftSpecial}
+use Rattle.stack.specs.ContextWork.{leftSpecial}
 use Rattle.stack.proofs.context.depart.Statement.{statement}
 use Rattle.stack.proofs.context.depart.Tie as tie
 

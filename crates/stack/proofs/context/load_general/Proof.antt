@@ -1,5 +1,5 @@
 -- `load_general` meets its contract: the three parts are the context's registers.
-use Rattle.stack.proofs.Loads.{loaded-general}
+use Rattle.stack.proofs.UnsaveLoads.{loaded-general}
 use borrow.Author.Needs.{needs}
 use Rattle.stack.proofs.context.load_general.Statement.{statement}
 use Rattle.stack.proofs.context.load_general.Tie as tie

@@ -5,8 +5,8 @@ use borrow.Author.Needs.{needs}
 use Prim.Native.Nat.{ℕ, _+_, _-_, _*_, _%_, _^_, _≤_}
 use Rattle.model.specs.Parts.{lent}
 use Rattle.machine.specs.Octas.{readOcta}
-use Rattle.stack.specs.Work.{loaded}
-use Rattle.stack.proofs.Loads.{loaded-more}
+use Rattle.stack.specs.ContextWork.{loaded}
+use Rattle.stack.proofs.UnsaveLoads.{loaded-more}
 use Rattle.stack.proofs.context.load_specials.Statement.{statement}
 use Rattle.stack.proofs.context.load_specials.Tie as tie
 

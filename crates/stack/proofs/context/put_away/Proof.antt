@@ -1,6 +1,6 @@
 -- `put_away` meets its contract: what it stores is of the registers before it writes any of them.
 use borrow.Author.Needs.{needs}
-use Rattle.stack.specs.Work.{leftGeneral}
+use Rattle.stack.specs.ContextWork.{leftGeneral}
 use Rattle.stack.proofs.context.put_away.Statement.{statement}
 use Rattle.stack.proofs.context.put_away.Tie as tie
 

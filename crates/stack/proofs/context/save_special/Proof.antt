@@ -1,7 +1,7 @@
 -- `save_special` meets its contract: the seven from rB to rR, then the five from rP to rZ.
 use native.Mathlib.Omega.{arith}
 use Rattle.model.proofs.SaveUnsave.{savedSpecial-low}
-use Rattle.stack.proofs.Loads.{savedSpecial-up}
+use Rattle.stack.proofs.UnsaveLoads.{savedSpecial-up}
 use mathlib.Core.Path.{sym}
 use borrow.Author.Needs.{needs}
 use Rattle.stack.proofs.context.save_special.Statement.{statement}

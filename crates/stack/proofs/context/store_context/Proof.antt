@@ -1,6 +1,6 @@
 -- `store_context` meets its contract: its five stores, one after another, are the context.
 use borrow.Author.Needs.{needs}
-use Rattle.stack.proofs.Stores.{context-stored}
+use Rattle.stack.proofs.SaveStores.{context-stored}
 use Rattle.stack.proofs.context.store_context.Statement.{statement}
 use Rattle.stack.proofs.context.store_context.Tie as tie
 
@@ -16,8 +16,8 @@ element-copy-out-rg c = search needs
 element-copy-out-ra : tie.Need-element-copy-out-ra
 element-copy-out-ra c = search needs
 
-store-run-requires : tie.Need-store-run-requires
-store-run-requires c κs = search needs
+store-range-requires : tie.Need-store-range-requires
+store-range-requires c κs = search needs
 
 mul-wrapping-add : tie.Need-mul-wrapping-add
 mul-wrapping-add c = search needs
@@ -37,11 +37,8 @@ mul-wrapping-add-2 c = search needs
 wrapping-add-requires-2 : tie.Need-wrapping-add-requires-2
 wrapping-add-requires-2 c κs = search needs
 
-sub-store-run : tie.Need-sub-store-run
-sub-store-run c = search needs
-
-store-run-requires-2 : tie.Need-store-run-requires-2
-store-run-requires-2 c κs = search needs
+store-range-requires-2 : tie.Need-store-range-requires-2
+store-range-requires-2 c κs = search needs
 
 add-wrapping-add-2 : tie.Need-add-wrapping-add-2
 add-wrapping-add-2 c = search needs
@@ -90,8 +87,8 @@ returns c =
     let marker = globals .before .before .before .before .before in
     let locals = marker .before .before .before in
     context-stored _ _ (locals .before .before .before .before .before .before .before .pre) _ _ _ _ _ _ _ _ _ _
-    (locals .store-run .ensures) (marker .wrapping-add .ensures) (c .before .before .before .before .before .before .before .before .before .before .before .before .before .before .before .before .before .write-octa .ensures)
-    (globals .wrapping-add2 .ensures) (c .before .before .before .before .before .before .before .before .before .before .before .before .store-run2 .ensures) (specials .wrapping-add3 .ensures) (c .before .before .before .before .before .before .before .store-specials .ensures)
+    (locals .store-range .ensures) (marker .wrapping-add .ensures) (c .before .before .before .before .before .before .before .before .before .before .before .before .before .before .before .before .before .write-octa .ensures)
+    (globals .wrapping-add2 .ensures) (c .before .before .before .before .before .before .before .before .before .before .before .before .store-range2 .ensures) (specials .wrapping-add3 .ensures) (c .before .before .before .before .before .before .before .store-specials .ensures)
     (packed .wrapping-add4 .ensures) (c .before .before .write-octa2 .ensures)
 
 pub store-context-spec : {M : Type 1} → statement M
@@ -102,15 +99,14 @@ store-context-spec =
     element-copy-out-rl
     element-copy-out-rg
     element-copy-out-ra
-    store-run-requires
+    store-range-requires
     mul-wrapping-add
     wrapping-add-requires
     write-octa-requires
     add-wrapping-add
     mul-wrapping-add-2
     wrapping-add-requires-2
-    sub-store-run
-    store-run-requires-2
+    store-range-requires-2
     add-wrapping-add-2
     sub-wrapping-add
     mul-wrapping-add-3

@@ -1,24 +1,25 @@
--- `store_specials` meets its contract. The loop's invariant: i of the twelve are stored, as the run that they continue wants them.
-use mathlib.Core.Path.{_≡_, refl, ap, _∙_, subst}
+-- `store_specials` meets its contract. The loop's invariant: i of the twelve are stored.
+use mathlib.Core.Path.{_≡_, refl, ap, _∙_}
 use native.Mathlib.Omega.{arith}
 use borrow.Author.Needs.{needs}
 use Prim.Native.Nat.{ℕ, _-_, _≤_}
 use lib.ListN.{length, getD}
 use Rattle.model.specs.Parts.{lent}
-use Rattle.stack.specs.Work.{Continues}
-use Rattle.stack.proofs.Stores.{continues-none, continues-more, written-length}
+use Rattle.machine.specs.Octas.{writtenRun}
+use Rattle.machine.proofs.Octas.{written-length, run-none, run-more}
 use Rattle.model.specs.Contexts.{savedSpecial}
 use Rattle.stack.proofs.context.store_specials.Statement.{statement}
 use Rattle.stack.proofs.context.store_specials.Tie as tie
 
 abbrev Inv-loop : tie.InvT-loop
-Inv-loop special window₀ base addr i₀ window i = (i ≤ 12) × Continues (lent base window₀) addr i (λ (j : ℕ). getD special (savedSpecial j) 0) (lent base window) × (length window ≡ length window₀)
+Inv-loop special window₀ base addr i₀ window i = (i ≤ 12)
+    × (lent base window ≡ writtenRun (lent base window₀) addr (i - 0) (λ (j : ℕ). getD special (savedSpecial j) 0)) × (length window ≡ length window₀)
 
 abbrev μ-loop : tie.MeasureT-loop
 μ-loop special window₀ base addr i₀ window i = 12 - i
 
 loop-holds : tie.Need-loop-holds Inv-loop μ-loop
-loop-holds c = (omega arith, continues-none _ _ _, refl)
+loop-holds c = (omega arith, run-none _ _ _ _ (omega arith), refl)
 
 mul-wrapping-add : tie.Need-mul-wrapping-add Inv-loop μ-loop
 mul-wrapping-add c = omega arith
@@ -49,7 +50,14 @@ loop-again c =
     let at-loop = c .before .before .before .before .before .before .before .before in
     let call = c .before .before .write-octa in
     let sum = c .before .before .before .before .before .before .wrapping-add in
-    (omega arith, continues-more _ _ _ _ _ _ _ _ (at-loop .loop .inv .1) (sum .ensures) (ap (λ (k : ℕ). getD (at-loop .before .before .args .special .now) k 0) (c .before .before .before .before .before .save-special .ensures .0)) (call .ensures), written-length _ _ _ _ _ (call .ensures) ∙ at-loop .loop .inv .2)
+    let special = at-loop .before .before .args .special .now in
+    let i = at-loop .loop .i in
+    let same : i - 0 ≡ i = omega arith in (
+      omega arith,
+      run-more _ _ _ _ 0 i _ _ _ (omega arith) (at-loop .loop .inv .1) (rw same (sum .ensures))
+          (ap (λ (k : ℕ). getD special k 0) (rw same (c .before .before .before .before .before .save-special .ensures .0))) (call .ensures),
+      written-length _ _ _ _ _ (call .ensures) ∙ at-loop .loop .inv .2,
+    )
 
 same-length : tie.Need-same-length Inv-loop μ-loop
 same-length c = c .before .loop .inv .2
@@ -57,8 +65,8 @@ same-length c = c .before .loop .inv .2
 returns : tie.Need-returns Inv-loop μ-loop
 returns c =
     let a = c .before .before .before .args in
-    let e : c .before .loop .i ≡ 12 = omega arith in
-    subst (λ (k : ℕ). Continues (lent (a .base) (a .window .now)) (a .addr) k (λ (j : ℕ). getD (a .special .now) (savedSpecial j) 0) (lent (a .base) (c .before .loop .window))) e (c .before .loop .inv .1)
+    let e : c .before .loop .i - 0 ≡ 12 = omega arith in
+    c .before .loop .inv .1 ∙ ap (λ (k : ℕ). writtenRun (lent (a .base) (a .window .now)) (a .addr) k (λ (j : ℕ). getD (a .special .now) (savedSpecial j) 0)) e
 
 pub store-specials-spec : {M : Type 1} → statement M
 store-specials-spec =

@@ -1,6 +1,6 @@
 -- `enter` meets its contract: what its calls leave is what PUSH does to the registers.
 use native.Mathlib.Omega.{arith}
-use Rattle.stack.proofs.Frames.{entered}
+use Rattle.stack.proofs.PushPopRegisters.{entered}
 use borrow.Author.Needs.{needs}
 use Rattle.stack.proofs.frame.enter.Statement.{statement}
 use Rattle.stack.proofs.frame.enter.Tie as tie

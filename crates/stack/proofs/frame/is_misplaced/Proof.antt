@@ -1,6 +1,6 @@
 -- `is_misplaced` meets its contract: rO is a multiple of 8 and not negative, or it is misplaced.
 use mathlib.Core.Path.{_∙_}
-use Rattle.stack.proofs.Frames.{misplaced-negative, misplaced-odd}
+use Rattle.stack.proofs.PushPopRegisters.{misplaced-negative, misplaced-odd}
 use borrow.Author.Needs.{needs}
 use Rattle.stack.proofs.frame.is_misplaced.Statement.{statement}
 use Rattle.stack.proofs.frame.is_misplaced.Tie as tie

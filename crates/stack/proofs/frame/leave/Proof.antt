@@ -1,6 +1,6 @@
 -- `leave` meets its contract: what its calls leave is what POP does to the registers.
 use Rattle.model.specs.Parts.{lent}
-use Rattle.stack.proofs.Frames.{left}
+use Rattle.stack.proofs.PushPopRegisters.{left}
 use borrow.Author.Needs.{needs}
 use Rattle.stack.proofs.frame.leave.Statement.{statement}
 use Rattle.stack.proofs.frame.leave.Tie as tie

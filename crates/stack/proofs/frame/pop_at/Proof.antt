@@ -2,8 +2,8 @@
 use mathlib.Core.Path.{sym, _∙_}
 use native.Mathlib.Omega.{arith}
 use Rattle.model.specs.Parts.{made, lent}
-use Rattle.stack.proofs.Frames.{hole-run, hole-is, frame-run}
-use Rattle.stack.proofs.Outcomes.{pop-lacks, pop-short, pop-done}
+use Rattle.stack.proofs.PushPopRegisters.{hole-run, hole-is, frame-run}
+use Rattle.stack.proofs.PushPopAnswers.{pop-lacks, pop-short, pop-done}
 use borrow.Author.Needs.{needs}
 use Rattle.stack.proofs.frame.pop_at.Statement.{statement}
 use Rattle.stack.proofs.frame.pop_at.Tie as tie
@@ -23,6 +23,17 @@ wrapping-sub-requires c κs = search needs
 run-refusal-requires : tie.Need-run-refusal-requires
 run-refusal-requires c κs = search needs
 
+returns : tie.Need-returns
+returns c =
+    λ pc halt marks good.
+    let first = c .before in
+    let start = first .before .before .before .before .before .before in
+    let a = start .args in
+    let w = lent (a .base) (a .window .now) in
+    let l = a .special .now in
+    pop-lacks w (made (a .general .now) l pc halt marks) (a .x) (a .yz) (good .state-good) (good .window-good) (start .pre .1 .above) (good .place-good)
+    (λ i. c .if1 .taken (hole-run w l (start .pre .1) _ (first .before .wrapping-sub .ensures) _ (first .run-refusal .ensures) ∙ i))
+
 read-octa-requires : tie.Need-read-octa-requires
 read-octa-requires c κs = search needs
 
@@ -41,13 +52,27 @@ least-requires c κs = search needs
 run-refusal-requires-2 : tie.Need-run-refusal-requires-2
 run-refusal-requires-2 c κs = search needs
 
+returns-2 : tie.Need-returns-2
+returns-2 c =
+    λ pc halt marks good.
+    let judged = c .before in
+    let first = judged .before .before .before .before .before in
+    let start = first .before .before .before .before .before .before in
+    let a = start .args in
+    let w = lent (a .base) (a .window .now) in
+    let l = a .special .now in
+    pop-short w (made (a .general .now) l pc halt marks) (a .x) (a .yz) (good .state-good) (good .window-good) (start .pre .1 .above) (good .place-good)
+    (sym (hole-run w l (start .pre .1) _ (first .before .wrapping-sub .ensures) _ (first .run-refusal .ensures)) ∙ judged .before .before .before .before .if1 .left)
+    _ (hole-is w l (start .pre .1) _ (first .before .wrapping-sub .ensures) _ (judged .before .before .before .read-octa .ensures))
+    (λ i. c .if2 .taken (frame-run w l (start .pre .1) _ _ _ _ (omega arith) (judged .before .before .wrapping-sub2 .ensures) (judged .before .least .ensures) (judged .run-refusal2 .ensures) ∙ i))
+
 leave-requires : tie.Need-leave-requires
 leave-requires c κs =
     let judged = c .before .before .before in
     let start = judged .before .before .before .before .before .before .before .before .before .before .before in
     let a = start .args in
     let run = frame-run (lent (a .base) (a .window .now)) (a .special .now) (start .pre .1) _ _ _ _ (omega arith) (judged .before .before .wrapping-sub2 .ensures) (judged .before .least .ensures) (judged .run-refusal2 .ensures) in
-    (start .pre .0, omega arith, start .pre .1, sym run ∙ c .before .before .if2 .taken)
+    (start .pre .0, omega arith, start .pre .1, sym run ∙ c .before .before .if2 .left)
 
 mul-wrapping-add : tie.Need-mul-wrapping-add
 mul-wrapping-add c = search needs
@@ -55,45 +80,20 @@ mul-wrapping-add c = search needs
 wrapping-add-requires : tie.Need-wrapping-add-requires
 wrapping-add-requires c κs = search needs
 
-returns : tie.Need-returns
-returns c =
-    λ pc halt marks adm rul well.
+returns-3 : tie.Need-returns-3
+returns-3 c =
+    λ pc halt marks good.
     let judged = c .before .before .before .before .before in
     let first = judged .before .before .before .before .before in
     let start = first .before .before .before .before .before .before in
     let a = start .args in
     let w = lent (a .base) (a .window .now) in
     let l = a .special .now in
-    pop-done w (made (a .general .now) l pc halt marks) (a .x) (a .yz) adm rul (start .pre .1 .above) well
-    (sym (hole-run w l (start .pre .1) _ (first .before .wrapping-sub .ensures) _ (first .run-refusal .ensures)) ∙ judged .before .before .before .before .if1 .taken)
+    pop-done w (made (a .general .now) l pc halt marks) (a .x) (a .yz) (good .state-good) (good .window-good) (start .pre .1 .above) (good .place-good)
+    (sym (hole-run w l (start .pre .1) _ (first .before .wrapping-sub .ensures) _ (first .run-refusal .ensures)) ∙ judged .before .before .before .before .if1 .left)
     _ (hole-is w l (start .pre .1) _ (first .before .wrapping-sub .ensures) _ (judged .before .before .before .read-octa .ensures)) _ _
-    (sym (frame-run w l (start .pre .1) _ _ _ _ (omega arith) (judged .before .before .wrapping-sub2 .ensures) (judged .before .least .ensures) (judged .run-refusal2 .ensures)) ∙ c .before .before .before .before .if2 .taken)
+    (sym (frame-run w l (start .pre .1) _ _ _ _ (omega arith) (judged .before .before .wrapping-sub2 .ensures) (judged .before .least .ensures) (judged .run-refusal2 .ensures)) ∙ c .before .before .before .before .if2 .left)
     (c .before .leave .ensures pc halt marks) (c .wrapping-add .ensures)
-
-returns-2 : tie.Need-returns-2
-returns-2 c =
-    λ pc halt marks adm rul well.
-    let judged = c .before in
-    let first = judged .before .before .before .before .before in
-    let start = first .before .before .before .before .before .before in
-    let a = start .args in
-    let w = lent (a .base) (a .window .now) in
-    let l = a .special .now in
-    pop-short w (made (a .general .now) l pc halt marks) (a .x) (a .yz) adm rul (start .pre .1 .above) well
-    (sym (hole-run w l (start .pre .1) _ (first .before .wrapping-sub .ensures) _ (first .run-refusal .ensures)) ∙ judged .before .before .before .before .if1 .taken)
-    _ (hole-is w l (start .pre .1) _ (first .before .wrapping-sub .ensures) _ (judged .before .before .before .read-octa .ensures))
-    (λ i. c .if2 .left (frame-run w l (start .pre .1) _ _ _ _ (omega arith) (judged .before .before .wrapping-sub2 .ensures) (judged .before .least .ensures) (judged .run-refusal2 .ensures) ∙ i))
-
-returns-3 : tie.Need-returns-3
-returns-3 c =
-    λ pc halt marks adm rul well.
-    let first = c .before in
-    let start = first .before .before .before .before .before .before in
-    let a = start .args in
-    let w = lent (a .base) (a .window .now) in
-    let l = a .special .now in
-    pop-lacks w (made (a .general .now) l pc halt marks) (a .x) (a .yz) adm rul (start .pre .1 .above) well
-    (λ i. c .if1 .left (hole-run w l (start .pre .1) _ (first .before .wrapping-sub .ensures) _ (first .run-refusal .ensures) ∙ i))
 
 pub pop-at-spec : {M : Type 1} → statement M
 pop-at-spec =
@@ -104,15 +104,15 @@ pop-at-spec =
     element-copy-out-rj
     wrapping-sub-requires
     run-refusal-requires
+    returns
     read-octa-requires
     add-wrapping-sub
     mul-wrapping-sub
     wrapping-sub-requires-2
     least-requires
     run-refusal-requires-2
+    returns-2
     leave-requires
     mul-wrapping-add
     wrapping-add-requires
-    returns
-    returns-2
     returns-3)

@@ -1,7 +1,7 @@
 -- `restore` meets its contract: the parts that its calls make are the caller's registers.
 use mathlib.Core.Path.{refl}
 use Rattle.model.specs.Parts.{lent}
-use Rattle.stack.proofs.Frames.{restored-hole, restored-all}
+use Rattle.stack.proofs.PushPopRegisters.{restored-hole, restored-all}
 use borrow.Author.Needs.{needs}
 use Rattle.stack.proofs.frame.restore.Statement.{statement}
 use Rattle.stack.proofs.frame.restore.Tie as tie

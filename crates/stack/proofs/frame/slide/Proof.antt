@@ -5,8 +5,8 @@ use Prim.Native.Nat.{ℕ, _+_, _-_, _≤_}
 use lib.ListN.{getD}
 use Rattle.model.specs.Fill.{over}
 use Rattle.model.proofs.Fill.{over-none}
-use Rattle.machine.proofs.Ranges.{over-next}
-use Rattle.stack.proofs.Spans.{over-after}
+use Rattle.machine.proofs.RegisterRanges.{over-next}
+use Rattle.stack.proofs.SlidRanges.{over-after}
 use Rattle.stack.proofs.frame.slide.Statement.{statement}
 use Rattle.stack.proofs.frame.slide.Tie as tie
 

@@ -4,13 +4,13 @@ use native.Mathlib.Omega.{arith}
 use Prim.Native.Nat.{_+_}
 use Rattle.model.specs.Frames.{framed}
 use Rattle.model.specs.Parts.{made, lent}
-use Rattle.stack.proofs.Frames.{framed-hole, store-next}
+use Rattle.stack.proofs.PushPopRegisters.{framed-hole, locals-stored, store-next}
 use borrow.Author.Needs.{needs}
 use Rattle.stack.proofs.frame.store_frame.Statement.{statement}
 use Rattle.stack.proofs.frame.store_frame.Tie as tie
 
-store-locals-requires : tie.Need-store-locals-requires
-store-locals-requires c κs = search needs
+store-range-requires : tie.Need-store-range-requires
+store-range-requires c κs = search needs
 
 mul-wrapping-add : tie.Need-mul-wrapping-add
 mul-wrapping-add c = search needs
@@ -28,18 +28,18 @@ returns : tie.Need-returns
 returns c =
     let start = c .before .before .before .before .before .before .before .before .before .before in
     let a = start .args in
-    let locals = c .before .before .before .before .before .before .before .store-locals in
+    let locals = c .before .before .before .before .before .before .before .store-range in
     let sum = c .before .before .before .before .wrapping-add in
     λ special pc halt marks.
     let s = made (a .general .now) special pc halt marks in
-    store-next (lent (a .base) (a .window .now)) (a .ro) (a .h + 1) (a .h) _ (start .pre .1) (omega arith) (sum .ensures) (framed s (a .h)) _ _ _ (c .before .before .write-octa .ensures) (locals .ensures special pc halt marks)
+    store-next (lent (a .base) (a .window .now)) (a .ro) (a .h + 1) (a .h) _ (start .pre .1) (omega arith) (sum .ensures) (framed s (a .h)) _ _ _ (c .before .before .write-octa .ensures) (locals-stored _ _ s (a .ro) (a .h) (start .pre .0) (start .pre .1) (locals .ensures))
     (sym (framed-hole s (a .h)))
 
 pub store-frame-spec : {M : Type 1} → statement M
 store-frame-spec =
     tie.close
     (tie.spec
-    store-locals-requires
+    store-range-requires
     mul-wrapping-add
     wrapping-add-requires
     write-octa-requires

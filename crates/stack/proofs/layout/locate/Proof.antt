@@ -6,31 +6,34 @@ use Rattle.model.specs.Memory.{shapesOf}
 use Rattle.model.specs.Plan.{worst}
 use Rattle.model.specs.Step.{refusing}
 use Rattle.model.specs.Parts.{lent}
-use Rattle.stack.proofs.Places.{told-count, way-lost, way-threshold, way-status, way-outside, way-excess, way-short, way-found}
+use Rattle.stack.proofs.Judged.{lost-by, missing-by}
+use Rattle.stack.proofs.ContextPlaces.{told-count, way-lost, way-threshold, way-status, way-outside, way-excess, way-short, way-found}
 use Rattle.stack.proofs.layout.locate.Statement.{statement}
 use Rattle.stack.proofs.layout.locate.Tie as tie
 
 -- the packed octabyte lies inside
-inside : (c : tie.Then1) → worst (refusing (shapesOf (lent (c .before .before .before .args .base) (c .before .before .before .args .window .now)))) (c .before .before .before .args .address) 1 ≡ 0
-inside c = sym (c .before .run-refusal .ensures) ∙ c .if1 .taken
+inside : (c : tie.Else1) → worst (refusing (shapesOf (lent (c .before .before .before .args .base) (c .before .before .before .args .window .now)))) (c .before .before .before .args .address) 1 ≡ 0
+inside c = sym (c .before .run-refusal .ensures) ∙ c .if1 .left
 
 run-refusal-requires : tie.Need-run-refusal-requires
 run-refusal-requires c κs = search needs
 
+lost-requires : tie.Need-lost-requires
+lost-requires c κs = lost-by _ _ _ _ (c .before .run-refusal .ensures) (c .if1 .taken)
+
+returns : tie.Need-returns
+returns c =
+    let run = c .before .before .run-refusal in
+    way-lost _ _ (λ z. c .before .if1 .taken (run .ensures ∙ z)) _ (missing-by _ _ _ _ (run .ensures) (c .before .if1 .taken) _ (c .lost .ensures))
+
 read-octa-requires : tie.Need-read-octa-requires
 read-octa-requires c κs = search needs
 
-refused-requires : tie.Need-refused-requires
-refused-requires c κs = search needs
-
-returns : tie.Need-returns
-returns c = way-threshold _ _ _ (inside (c .before .before .before)) (c .before .before .read-octa .ensures) _ (c .before .if2 .taken) (c .refused .ensures)
-
-refused-requires-2 : tie.Need-refused-requires-2
-refused-requires-2 c κs = search needs
-
 returns-2 : tie.Need-returns-2
-returns-2 c = way-status _ _ _ (inside (c .before .before .before .before)) (c .before .before .before .read-octa .ensures) (c .before .before .if2 .left) (omega arith) _ (c .before .if3 .taken) (c .refused2 .ensures)
+returns-2 c = way-threshold _ _ _ (inside (c .before .before)) (c .before .read-octa .ensures) (c .if2 .taken)
+
+returns-3 : tie.Need-returns-3
+returns-3 c = way-status _ _ _ (inside (c .before .before .before)) (c .before .before .read-octa .ensures) (c .before .if2 .left) (omega arith) (c .if3 .taken)
 
 cast-save-context-layout : tie.Need-cast-save-context-layout
 cast-save-context-layout c = search needs
@@ -50,79 +53,64 @@ sub-run-refusal c = search needs
 run-refusal-requires-2 : tie.Need-run-refusal-requires-2
 run-refusal-requires-2 c κs = search needs
 
-returns-3 : tie.Need-returns-3
-returns-3 c =
-    let told = c .before .before .before .before .before in
-    let packed = told .before .before .before in
-    way-found _ _ _ (inside (packed .before)) (packed .read-octa .ensures) (told .before .before .if2 .left) (omega arith) (told .before .if3 .left) _ (told .save-context-layout .ensures) _ (c .before .before .before .layout .given .1)
-    (sym (c .before .run-refusal2 .ensures) ∙ c .if4 .taken)
-
-refused-requires-3 : tie.Need-refused-requires-3
-refused-requires-3 c κs = search needs
+lost-requires-2 : tie.Need-lost-requires-2
+lost-requires-2 c κs = lost-by _ _ _ _ (c .before .run-refusal2 .ensures) (c .if4 .taken)
 
 returns-4 : tie.Need-returns-4
 returns-4 c =
     let told = c .before .before .before .before .before .before in
     let packed = told .before .before .before in
-    way-short _ _ _ (inside (packed .before)) (packed .read-octa .ensures) (told .before .before .if2 .left) (omega arith) (told .before .if3 .left) _ (told .save-context-layout .ensures) _ (c .before .before .before .before .layout .given .1) _
-    (λ z. c .before .if4 .left (c .before .before .run-refusal2 .ensures ∙ z)) (c .refused3 .ensures)
+    let run = c .before .before .run-refusal2 in
+    way-short _ _ _ (inside (packed .before)) (packed .read-octa .ensures) (told .before .before .if2 .left) (omega arith) (told .before .if3 .left) _ (told .save-context-layout .ensures) _
+    (c .before .before .before .before .layout .given .1) (λ z. c .before .if4 .taken (run .ensures ∙ z)) _ (missing-by _ _ _ _ (run .ensures) (c .before .if4 .taken) _ (c .lost2 .ensures))
 
 enum-told : tie.Need-enum-told
 enum-told c = search needs
 
-refused-requires-4 : tie.Need-refused-requires-4
-refused-requires-4 c κs = search needs
+enum-known-layout-2 : tie.Need-enum-known-layout-2
+enum-known-layout-2 c = search needs
 
 returns-5 : tie.Need-returns-5
 returns-5 c =
-    let told = c .before .before .before in
+    let told = c .before .before .before .before .before in
     let packed = told .before .before .before in
-    way-excess _ _ _ (inside (packed .before)) (packed .read-octa .ensures) (told .before .before .if2 .left) (omega arith) (told .before .if3 .left) _ (told .save-context-layout .ensures) _ _
-    (c .before .enum-told .given .1) (c .refused4 .ensures)
-
-enum-told-2 : tie.Need-enum-told-2
-enum-told-2 c = search needs
-
-refused-requires-5 : tie.Need-refused-requires-5
-refused-requires-5 c κs = search needs
+    way-found _ _ _ (inside (packed .before)) (packed .read-octa .ensures) (told .before .before .if2 .left) (omega arith) (told .before .if3 .left) _ (told .save-context-layout .ensures) _
+    (c .before .before .before .layout .given .1) (sym (c .before .run-refusal2 .ensures) ∙ c .if4 .left)
 
 returns-6 : tie.Need-returns-6
 returns-6 c =
+    let told = c .before .before in
+    let packed = told .before .before .before in
+    way-excess _ _ _ (inside (packed .before)) (packed .read-octa .ensures) (told .before .before .if2 .left) (omega arith) (told .before .if3 .left) _ (told .save-context-layout .ensures) _
+    (c .enum-told .given .1)
+
+returns-7 : tie.Need-returns-7
+returns-7 c =
     let told = c .before .before .before in
     let packed = told .before .before .before in
     way-outside _ _ _ (inside (packed .before)) (packed .read-octa .ensures) (told .before .before .if2 .left) (omega arith) (told .before .if3 .left) _ (told .save-context-layout .ensures) _
-    (c .before .enum-told2 .given .1) (c .refused5 .ensures)
-
-refused-requires-6 : tie.Need-refused-requires-6
-refused-requires-6 c κs = search needs
-
-returns-7 : tie.Need-returns-7
-returns-7 c = way-lost _ _ _ (λ z. c .before .if1 .left (c .before .before .run-refusal .ensures ∙ z)) (c .refused6 .ensures)
+    (c .before .layout2 .given .1)
 
 pub locate-spec : {M : Type 1} → statement M
 locate-spec =
     tie.close
     (tie.spec
     run-refusal-requires
-    read-octa-requires
-    refused-requires
+    lost-requires
     returns
-    refused-requires-2
+    read-octa-requires
     returns-2
+    returns-3
     cast-save-context-layout
     save-context-layout-requires
     enum-known-layout
     add-run-refusal
     sub-run-refusal
     run-refusal-requires-2
-    returns-3
-    refused-requires-3
+    lost-requires-2
     returns-4
     enum-told
-    refused-requires-4
+    enum-known-layout-2
     returns-5
-    enum-told-2
-    refused-requires-5
     returns-6
-    refused-requires-6
     returns-7)

@@ -1,9 +1,18 @@
 -- `save_context_layout` meets its contract: the count outside, above the threshold, and the layout.
-use mathlib.Core.Path.{sym, _∙_}
-use Rattle.stack.proofs.Places.{layout-outside, layout-excess, layout-found}
+use mathlib.Core.Path.{_≡_, sym, _∙_}
+use Rattle.model.specs.Memory.{shapesOf}
+use Rattle.model.specs.Plan.{worst}
+use Rattle.model.specs.Step.{refusing}
+use Rattle.model.specs.Parts.{lent}
+use Rattle.stack.proofs.ContextPlaces.{layout-outside, layout-excess, layout-found}
+use Rattle.stack.proofs.Judged.{lost-by, missing-by}
 use borrow.Author.Needs.{needs}
 use Rattle.stack.proofs.layout.save_context_layout.Statement.{statement}
 use Rattle.stack.proofs.layout.save_context_layout.Tie as tie
+
+-- the local count lies inside
+inside : (c : tie.Else1) → worst (refusing (shapesOf (lent (c .before .before .before .before .args .base) (c .before .before .before .before .args .window .now)))) (c .before .before .wrapping-sub .result) 1 ≡ 0
+inside c = sym (c .before .run-refusal .ensures) ∙ c .if1 .left
 
 sub-wrapping-sub : tie.Need-sub-wrapping-sub
 sub-wrapping-sub c = search needs
@@ -17,8 +26,25 @@ wrapping-sub-requires c κs = search needs
 run-refusal-requires : tie.Need-run-refusal-requires
 run-refusal-requires c κs = search needs
 
+lost-requires : tie.Need-lost-requires
+lost-requires c κs = lost-by _ _ _ _ (c .before .run-refusal .ensures) (c .if1 .taken)
+
+returns : tie.Need-returns
+returns c =
+    let run = c .before .before .run-refusal in
+    layout-outside _ _ _ _ (c .before .before .before .wrapping-sub .ensures) (λ z. c .before .if1 .taken (run .ensures ∙ z)) _
+    (missing-by _ _ _ _ (run .ensures) (c .before .if1 .taken) _ (c .lost .ensures))
+
 read-octa-requires : tie.Need-read-octa-requires
 read-octa-requires c κs = search needs
+
+returns-2 : tie.Need-returns-2
+returns-2 c =
+    let read = c .before in
+    layout-excess _ _ _ _ (read .before .before .before .wrapping-sub .ensures) _ (inside (read .before)) (read .read-octa .ensures) (c .if2 .taken)
+
+mul-wrapping-sub-2 : tie.Need-mul-wrapping-sub-2
+mul-wrapping-sub-2 c = search needs
 
 wrapping-sub-requires-2 : tie.Need-wrapping-sub-requires-2
 wrapping-sub-requires-2 c κs = search needs
@@ -26,8 +52,11 @@ wrapping-sub-requires-2 c κs = search needs
 sub-wrapping-sub-2 : tie.Need-sub-wrapping-sub-2
 sub-wrapping-sub-2 c = search needs
 
-mul-wrapping-sub-2 : tie.Need-mul-wrapping-sub-2
-mul-wrapping-sub-2 c = search needs
+sub-wrapping-sub-3 : tie.Need-sub-wrapping-sub-3
+sub-wrapping-sub-3 c = search needs
+
+mul-wrapping-sub-3 : tie.Need-mul-wrapping-sub-3
+mul-wrapping-sub-3 c = search needs
 
 wrapping-sub-requires-3 : tie.Need-wrapping-sub-requires-3
 wrapping-sub-requires-3 c κs = search needs
@@ -35,30 +64,24 @@ wrapping-sub-requires-3 c κs = search needs
 add-wrapping-sub : tie.Need-add-wrapping-sub
 add-wrapping-sub c = search needs
 
-sub-wrapping-sub-3 : tie.Need-sub-wrapping-sub-3
-sub-wrapping-sub-3 c = search needs
+sub-wrapping-sub-4 : tie.Need-sub-wrapping-sub-4
+sub-wrapping-sub-4 c = search needs
 
-mul-wrapping-sub-3 : tie.Need-mul-wrapping-sub-3
-mul-wrapping-sub-3 c = search needs
+mul-wrapping-sub-4 : tie.Need-mul-wrapping-sub-4
+mul-wrapping-sub-4 c = search needs
 
 wrapping-sub-requires-4 : tie.Need-wrapping-sub-requires-4
 wrapping-sub-requires-4 c κs = search needs
 
-sub-t15 : tie.Need-sub-t15
-sub-t15 c = search needs
-
-returns : tie.Need-returns
-returns c =
-    layout-found _ _ _ _ (c .before .before .before .before .before .before .before .wrapping-sub .ensures) _ (sym (c .before .before .before .before .before .before .run-refusal .ensures) ∙ c .before .before .before .before .before .if1 .taken) (c .before .before .before .before .read-octa .ensures) _ _ _ (c .before .before .before .if2 .taken)
-    (c .before .before .wrapping-sub2 .ensures) (c .before .wrapping-sub3 .ensures) (c .wrapping-sub4 .ensures)
-
-returns-2 : tie.Need-returns-2
-returns-2 c =
-    layout-excess _ _ _ _ (c .before .before .before .before .wrapping-sub .ensures) _ (sym (c .before .before .before .run-refusal .ensures) ∙ c .before .before .if1 .taken) (c .before .read-octa .ensures) (c .if2 .left)
+sub-t12 : tie.Need-sub-t12
+sub-t12 c = search needs
 
 returns-3 : tie.Need-returns-3
 returns-3 c =
-    layout-outside _ _ _ _ (c .before .before .wrapping-sub .ensures) (λ z. c .if1 .left (c .before .run-refusal .ensures ∙ z))
+    let counted = c .before .before .before in
+    let read = counted .before in
+    layout-found _ _ _ _ (read .before .before .before .wrapping-sub .ensures) _ (inside (read .before)) (read .read-octa .ensures) _ _ _
+    (counted .if2 .left) (c .before .before .wrapping-sub2 .ensures) (c .before .wrapping-sub3 .ensures) (c .wrapping-sub4 .ensures)
 
 pub save-context-layout-spec : {M : Type 1} → statement M
 save-context-layout-spec =
@@ -68,16 +91,19 @@ save-context-layout-spec =
     mul-wrapping-sub
     wrapping-sub-requires
     run-refusal-requires
+    lost-requires
+    returns
     read-octa-requires
+    returns-2
+    mul-wrapping-sub-2
     wrapping-sub-requires-2
     sub-wrapping-sub-2
-    mul-wrapping-sub-2
-    wrapping-sub-requires-3
-    add-wrapping-sub
     sub-wrapping-sub-3
     mul-wrapping-sub-3
+    wrapping-sub-requires-3
+    add-wrapping-sub
+    sub-wrapping-sub-4
+    mul-wrapping-sub-4
     wrapping-sub-requires-4
-    sub-t15
-    returns
-    returns-2
+    sub-t12
     returns-3)

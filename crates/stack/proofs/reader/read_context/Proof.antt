@@ -1,5 +1,5 @@
 -- `read_context` meets its contract: the part that `place_context` found.
-use mathlib.Core.Path.{_≡_, ap}
+use mathlib.Core.Path.{_≡_, ap, _∙_}
 use mathlib.Core.List.{List}
 use Prim.Native.Nat.{ℕ, _+_, _-_}
 use native.Mathlib.Omega.{arith}
@@ -22,8 +22,8 @@ place-context-requires c κs = search needs
 add-end : tie.Need-add-end
 add-end c = omega (arith, c .before .place-context .ensures .lies-inside, c .before .before .before .good .0 .0)
 
-cast-reply : tie.Need-cast-reply
-cast-reply c = omega (arith, c .before .before .place-context .ensures .reply-most)
+number-of-requires : tie.Need-number-of-requires
+number-of-requires c κs = search needs
 
 sub-result : tie.Need-sub-result
 sub-result c = search needs
@@ -38,10 +38,10 @@ returns : tie.Need-returns
 returns c =
     let found = c .before .before .before .place-context .ensures in
     record {
-      reply-is = found .reply-is;
+      reply-is = c .before .number-of .ensures ∙ found .number-is;
       bytes-are = bytes-same _ _ _ _ _ (found .start-is) (found .size-is);
       lies-at = lies _ _ _ _ (found .start-is);
     }
 
 pub read-context-spec : {M : Type 1} → statement M
-read-context-spec = tie.close (tie.spec place-context-requires add-end cast-reply sub-result part-result-start part-result-end returns)
+read-context-spec = tie.close (tie.spec place-context-requires add-end number-of-requires sub-result part-result-start part-result-end returns)

@@ -1,4 +1,5 @@
--- Laws of `over` at any index, for loops that read the registers that they write.
+-- Laws of a range of registers, `over`, for loops that read the registers that they write: what lies out of a range, two functions alike
+-- in it, a loop that goes down and where it ends. Those of any loop are in crate machine, RegisterRanges.
 use mathlib.Core.Path.{_≡_, sym, ap, _∙_}
 use mathlib.Core.Logic.{⊎-elim}
 use mathlib.Core.List.{List}

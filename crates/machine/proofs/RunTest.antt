@@ -1,5 +1,6 @@
--- Laws of distances and of runs: n octabytes from an address up lie in a window where its length reaches the end of the run,
--- for a window of any length below 2^64; the first octabyte that does not fit is met before the distance wraps.
+-- Laws of the test of a run: distances; n octabytes from an address up lie in a window where its length reaches the end of the run, for a
+-- window of any length below 2^64, and the first octabyte that does not fit is met before the distance wraps; addresses modulo 2^64.
+-- What is read and written is in Octas.
 use mathlib.Core.Path.{_≡_, refl, _∙_}
 use mathlib.Core.Logic.{_⊎_, inl, inr, ⊎-elim}
 use mathlib.Core.Bool.{false}

@@ -1,4 +1,4 @@
--- Laws of PUT as code has it: the registers that rL and rG clear, and the refusal of each special register.
+-- Laws of PUT as code has it: the registers that rL and rG clear, what each answer gives, and the refusal of each special register.
 use mathlib.Core.Path.{_≡_, refl, sym, ap, _∙_}
 use mathlib.Core.Logic.{_⊎_, inl, inr}
 use mathlib.Core.Bool.{Bool, true, false, cond, _&&_, _||_}

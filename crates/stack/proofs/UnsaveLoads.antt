@@ -1,4 +1,5 @@
--- Laws of UNSAVE: octabytes as code reads them, the general registers loaded part by part, the twelve special registers loaded one after another, and the registers after it.
+-- Laws of UNSAVE: octabytes as code reads them, the general registers loaded part by part, the twelve special registers loaded one
+-- after another, and the registers after it. Where the context is comes from ContextPlaces, what is answered from SaveUnsaveAnswers.
 use mathlib.Core.Path.{_≡_, refl, sym, ap, _∙_}
 use mathlib.Core.Logic.{⊎-elim, _⊎_, inl, inr}
 use mathlib.Core.Bool.{true, false, cond, _&&_}
@@ -25,7 +26,7 @@ use Rattle.model.proofs.Runs.{getD-tab, length-tab, getD-looks}
 use Rattle.model.proofs.SaveUnsave.{further, savedSpecial-low, savedSpecial-high}
 use Rattle.machine.specs.Octas.{readOcta}
 use Rattle.machine.proofs.Octas.{run-read, read-mod}
-use Rattle.stack.specs.Work.{octasFrom, loaded}
+use Rattle.stack.specs.ContextWork.{octasFrom, loaded}
 
 -- ---- octabytes as code reads them
 

@@ -1,69 +1,51 @@
--- Laws of SAVE: stores one after another are the whole run of a context's octabytes, and what the registers are after it.
-use mathlib.Core.Path.{_≡_, refl, sym, ap, _∙_}
+-- Laws of SAVE: a run that goes on, stores one after another as the whole run of a context's octabytes, and the registers after it.
+-- What is answered is in SaveUnsaveAnswers.
+use mathlib.Core.Path.{_≡_, sym, ap, _∙_}
 use mathlib.Core.List.{List}
-use Prim.Native.Nat.{ℕ, _+_, _-_, _*_, _%_, _^_, _≤_, _<_}
+use Prim.Native.Nat.{ℕ, _+_, _-_, _*_, _%_, _^_, _≤_, _<_, min}
 use native.Mathlib.Omega.{arith}
 use lib.ListN.{length, getD, set, length-set}
 use lib.Seq.{getD-set-same}
 use Rattle.model.specs.Fill.{tab}
-use Rattle.model.specs.Memory.{Windows, Shapes, shapesOf, shapeOf, both}
+use Rattle.model.specs.Memory.{Windows, shapesOf, both}
 use Rattle.model.specs.Plan.{worst, puts}
 use Rattle.model.specs.Registers.{rO, rG, rL, rA, sp, reg, stored, spilled, withSpecial}
 use Rattle.model.specs.Contexts.{extent, savedSpecial, saved, savedUnspilled, savedState}
 use Rattle.model.specs.Step.{refusing}
-use Rattle.model.specs.Parts.{made, lent}
+use Rattle.model.specs.Parts.{made}
 use Rattle.model.specs.declared.State.{State}
 use Rattle.model.proofs.AdmissibleKept.{Adm}
-use Rattle.model.proofs.SaveUnsave.{further, saved-local, saved-count, saved-global, saved-twelve, saved-packed}
-use Rattle.machine.specs.Octas.{writtenOcta}
-use Rattle.machine.proofs.Octas.{puts-tab, written-shape}
-use Rattle.stack.specs.Work.{Ranged, Continues, StoresContext, leftGeneral, leftSpecial}
+use Rattle.model.proofs.SaveUnsave.{saved-local, saved-count, saved-global, saved-twelve, saved-packed}
+use Rattle.machine.specs.Octas.{writtenOcta, writtenRun, writtenRange}
+use Rattle.machine.proofs.Octas.{puts-none, puts-tab, puts-run}
+use Rattle.stack.specs.ContextWork.{Ranged, StoresContext, leftGeneral, leftSpecial}
 
 -- ---- a run that goes on
 
-pub continues-none : (v : Windows) (addr : ℕ) (g : ℕ → ℕ) → Continues v addr 0 g v
-continues-none v addr g = record { goes-on = λ w o k m f e a l p q. e ∙ ap (λ (n : ℕ). puts both w o (tab 0 n f)) (omega arith) }
-
--- a turn of the loop that stores g 0, g 1, ..
-pub continues-more : (v u t : Windows) (addr i at x : ℕ) (g : ℕ → ℕ) → Continues v addr i g u → at ≡ (addr + 8 * i) % 2 ^ 64 → x ≡ g i
-    → t ≡ writtenOcta u at x → Continues v addr (i + 1) g t
-continues-more v u t addr i at x g h e q d = record { goes-on = next }
-  where
-    next : (w : Windows) (o k m : ℕ) (f : ℕ → ℕ) → v ≡ puts both w o (tab 0 k f) → addr % 2 ^ 64 ≡ (o + 8 * k) % 2 ^ 64 → k + (i + 1) ≤ m
-        → worst (refusing (shapesOf w)) o m ≡ 0 → ((j : ℕ) → j < i + 1 → g j ≡ f (k + j)) → t ≡ puts both w o (tab 0 (k + (i + 1)) f)
-    next w o k m f b a l p r =
-        let have : u ≡ puts both w o (tab 0 (k + i) f) = h .goes-on w o k m f b a (omega arith) p (λ j n. r j (omega arith)) in
-        let same : k + i + 1 ≡ k + (i + 1) = omega arith in
-        d ∙ ap (λ (z : Windows). writtenOcta z at x) have
-        ∙ puts-tab w o m p (k + i) at (omega arith) (e ∙ further o addr k i a) f x (q ∙ r i (omega arith))
-        ∙ ap (λ (n : ℕ). puts both w o (tab 0 n f)) same
-
--- the run after it, n counted from the start of the whole
-continued : (w v u : Windows) (o addr k m n c : ℕ) (f g : ℕ → ℕ) → Continues v addr c g u → n ≡ k + c → v ≡ puts both w o (tab 0 k f)
+-- the next c octabytes of a run, n counted from the start of the whole
+continued : (w v u : Windows) (o addr k m n c : ℕ) (f g : ℕ → ℕ) → u ≡ writtenRun v addr c g → n ≡ k + c → v ≡ puts both w o (tab 0 k f)
     → addr % 2 ^ 64 ≡ (o + 8 * k) % 2 ^ 64 → n ≤ m → worst (refusing (shapesOf w)) o m ≡ 0 → ((i : ℕ) → i < c → g i ≡ f (k + i))
     → u ≡ puts both w o (tab 0 n f)
-continued w v u o addr k m n c f g h d e a l p q = h .goes-on w o k m f e a (omega arith) p q ∙ ap (λ (j : ℕ). puts both w o (tab 0 j f)) (sym d)
+continued w v u o addr k m n c f g h d e a l p q =
+    h ∙ puts-run w o k m f p v e addr a g c (omega arith) q ∙ ap (λ (j : ℕ). puts both w o (tab 0 j f)) (sym d)
 
--- a store keeps the window's length
-pub written-length : (base : ℕ) (l m : List ℕ) (a x : ℕ) → lent base m ≡ writtenOcta (lent base l) a x → length m ≡ length l
-unfolding shapeOf
-written-length base l m a x e = ap (λ (z : Shapes). z .size) (ap shapesOf e ∙ written-shape (lent base l) a x)
-
-none-put : (w : Windows) (o : ℕ) (f : ℕ → ℕ) → w ≡ puts both w o (tab 0 0 f)
-unfolding puts tab
-none-put w o f = refl
+-- a range of registers as such a run
+ranged-run : (v u : Windows) (addr from to n : ℕ) (general : List ℕ) → u ≡ writtenRange v addr from to general → min to 256 - from ≡ n
+    → u ≡ writtenRun v addr n (λ i. getD general (from + i) 0)
+unfolding writtenRange
+ranged-run v u addr from to n general e d = e ∙ rw d
 
 -- ---- the context
 
 -- the five stores one after another
 module _ (s : State) (b : Adm s) (w w1 w2 w3 w4 w5 : Windows) (marker globals specials packed : ℕ) where
-  stored-all : Continues w (sp s rO) (sp s rL) (λ i. reg s (0 + i)) w1
+  stored-all : w1 ≡ writtenRange w (sp s rO) 0 (sp s rL) (s .general)
       → marker ≡ (sp s rO + 8 * sp s rL) % 2 ^ 64
       → w2 ≡ writtenOcta w1 marker (sp s rL)
       → globals ≡ (sp s rO + 8 * (sp s rL + 1)) % 2 ^ 64
-      → Continues w2 globals (256 - sp s rG) (λ i. reg s (sp s rG + i)) w3
+      → w3 ≡ writtenRange w2 globals (sp s rG) 256 (s .general)
       → specials ≡ (sp s rO + 8 * (sp s rL + 257 - sp s rG)) % 2 ^ 64
-      → Continues w3 specials 12 (λ i. sp s (savedSpecial i)) w4
+      → w4 ≡ writtenRun w3 specials 12 (λ i. sp s (savedSpecial i))
       → packed ≡ (sp s rO + 8 * (sp s rL + 269 - sp s rG)) % 2 ^ 64
       → w5 ≡ writtenOcta w4 packed (sp s rG * 2 ^ 56 + sp s rA)
       → worst (refusing (shapesOf w)) (sp s rO) (extent s) ≡ 0 → w5 ≡ puts both w (sp s rO) (tab 0 (extent s) (saved s))
@@ -71,11 +53,11 @@ module _ (s : State) (b : Adm s) (w w1 w2 w3 w4 w5 : Windows) (marker globals sp
       let lg : sp s rL ≤ sp s rG = b .l-g in
       let gh : sp s rG ≤ 255 = b .g-high in
       let f1 : w1 ≡ puts both w (sp s rO) (tab 0 (sp s rL) (saved s))
-      = continued w w w1 (sp s rO) (sp s rO) 0 (extent s) (sp s rL) (sp s rL) (saved s) _ c1 (omega arith) (none-put w (sp s rO) (saved s)) (omega arith) (omega arith) pass locals in
+      = continued w w w1 (sp s rO) (sp s rO) 0 (extent s) (sp s rL) (sp s rL) (saved s) _ (ranged-run w w1 (sp s rO) 0 (sp s rL) (sp s rL) (s .general) c1 (omega arith)) (omega arith) (sym (puts-none w (sp s rO) (saved s))) (omega arith) (omega arith) pass locals in
       let f2 : w2 ≡ puts both w (sp s rO) (tab 0 (sp s rL + 1) (saved s))
       = single w1 w2 (sp s rL) marker (sp s rL) pass (omega arith) em f1 e2 (sym (saved-count s b)) in
       let f3 : w3 ≡ puts both w (sp s rO) (tab 0 (sp s rL + 257 - sp s rG) (saved s))
-      = continued w w2 w3 (sp s rO) globals (sp s rL + 1) (extent s) (sp s rL + 257 - sp s rG) (256 - sp s rG) (saved s) _ c3 (omega arith) f2 (omega arith) (omega arith) pass globals-are in
+      = continued w w2 w3 (sp s rO) globals (sp s rL + 1) (extent s) (sp s rL + 257 - sp s rG) (256 - sp s rG) (saved s) _ (ranged-run w2 w3 globals (sp s rG) 256 (256 - sp s rG) (s .general) c3 (omega arith)) (omega arith) f2 (omega arith) (omega arith) pass globals-are in
       let f4 : w4 ≡ puts both w (sp s rO) (tab 0 (sp s rL + 269 - sp s rG) (saved s))
       = continued w w3 w4 (sp s rO) specials (sp s rL + 257 - sp s rG) (extent s) (sp s rL + 269 - sp s rG) 12 (saved s) _ c4 (omega arith) f3 (omega arith) (omega arith) pass (λ i h. sym (saved-twelve s b i h)) in
       single w4 w5 (sp s rL + 269 - sp s rG) packed (sp s rG * 2 ^ 56 + sp s rA) pass (omega arith) ep f4 e5 (sym (saved-packed s b))
@@ -94,13 +76,13 @@ module _ (s : State) (b : Adm s) (w w1 w2 w3 w4 w5 : Windows) (marker globals sp
       single v u k at x p h e f d q = d ∙ ap (λ (z : Windows). writtenOcta z at x) f ∙ puts-tab w (sp s rO) (extent s) p k at h e (saved s) x q
 
 pub context-stored : (general special : List ℕ) → Ranged special → (w w1 w2 w3 w4 w5 : Windows) (marker globals specials packed : ℕ)
-    → Continues w (getD special rO 0) (getD special rL 0) (λ i. getD general (0 + i) 0) w1
+    → w1 ≡ writtenRange w (getD special rO 0) 0 (getD special rL 0) general
     → marker ≡ (getD special rO 0 + 8 * getD special rL 0) % 2 ^ 64
     → w2 ≡ writtenOcta w1 marker (getD special rL 0)
     → globals ≡ (getD special rO 0 + 8 * (getD special rL 0 + 1)) % 2 ^ 64
-    → Continues w2 globals (256 - getD special rG 0) (λ i. getD general (getD special rG 0 + i) 0) w3
+    → w3 ≡ writtenRange w2 globals (getD special rG 0) 256 general
     → specials ≡ (getD special rO 0 + 8 * (getD special rL 0 + 257 - getD special rG 0)) % 2 ^ 64
-    → Continues w3 specials 12 (λ i. getD special (savedSpecial i) 0) w4
+    → w4 ≡ writtenRun w3 specials 12 (λ i. getD special (savedSpecial i) 0)
     → packed ≡ (getD special rO 0 + 8 * (getD special rL 0 + 269 - getD special rG 0)) % 2 ^ 64
     → w5 ≡ writtenOcta w4 packed (getD special rG 0 * 2 ^ 56 + getD special rA 0)
     → StoresContext general special w w5

@@ -1,4 +1,5 @@
--- Laws of `over` at lists of any length: a loop's turn past the end, and a range cut to the list.
+-- Laws of a range of registers, `over`, at lists of any length: two ranges alike, a loop's turn, also past the end, and a range cut to
+-- the list. Those for loops that read what they write are in crate stack, SlidRanges; the first ones in model, Fill.
 use mathlib.Core.Path.{_≡_, sym, _∙_}
 use mathlib.Core.Logic.{⊎-elim}
 use mathlib.Core.List.{List}

@@ -1,7 +1,8 @@
--- What code does to registers and window for PUSH and POP is what the definitions do, from the facts that its calls leave.
+-- What code does to registers and window for PUSH and POP is what the definitions do, from the facts that its calls leave: what judging
+-- gives, PUSH, POP. What is answered is in PushPopAnswers.
 use mathlib.Core.Path.{_≡_, refl, sym, ap, _∙_}
 use mathlib.Core.Logic.{⊎-elim}
-use mathlib.Core.Bool.{Bool, true, false, not}
+use mathlib.Core.Bool.{true, false}
 use mathlib.Core.List.{List}
 use Prim.Native.Nat.{ℕ, _+_, _-_, _*_, _%_, _^_, _≤_, _<_, min}
 use native.Mathlib.Nat.{eq-or-lt-of-le}
@@ -12,7 +13,7 @@ use lib.Seq.{ext-getD, getD-set-same, getD-set-other}
 use borrow.Author.Tests.{lt-ltb, le-ltb, lt-leb, le-leb, eq-eqb, ne-eqb, ltb-true}
 use Rattle.model.specs.Fill.{over, tab}
 use Rattle.model.specs.Registers.{rJ, rO, rS, rG, rL, stackStart, sp, reg, admissible, withSpecial, spilled}
-use Rattle.model.specs.Memory.{Windows, Shapes, shapesOf, shapeOf, both}
+use Rattle.model.specs.Memory.{Windows, shapesOf, both}
 use Rattle.model.specs.Plan.{worst, looks, puts}
 use Rattle.model.specs.Frames.{framed, slid, slide, pushedRule, pushed, countOf, lastOutput, restored, unslide, popped, misplaced}
 use Rattle.model.specs.Parts.{made}
@@ -23,10 +24,11 @@ use Rattle.model.proofs.Bools.{and-right}
 use Rattle.model.proofs.Memory.{one-lawful}
 use Rattle.model.proofs.Runs.{getD-looks}
 use Rattle.model.proofs.AdmissibleKept.{adm, spec-other}
-use Rattle.machine.specs.Octas.{readOcta, writtenOcta}
-use Rattle.machine.proofs.Octas.{puts-shape, puts-tab, run-read}
-use Rattle.stack.specs.Frame.{Held, Placed, bottomOf, restoredBy}
-use Rattle.stack.proofs.Spans.{over-before, over-alike}
+use Rattle.machine.specs.Octas.{readOcta, writtenOcta, writtenRange}
+use Rattle.machine.proofs.Octas.{puts-none, puts-tab, puts-run, run-read}
+use Rattle.stack.specs.PushPop.{Held, Placed, bottomOf, restoredBy}
+use Rattle.stack.proofs.Judged.{granted}
+use Rattle.stack.proofs.SlidRanges.{over-before, over-alike}
 
 -- ---- what judging gives
 
@@ -40,13 +42,9 @@ held-by s a =
       l-g = f .l-g;
     }
 
-not-false : (t : Bool) → not t ≡ false → t ≡ true
-not-false true e = refl
-not-false false e = sym e
-
 pub placed-by : (s : State) → stackStart < sp s rO → misplaced s ≡ false → Placed (s .special)
 unfolding misplaced
-placed-by s a m = record { above = a; beneath = ltb-true _ _ (and-right (eqb (sp s rO % 8) 0) _ (not-false _ m)) }
+placed-by s a m = record { above = a; beneath = ltb-true _ _ (and-right (eqb (sp s rO % 8) 0) _ (granted _ _ refl m)) }
 
 -- ---- PUSH
 
@@ -87,9 +85,15 @@ pub framed-hole : (s : State) (h : ℕ) → framed s h h ≡ h
 unfolding framed
 framed-hole s h = rw (le-ltb h h (omega arith))
 
-pub puts-length : (w : Windows) (a : ℕ) (vs : List ℕ) → length (puts both w a vs .bytes) ≡ length (w .bytes)
-unfolding shapeOf
-puts-length w a vs = ap (λ (z : Shapes). z .size) (puts-shape w a vs)
+-- its locals, which are a range of the registers
+pub locals-stored : (w u : Windows) (s : State) (a h : ℕ) → h ≤ 255 → worst (refusing (shapesOf w)) a (h + 1) ≡ 0
+    → u ≡ writtenRange w a 0 h (s .general) → u ≡ puts both w a (tab 0 h (framed s h))
+unfolding writtenRange
+locals-stored w u s a h l pass e =
+    let n : min h 256 - 0 ≡ h = omega arith in
+    let z : (i : ℕ) → 0 + i ≡ i = λ i. omega arith in
+    e ∙ rw n (puts-run w a 0 (h + 1) (framed s h) pass w (sym (puts-none w a (framed s h))) a (omega arith) _ h (omega arith)
+    (λ i b. ap (reg s) (z i) ∙ sym (framed-local s h i b) ∙ ap (framed s h) (sym (z i))) ∙ ap (λ (k : ℕ). puts both w a (tab 0 k (framed s h))) (z h))
 
 -- one octabyte more of a list that is stored
 pub store-next : (w : Windows) (a n i at : ℕ) → worst (refusing (shapesOf w)) a n ≡ 0 → i < n → at ≡ (a + 8 * i) % 2 ^ 64

@@ -1,8 +1,9 @@
--- The ways out of save_context and unsave_context: each is what the guarded plan gives, PC apart.
-use mathlib.Core.Path.{_≡_, refl, ap, _∙_}
+-- The ways out of save_context and unsave_context, in that order: each is what the guarded plan gives, PC apart. What SAVE stores is in
+-- SaveStores, what UNSAVE loads in UnsaveLoads, what `locate` tells in LocateAnswers.
+use mathlib.Core.Path.{_≡_, refl, sym, ap, _∙_}
 use mathlib.Core.Bool.{true, false}
 use mathlib.Core.List.{List}
-use Prim.Native.Nat.{ℕ, _+_, _-_, _≤_, _<_}
+use Prim.Native.Nat.{ℕ, _-_, _≤_, _<_}
 use lib.Dec.{eqb}
 use borrow.Author.Tests.{lt-ltb, le-ltb, eq-eqb, ne-eqb}
 use Rattle.model.specs.Fill.{tab}
@@ -12,7 +13,7 @@ use Rattle.model.specs.Registers.{rO, rG, sp, admissible, goes, next, halted, s
 use Rattle.model.specs.Contexts.{extent, saved, savedUnspilled, savedState, saveContext, unsavedUnspilled, unsaved, contextAt, unsaveContext}
 use Rattle.model.specs.NoMemory.{tell}
 use Rattle.model.specs.Step.{refusing}
-use Rattle.model.specs.Numbers.{replyOf}
+use Rattle.model.specs.Numbers.{numberOf, replyOf}
 use Rattle.model.specs.Parts.{made}
 use Rattle.model.specs.declared.State.{State}
 use Rattle.model.specs.declared.Reply.{Reply}
@@ -20,13 +21,16 @@ use Rattle.model.specs.declared.Reply.the-variants.{Done, NotAdmissible, Window
 use Rattle.model.proofs.AdmissibleKept.{Adm, adm}
 use Rattle.model.proofs.ArmAnswers.{worst-six}
 use Rattle.model.proofs.Runs.{length-tab}
+use Rattle.model.proofs.Numbers.{numbered}
 use Rattle.model.proofs.Entry.{performOn, Inside, said}
-use Rattle.stack.specs.Gives.{Gives}
-use Rattle.stack.specs.Context.{saveOf, unsaveOf, LocatedIs}
-use Rattle.stack.specs.Work.{Ranged, StoresContext, octasFrom}
+use Rattle.stack.specs.GivenBack.{Gives}
+use Rattle.stack.specs.SaveUnsave.{saveOf, unsaveOf, UnsaveGives, LocatedIs}
+use Rattle.stack.specs.ContextWork.{Ranged, StoresContext, unsavedAs}
+use Rattle.stack.specs.declared.layout.SavedContext.{SavedContext}
 use Rattle.stack.specs.declared.layout.Located.{Located}
+use Rattle.stack.specs.declared.layout.Located.the-variants.{Found, Bad, Lost}
 use Rattle.stack.proofs.Judged.{guarded-one, guarded-two, guarded-open}
-use Rattle.stack.proofs.Turns.{comes}
+use Rattle.stack.proofs.LocateAnswers.{comes}
 
 -- the bounds of an admissible state
 pub ranged : (general special : List ℕ) (pc halt marks : ℕ) → admissible (made general special pc halt marks) ≡ true → Ranged special
@@ -69,9 +73,9 @@ module _ (w : Windows) (s : State) (x : ℕ) where
           plan : performOn w s (saveContext s x) ≡ record { reply = 13; state = halted s; memory = w }
           plan = unfold saveContext tell in rw (lt-ltb x (sp s rG) l) (said w s (halted s) 13)
 
-      pub save-missing : sp s rG ≤ x → (Inside w (sp s rO) (extent s) → ⊥) → Gives (saveOf w s x) s Missing s w
+      pub save-missing : sp s rG ≤ x → (Inside w (sp s rO) (extent s) → ⊥) → (q : Reply) → q ≡ Missing → Gives (saveOf w s x) s q s w
       unfolding saveOf replyOf
-      save-missing l f = kept w s _ 6 Missing refl (guarded-open w s (saveContext s x) a r ∙ plan)
+      save-missing l f q d = kept w s _ 6 q d (guarded-open w s (saveContext s x) a r ∙ plan)
         where
           short : eqb (worst (refusing (shapesOf w)) (sp s rO) (extent s)) 0 ≡ false
           short = ne-eqb _ _ f
@@ -113,19 +117,18 @@ module _ (w : Windows) (s : State) (p : ℕ) where
       unfolding unsaveOf unsaveContext
       opened = guarded-open w s (unsaveContext s p) a r
 
-      pub unsave-done : at .reply ≡ 0 → (t : State)
-          → t ≡ unsaved s (at .first) (at .rg) (at .ra) (at .count) (octasFrom w (at .first) (at .count + 270 - at .rg)) → Gives (unsaveOf w s p) s Done t w
+      pub unsave-done : (c : SavedContext) → at ≡ Found c → (t : State)
+          → t ≡ unsavedAs w s c → UnsaveGives w s p Done t
       unfolding replyOf
-      unsave-done z t d =
-          moves w s _ 0 Done refl t (unsaved s (at .first) (at .rg) (at .ra) (at .count) (octasFrom w (at .first) (at .count + 270 - at .rg))) d same
-          (opened ∙ comes w p s (halted s) found at h .done z)
+      unsave-done c z t d =
+          moves w s _ 0 Done refl t (unsavedAs w s c) d same
+          (opened ∙ comes w p s (halted s) found at h .done c z)
         where
-          same : unsaved s (at .first) (at .rg) (at .ra) (at .count) (octasFrom w (at .first) (at .count + 270 - at .rg)) .pc ≡ s .pc
+          same : unsavedAs w s c .pc ≡ s .pc
           same = unfold unsaved spilled withSpecial unsavedUnspilled in refl
 
-      pub unsave-missing : at .reply ≡ 6 → Gives (unsaveOf w s p) s Missing s w
-      unfolding replyOf
-      unsave-missing z = kept w s _ 6 Missing refl (opened ∙ comes w p s (halted s) found at h .six z)
+      pub unsave-lost : (q : Reply) → at ≡ Lost q → UnsaveGives w s p q s
+      unsave-lost q z = kept w s _ (numberOf q) q (sym (numbered .reply-number q)) (opened ∙ comes w p s (halted s) found at h .lost q z)
 
-      pub unsave-refused : (at .reply ≡ 0 → ⊥) → (at .reply ≡ 6 → ⊥) → (q : Reply) → q ≡ replyOf (at .reply) → Gives (unsaveOf w s p) s q (halted s) w
-      unsave-refused f k q d = halts w s _ (at .reply) q d (opened ∙ comes w p s (halted s) found at h .other f k)
+      pub unsave-bad : (q : Reply) → at ≡ Bad q → UnsaveGives w s p q (halted s)
+      unsave-bad q z = halts w s _ (numberOf q) q (sym (numbered .reply-number q)) (opened ∙ comes w p s (halted s) found at h .other q z)

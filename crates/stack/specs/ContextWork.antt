@@ -1,5 +1,5 @@
--- What the contracts of the private functions cite: bounds, a run of stores that goes on, octabytes as code reads them, and the
--- twelve special registers loaded one after another.
+-- What the contracts of the private functions of SAVE and UNSAVE cite: bounds, the context stored, the registers left, octabytes as code
+-- reads them, and the twelve special registers loaded one after another.
 use Prim.Native.Nat.{ℕ, zero, suc, _+_, _-_, _*_, _%_, _^_, _≤_, _<_}
 use mathlib.Core.Path.{_≡_}
 use mathlib.Core.List.{List}
@@ -8,10 +8,13 @@ use Rattle.model.specs.Fill.{over, tab}
 use Rattle.model.specs.Memory.{Windows, shapesOf, both}
 use Rattle.model.specs.Plan.{worst, puts}
 use Rattle.model.specs.Registers.{rO, rS, rG, rL, rA}
-use Rattle.model.specs.Contexts.{extent, savedSpecial, saved}
+use Rattle.model.specs.Contexts.{extent, savedSpecial, saved, unsaved}
 use Rattle.model.specs.Step.{refusing}
 use Rattle.model.specs.Parts.{made}
 use Rattle.machine.specs.Octas.{readOcta}
+use Rattle.model.specs.declared.State.{State}
+use Rattle.stack.specs.SaveUnsave.{contextOctas, packedAt}
+use Rattle.stack.specs.declared.layout.SavedContext.{SavedContext}
 
 -- what a context's size and packed octabyte rest on
 pub record Ranged (special : List ℕ) : Type 0 where
@@ -19,12 +22,6 @@ pub record Ranged (special : List ℕ) : Type 0 where
   pub g-high : getD special rG 0 ≤ 255
   pub l-g : getD special rL 0 ≤ getD special rG 0
   pub a-high : getD special rA 0 ≤ 0x3FFFF
-
--- u is v with g 0 to g (n − 1) stored from addr up, as a part of a longer run: where v is w with the first k of the octabytes
--- f 0, f 1, .. of a run of m inside it, and these are the next n, u is w with the first k + n
-pub record Continues (v : Windows) (addr n : ℕ) (g : ℕ → ℕ) (u : Windows) : Type 0 where
-  pub goes-on : (w : Windows) (o k m : ℕ) (f : ℕ → ℕ) → v ≡ puts both w o (tab 0 k f) → addr % 2 ^ 64 ≡ (o + 8 * k) % 2 ^ 64 → k + n ≤ m
-      → worst (refusing (shapesOf w)) o m ≡ 0 → ((i : ℕ) → i < n → g i ≡ f (k + i)) → u ≡ puts both w o (tab 0 (k + n) f)
 
 -- v is w with the context of these registers stored from rO up, where it lies inside
 pub record StoresContext (general special : List ℕ) (w v : Windows) : Type 0 where
@@ -34,16 +31,20 @@ pub record StoresContext (general special : List ℕ) (w v : Windows) : Type 0 w
 -- the registers that SAVE $x leaves
 unfoldable pub leftGeneral : List ℕ → List ℕ → ℕ → List ℕ
 leftGeneral general special x =
-    set (over (λ k. 0) 0 (getD special rG 0) general) x ((getD special rO 0 + 8 * (getD special rL 0 + 269 - getD special rG 0)) % 2 ^ 64)
+    set (over (λ k. 0) 0 (getD special rG 0) general) x ((getD special rO 0 + 8 * packedAt (getD special rG 0) (getD special rL 0)) % 2 ^ 64)
 
 unfoldable pub leftSpecial : List ℕ → List ℕ
 leftSpecial special =
-    set (set (set special rL 0) rO ((getD special rO 0 + 8 * (getD special rL 0 + 270 - getD special rG 0)) % 2 ^ 64)) rS
-    ((getD special rO 0 + 8 * (getD special rL 0 + 270 - getD special rG 0)) % 2 ^ 64)
+    set (set (set special rL 0) rO ((getD special rO 0 + 8 * contextOctas (getD special rG 0) (getD special rL 0)) % 2 ^ 64)) rS
+    ((getD special rO 0 + 8 * contextOctas (getD special rG 0) (getD special rL 0)) % 2 ^ 64)
 
 -- the n octabytes from address a up, as code reads them
 unfoldable pub octasFrom : Windows → ℕ → ℕ → List ℕ
 octasFrom w a n = tab 0 n (λ i. readOcta w ((a + 8 * i) % 2 ^ 64))
+
+-- the state that UNSAVE makes of s by a context that was found
+abbrev pub unsavedAs : Windows → State → SavedContext → State
+unsavedAs w s c = unsaved s (c .first) (c .rg) (c .ra) (c .count) (octasFrom w (c .first) (contextOctas (c .rg) (c .count)))
 
 -- l with f k at the place of the special that is number k of the twelve, for each k below n
 unfoldable pub loaded : (ℕ → ℕ) → ℕ → List ℕ → List ℕ

@@ -1,5 +1,5 @@
--- Where a context is: the stages 6, 14, 15, 6, 16, 6 as code goes through them, and what a context that code has located is to
--- UNSAVE and to the reader.
+-- Where a context is: an octabyte at an address modulo 2^64, the layout, the stages 6, 14, 15, 6, 16, 6 as code goes through them, what a
+-- layout tells, and the ways out of `locate`. What UNSAVE and the reader make of its answer is in LocateAnswers.
 use mathlib.Core.Path.{_≡_, refl, sym, ap, subst, _∙_}
 use mathlib.Core.Bool.{true, false}
 use mathlib.Core.List.{List, []}
@@ -9,9 +9,12 @@ use lib.Dec.{leb, eqb}
 use lib.ListN.{getD}
 use borrow.Author.Tests.{leb-true, leb-false, le-leb, lt-leb, ne-eqb}
 use Rattle.model.specs.Memory.{Windows, shapesOf, inside, both}
-use Rattle.model.specs.Plan.{Plan, answer, read, Outcome, perform, worst, named, look}
+use Rattle.model.specs.Plan.{Plan, answer, read, perform, worst, named, look}
 use Rattle.model.specs.Contexts.{below, contextRest, contextCount, contextAt}
 use Rattle.model.specs.Step.{refusing}
+use Rattle.model.specs.Numbers.{numberOf, replyOf}
+use Rattle.model.specs.declared.Reply.{Reply}
+use Rattle.model.specs.declared.Reply.the-variants.{Missing, SavedThreshold, SavedStatus, SavedCount}
 use Rattle.model.proofs.Bools.{on}
 use Rattle.model.proofs.Memory.{one-lawful}
 use Rattle.model.proofs.ArmAnswers.{worst-six}
@@ -20,11 +23,13 @@ use Rattle.model.proofs.SaveUnsave.{refusing-mod, looked, Context, context-foun
 use Rattle.model.proofs.Entry.{performOn, Inside, said, inside-judged}
 use Rattle.machine.specs.Octas.{readOcta}
 use Rattle.machine.proofs.Octas.{passed-has, missed-has, read-in, read-mod}
-use Rattle.machine.proofs.Spans.{run-one}
-use Rattle.stack.specs.Context.{layoutAt, countReply, layoutNumber, layoutAnswer, LayoutIs, spot, locatedOf, LocatedIs}
-use Rattle.stack.specs.declared.layout.Located.{Located}
+use Rattle.machine.proofs.RunTest.{run-one}
+use Rattle.stack.specs.SaveUnsave.{layoutAt, countReply, layoutNumber, layoutAnswer, LayoutIs, spot, locatedOf, locatedNumber, locatedAnswer, LocatedIs}
 use Rattle.stack.specs.declared.layout.Layout.{Layout}
-use Rattle.stack.specs.declared.layout.Layout.the-variants.{Found, Excess, Outside}
+use Rattle.stack.specs.declared.layout.Layout.the-variants.{Excess, Outside}
+use Rattle.stack.specs.declared.layout.Layout.the-variants as layout
+use Rattle.stack.specs.declared.layout.SavedContext.{SavedContext}
+use Rattle.stack.specs.declared.layout.Located.the-variants.{Found, Bad, Lost}
 use Rattle.stack.specs.declared.layout.SaveContextLayout.{SaveContextLayout}
 
 -- ---- the octabyte at an address that is taken modulo 2^64
@@ -55,9 +60,9 @@ module _ (w : Windows) (p g marker : ℕ) (e : marker ≡ below p (269 - g) % 2 
   answered : (n l : ℕ) (r : Layout) → countReply w p g ≡ n → look both w (below p (269 - g)) ≡ l → r ≡ layoutAnswer p g l n → layoutNumber r ≡ n → LayoutIs w p g r
   answered n l r c d a b = record { answer-is = rw (c, d) a; number-is = b ∙ sym c }
 
-  pub layout-outside : (worst (refusing (shapesOf w)) marker 1 ≡ 0 → ⊥) → LayoutIs w p g Outside
-  unfolding countReply layoutAnswer layoutNumber
-  layout-outside h = answered 6 _ Outside (rw (one-out w (below p (269 - g)) marker e h)) refl refl refl
+  pub layout-outside : (worst (refusing (shapesOf w)) marker 1 ≡ 0 → ⊥) → (q : Reply) → q ≡ Missing → LayoutIs w p g (Outside q)
+  unfolding countReply layoutAnswer layoutNumber replyOf numberOf
+  layout-outside h q d = rw d (answered 6 _ (Outside Missing) (rw (one-out w (below p (269 - g)) marker e h)) refl refl refl)
 
   module _ (count : ℕ) (h : worst (refusing (shapesOf w)) marker 1 ≡ 0) (d : count ≡ readOcta w marker) where
     count-there : inside (shapesOf w) (below p (269 - g)) ≡ true
@@ -71,7 +76,7 @@ module _ (w : Windows) (p g marker : ℕ) (e : marker ≡ below p (269 - g) % 2 
     layout-excess l = answered 16 count (Excess count) (rw (count-there, count-read, lt-leb count g l)) count-read refl refl
 
     pub layout-found : (sb gb lb : ℕ) → count ≤ g → sb ≡ below p 12 % 2 ^ 64 → gb ≡ below p (268 - g) % 2 ^ 64 → lb ≡ below p (count + 269 - g) % 2 ^ 64
-        → LayoutIs w p g (Found (record { «specials_base» = sb; «globals_base» = gb; «global_count» = 256 - g; «local_count» = count; «locals_base» = lb }))
+        → LayoutIs w p g (layout.Found (record { «specials_base» = sb; «globals_base» = gb; «global_count» = 256 - g; «local_count» = count; «locals_base» = lb }))
     unfolding countReply layoutAnswer layoutNumber layoutAt
     layout-found sb gb lb l es eg el = answered 0 count _ (rw (count-there, count-read, le-leb count g l)) count-read (rw (es, eg, el)) refl
 
@@ -138,34 +143,34 @@ module _ (w : Windows) (p g : ℕ) (k : Layout) (e : LayoutIs w p g k) where
 
   -- a fact that follows from the case of each of the three numbers
   by-number : (P : Layout → Type 0)
-      → (inside (shapesOf w) at-count ≡ true → look both w at-count ≤ g → P (Found (layoutAt p g (look both w at-count))))
+      → (inside (shapesOf w) at-count ≡ true → look both w at-count ≤ g → P (layout.Found (layoutAt p g (look both w at-count))))
       → (inside (shapesOf w) at-count ≡ true → g < look both w at-count → P (Excess (look both w at-count)))
-      → (inside (shapesOf w) at-count ≡ false → P Outside)
+      → (inside (shapesOf w) at-count ≡ false → P (Outside Missing))
       → P k
-  unfolding countReply layoutAnswer
+  unfolding countReply layoutAnswer replyOf
   by-number P a b c =
       subst P (sym (e .answer-is))
       (on (λ (n : ℕ). P (layoutAnswer p g (look both w at-count) n)) (inside (shapesOf w) at-count)
       (λ h. on (λ (n : ℕ). P (layoutAnswer p g (look both w at-count) n)) (leb (look both w at-count) g) (λ f. a h (leb-true _ _ f)) (λ f. b h (leb-false _ _ f)))
       c)
 
-  told-outside : k ≡ Outside → inside (shapesOf w) at-count ≡ false
-  told-outside =
-      by-number (λ (y : Layout). y ≡ Outside → inside (shapesOf w) at-count ≡ false)
-      (λ h f q. let z : _≡_ {A = ℕ} 0 1 = cc in absurd (omega arith)) (λ h f q. let z : _≡_ {A = ℕ} 0 1 = cc in absurd (omega arith)) (λ h q. h)
+  told-outside : (r : Reply) → k ≡ Outside r → (inside (shapesOf w) at-count ≡ false) × (r ≡ Missing)
+  told-outside r =
+      by-number (λ (y : Layout). y ≡ Outside r → (inside (shapesOf w) at-count ≡ false) × (r ≡ Missing))
+      (λ h f q. let z : _≡_ {A = ℕ} 0 1 = cc in absurd (omega arith)) (λ h f q. let z : _≡_ {A = ℕ} 0 1 = cc in absurd (omega arith)) (λ h q. (h, cc))
 
   told-excess : (n : ℕ) → k ≡ Excess n → (inside (shapesOf w) at-count ≡ true) × (g < look both w at-count)
   told-excess n =
       by-number (λ (y : Layout). y ≡ Excess n → (inside (shapesOf w) at-count ≡ true) × (g < look both w at-count))
       (λ h f q. let z : _≡_ {A = ℕ} 0 1 = cc in absurd (omega arith)) (λ h f q. (h, f)) (λ h q. let z : _≡_ {A = ℕ} 0 1 = cc in absurd (omega arith))
 
-  told-found : (l : SaveContextLayout) → k ≡ Found l
+  told-found : (l : SaveContextLayout) → k ≡ layout.Found l
       → (inside (shapesOf w) at-count ≡ true) × (look both w at-count ≤ g) × (l ≡ layoutAt p g (look both w at-count))
   told-found l =
-      by-number (λ (y : Layout). y ≡ Found l → (inside (shapesOf w) at-count ≡ true) × (look both w at-count ≤ g) × (l ≡ layoutAt p g (look both w at-count)))
+      by-number (λ (y : Layout). y ≡ layout.Found l → (inside (shapesOf w) at-count ≡ true) × (look both w at-count ≤ g) × (l ≡ layoutAt p g (look both w at-count)))
       (λ h f q. (h, f, cc)) (λ h f q. let z : _≡_ {A = ℕ} 0 1 = cc in absurd (omega arith)) (λ h q. let z : _≡_ {A = ℕ} 0 1 = cc in absurd (omega arith))
 
-  pub told-count : (l : SaveContextLayout) → k ≡ Found l → l .«local_count» ≤ g
+  pub told-count : (l : SaveContextLayout) → k ≡ layout.Found l → l .«local_count» ≤ g
   unfolding layoutAt
   told-count l d =
       let t = told-found l d in
@@ -185,38 +190,27 @@ not-inside w a h i =
     omega arith
 
 module _ (w : Windows) (p : ℕ) where
-  refused-is : (n m : ℕ) (r : Located) → locatedOf w p ≡ record { reply = n; state = spot m 0 0 0 0; memory = w } → r ≡ spot n 0 0 0 0 → LocatedIs w p r
-  unfolding spot
-  refused-is n m r e d = record {
-    reply-is = ap (λ (z : Located). z .reply) d ∙ sym (ap (λ (o : Outcome Located Windows). o .reply) e);
-    first-is = ap (λ (z : Located). z .first) d ∙ sym (ap (λ (o : Outcome Located Windows). o .state .first) e);
-    rg-is = ap (λ (z : Located). z .rg) d ∙ sym (ap (λ (o : Outcome Located Windows). o .state .rg) e);
-    ra-is = ap (λ (z : Located). z .ra) d ∙ sym (ap (λ (o : Outcome Located Windows). o .state .ra) e);
-    count-is = ap (λ (z : Located). z .count) d ∙ sym (ap (λ (o : Outcome Located Windows). o .state .count) e);
-  }
+  lost-is : locatedOf w p ≡ record { reply = 6; state = spot 0 0 0 0; memory = w } → (q : Reply) → q ≡ Missing → LocatedIs w p (Lost q)
+  unfolding locatedAnswer locatedNumber replyOf numberOf
+  lost-is e q d = rw d (record { answer-is = rw e refl; number-is = rw e refl })
 
-  found-is : (o g a l : ℕ) → locatedOf w p ≡ record { reply = 0; state = spot 0 o g a l; memory = w } → LocatedIs w p (record { reply = 0; first = o; rg = g; ra = a; count = l })
-  unfolding spot
-  found-is o g a l e = record {
-    reply-is = sym (ap (λ (o : Outcome Located Windows). o .reply) e);
-    first-is = sym (ap (λ (o : Outcome Located Windows). o .state .first) e);
-    rg-is = sym (ap (λ (o : Outcome Located Windows). o .state .rg) e);
-    ra-is = sym (ap (λ (o : Outcome Located Windows). o .state .ra) e);
-    count-is = sym (ap (λ (o : Outcome Located Windows). o .state .count) e);
-  }
+  bad-is : (n : ℕ) (q : Reply) → locatedOf w p ≡ record { reply = n; state = spot 0 0 0 0; memory = w } → Bad q ≡ locatedAnswer n (spot 0 0 0 0) → numberOf q ≡ n → LocatedIs w p (Bad q)
+  unfolding locatedNumber
+  bad-is n q e d f = record { answer-is = rw e d; number-is = rw e f }
 
-  abbrev lost : Located
-  lost = spot 6 0 0 0 0
+  found-is : (o g a l : ℕ) → locatedOf w p ≡ record { reply = 0; state = spot o g a l; memory = w } → LocatedIs w p (Found (record { first = o; rg = g; ra = a; count = l }))
+  unfolding spot locatedAnswer locatedNumber
+  found-is o g a l e = record { answer-is = rw e refl; number-is = rw e refl }
 
-  abbrev nothing : Located
-  nothing = spot 0 0 0 0 0
+  abbrev nothing : SavedContext
+  nothing = spot 0 0 0 0
 
-  abbrev here : ℕ → ℕ → ℕ → ℕ → List ℕ → Located
-  here o g a l vs = spot 0 o g a l
+  abbrev here : ℕ → ℕ → ℕ → ℕ → List ℕ → SavedContext
+  here o g a l vs = spot o g a l
 
-  pub way-lost : (r : Located) → (Inside w p 1 → ⊥) → r ≡ spot 6 0 0 0 0 → LocatedIs w p r
+  pub way-lost : (Inside w p 1 → ⊥) → (q : Reply) → q ≡ Missing → LocatedIs w p (Lost q)
   unfolding locatedOf
-  way-lost r h d = refused-is 6 6 r (at-out w lost nothing here p h) d
+  way-lost h = lost-is (at-out w nothing nothing here p h)
 
   module _ (v : ℕ) (h : Inside w p 1) (e : v ≡ readOcta w p) where
     abbrev gOf : ℕ
@@ -228,32 +222,36 @@ module _ (w : Windows) (p : ℕ) where
     packed-is : look both w p ≡ v
     packed-is = sym (e ∙ read-in w p (sym (run-one (shapesOf w) p) ∙ h))
 
-    opened : locatedOf w p ≡ performOn w lost (contextCount nothing here p gOf aOf)
+    opened : locatedOf w p ≡ performOn w nothing (contextCount nothing here p gOf aOf)
     unfolding locatedOf
-    opened = at-open w lost nothing here p v h packed-is
+    opened = at-open w nothing nothing here p v h packed-is
 
-    pub way-threshold : (r : Located) → gOf < 32 → r ≡ spot 14 0 0 0 0 → LocatedIs w p r
-    way-threshold r l d = refused-is 14 0 r (opened ∙ count-low w lost nothing here p gOf aOf l) d
+    pub way-threshold : gOf < 32 → LocatedIs w p (Bad SavedThreshold)
+    unfolding locatedAnswer replyOf numberOf
+    way-threshold l = bad-is 14 SavedThreshold (opened ∙ count-low w nothing nothing here p gOf aOf l) refl refl
 
     module _ (lo : 32 ≤ gOf) (hi : gOf ≤ 255) where
-      pub way-status : (r : Located) → 0x3FFFF < aOf → r ≡ spot 15 0 0 0 0 → LocatedIs w p r
-      way-status r l d = refused-is 15 0 r (opened ∙ count-status w lost nothing here p gOf aOf lo hi l) d
+      pub way-status : 0x3FFFF < aOf → LocatedIs w p (Bad SavedStatus)
+      unfolding locatedAnswer replyOf numberOf
+      way-status l = bad-is 15 SavedStatus (opened ∙ count-status w nothing nothing here p gOf aOf lo hi l) refl refl
 
       module _ (am : aOf ≤ 0x3FFFF) (k : Layout) (ek : LayoutIs w p gOf k) where
-        pub way-outside : (r : Located) → k ≡ Outside → r ≡ spot 6 0 0 0 0 → LocatedIs w p r
-        way-outside r q d =
-            refused-is 6 6 r (opened ∙ count-out w lost nothing here p gOf aOf lo hi am (not-inside w (below p (269 - gOf)) (told-outside w p gOf k ek q))) d
+        pub way-outside : (r : Reply) → k ≡ Outside r → LocatedIs w p (Lost r)
+        way-outside r q =
+            let t = told-outside w p gOf k ek r q in
+            lost-is (opened ∙ count-out w nothing nothing here p gOf aOf lo hi am (not-inside w (below p (269 - gOf)) (t .0))) r (t .1)
 
         rested : (l : ℕ) → inside (shapesOf w) (below p (269 - gOf)) ≡ true → look both w (below p (269 - gOf)) ≡ l
-            → locatedOf w p ≡ performOn w lost (contextRest nothing here p gOf aOf l)
-        rested l t q = opened ∙ count-open w lost nothing here p gOf aOf lo hi am l (has-inside w (below p (269 - gOf)) t) q
+            → locatedOf w p ≡ performOn w nothing (contextRest nothing here p gOf aOf l)
+        rested l t q = opened ∙ count-open w nothing nothing here p gOf aOf lo hi am l (has-inside w (below p (269 - gOf)) t) q
 
-        pub way-excess : (r : Located) (n : ℕ) → k ≡ Excess n → r ≡ spot 16 0 0 0 0 → LocatedIs w p r
-        way-excess r n q d =
+        pub way-excess : (n : ℕ) → k ≡ Excess n → LocatedIs w p (Bad SavedCount)
+        unfolding locatedAnswer replyOf numberOf
+        way-excess n q =
             let t = told-excess w p gOf k ek n q in
-            refused-is 16 0 r (rested _ (t .0) refl ∙ rest-many w lost nothing here p gOf aOf _ (t .1)) d
+            bad-is 16 SavedCount (rested _ (t .0) refl ∙ rest-many w nothing nothing here p gOf aOf _ (t .1)) refl refl
 
-        module _ (l : SaveContextLayout) (q : k ≡ Found l) where
+        module _ (l : SaveContextLayout) (q : k ≡ layout.Found l) where
           count-is : l .«local_count» ≡ look both w (below p (269 - gOf))
           unfolding layoutAt
           count-is = ap (λ (x : SaveContextLayout). x .«local_count») (told-found w p gOf k ek l q .2)
@@ -263,18 +261,18 @@ module _ (w : Windows) (p : ℕ) where
           first-is =
               ap (λ (x : SaveContextLayout). x .«locals_base») (told-found w p gOf k ek l q .2) ∙ ap (λ (n : ℕ). below p (n + 269 - gOf) % 2 ^ 64) (sym count-is)
 
-          pub way-short : (r : Located) → (Inside w (l .«locals_base») (l .«local_count» + 270 - gOf) → ⊥) → r ≡ spot 6 0 0 0 0 → LocatedIs w p r
-          way-short r f d =
-              refused-is 6 6 r (rested (l .«local_count») (told-found w p gOf k ek l q .0) (sym count-is)
-              ∙ rest-out w lost nothing here p gOf aOf (l .«local_count») (told-count w p gOf k ek l q)
-              (λ i. f (run-back w (below p (l .«local_count» + 269 - gOf)) (l .«locals_base») first-is (l .«local_count» + 270 - gOf) i))) d
+          pub way-short : (Inside w (l .«locals_base») (l .«local_count» + 270 - gOf) → ⊥) → (r : Reply) → r ≡ Missing → LocatedIs w p (Lost r)
+          way-short f =
+              lost-is (rested (l .«local_count») (told-found w p gOf k ek l q .0) (sym count-is)
+              ∙ rest-out w nothing nothing here p gOf aOf (l .«local_count») (told-count w p gOf k ek l q)
+              (λ i. f (run-back w (below p (l .«local_count» + 269 - gOf)) (l .«locals_base») first-is (l .«local_count» + 270 - gOf) i)))
 
           pub way-found : Inside w (l .«locals_base») (l .«local_count» + 270 - gOf)
-              → LocatedIs w p (record { reply = 0; first = l .«locals_base»; rg = gOf; ra = aOf; count = l .«local_count» })
+              → LocatedIs w p (Found (record { first = l .«locals_base»; rg = gOf; ra = aOf; count = l .«local_count» }))
           unfolding locatedOf
           way-found i =
               found-is (l .«locals_base») gOf aOf (l .«local_count»)
-              (context-found w lost nothing here p gOf aOf (l .«local_count») context ∙ rw first-is)
+              (context-found w nothing nothing here p gOf aOf (l .«local_count») context ∙ rw first-is)
             where
               context : Context w p gOf aOf (l .«local_count»)
               context = record {

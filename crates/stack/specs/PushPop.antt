@@ -1,23 +1,28 @@
--- What push_frame and pop_frame answer and leave.
-use Prim.Native.Nat.{ℕ, _+_, _-_, _*_, _%_, _^_, _≤_, _<_}
+-- What push_frame and pop_frame answer and leave, and what their private functions go by.
+use Prim.Native.Nat.{ℕ, _+_, _-_, _*_, _%_, _^_, _≤_, _<_, min}
 use mathlib.Core.Path.{_≡_}
-use mathlib.Core.Bool.{cond}
+use mathlib.Core.Bool.{true, false, cond}
 use mathlib.Core.List.{List}
 use lib.Dec.{ltb, eqb}
 use lib.ListN.{length, getD}
-use Rattle.model.specs.Memory.{Windows}
-use Rattle.model.specs.Plan.{Outcome}
-use Rattle.model.specs.Registers.{rJ, rO, rG, rL, stackStart, sp, goes}
-use Rattle.model.specs.Frames.{hole, pushFrame, noFrame, popFrame}
+use Rattle.model.specs.Memory.{Windows, shapesOf, ruled, both}
+use Rattle.model.specs.Plan.{Outcome, looks}
+use Rattle.model.specs.Registers.{rJ, rO, rG, rL, stackStart, sp, admissible, goes}
+use Rattle.model.specs.Frames.{hole, pushFrame, noFrame, misplaced, popped, popFrame}
 use Rattle.machine.specs.Octas.{readOcta}
-use Rattle.stack.specs.Gives.{guardedOn}
+use Rattle.stack.specs.GivenBack.{guardedOn, Gives}
 use Rattle.model.specs.declared.State.{State}
+use Rattle.model.specs.declared.Reply.{Reply}
 use Rattle.stack.specs.declared.frame.PopFrame.{PopFrame}
 use Rattle.stack.specs.declared.frame.PopFrame.the-variants.{Frame, NoFrame, Rejected, Missing, NotAdmissible, WindowRule}
 
 -- PUSH with x; where the call goes is the arm's business
 unfoldable pub pushOf : Windows → State → ℕ → Outcome State Windows
 pushOf w s x = guardedOn w s (pushFrame s (hole s x) (s .pc))
+
+-- PUSH with x of s and w answers r and leaves t and v
+abbrev pub PushGives : Windows → State → ℕ → Reply → State → Windows → Type 0
+PushGives w s x r t v = Gives (pushOf w s x) s r t v
 
 -- POP with x; where it goes is the arm's business
 unfoldable pub popOf : Windows → State → ℕ → Outcome State Windows
@@ -49,6 +54,15 @@ pub record PopGives (w : Windows) (s : State) (x yz : ℕ) (r : PopFrame) (t : S
 
 -- ---- what the private functions go by
 
+-- what has passed 1, 2 and 12
+pub record Passed (w : Windows) (s : State) : Type 0 where
+  pub state-good : admissible s ≡ true
+  pub window-good : ruled (shapesOf w) ≡ true
+  pub place-good : misplaced s ≡ false
+
+abbrev pub PassedPopGives : Windows → State → ℕ → ℕ → PopFrame → State → Type 0
+PassedPopGives w s x yz r t = Passed w s → PopGives w s x yz r t
+
 -- the special registers of an admissible state
 pub record Held (special : List ℕ) : Type 0 where
   pub long : rO < length special
@@ -63,6 +77,10 @@ pub record Placed (special : List ℕ) : Type 0 where
 -- where the frame with hole h below rO starts
 abbrev pub bottomOf : List ℕ → ℕ → ℕ
 bottomOf special h = getD special rO 0 - 8 * (h + 1)
+
+-- the state that POP makes of s by the frame with hole h
+abbrev pub poppedAs : Windows → State → ℕ → ℕ → State
+poppedAs w s x h = popped s x h (looks both w (bottomOf (s .special) h) (min h (sp s rG)))
 
 -- $k of the caller, from the window, the last output, the hole, the count and the callee's registers
 abbrev pub restoredBy : Windows → ℕ → ℕ → ℕ → ℕ → List ℕ → ℕ → ℕ

@@ -1,0 +1,121 @@
+-- What save_context, unsave_context, save_context_layout, locate, place_context and read_context answer and leave.
+use Prim.Native.Nat.{ℕ, _+_, _-_, _%_, _^_, _≤_}
+use mathlib.Core.List.{List}
+use mathlib.Core.Path.{_≡_}
+use mathlib.Core.Bool.{cond}
+use lib.Dec.{leb, eqb}
+use lib.ListN.{length}
+use denote.Ref.{RefT, ptr, now}
+use Rattle.model.specs.Memory.{Windows, shapesOf, inside, both}
+use Rattle.model.specs.Plan.{Outcome, perform, look}
+use Rattle.model.specs.Contexts.{below, saveContext, contextAt, unsaveContext}
+use Rattle.model.specs.Step.{refusing}
+use Rattle.model.specs.Reader.{readContext, bytesIn}
+use Rattle.model.specs.Numbers.{numberOf, replyOf}
+use Rattle.model.specs.Parts.{lent}
+use Rattle.stack.specs.GivenBack.{guardedOn, Gives}
+use Rattle.model.specs.declared.State.{State}
+use Rattle.model.specs.declared.Reply.{Reply}
+use Rattle.stack.specs.declared.layout.SavedContext.{SavedContext}
+use Rattle.stack.specs.declared.layout.Located.{Located}
+use Rattle.stack.specs.declared.layout.Located.the-variants.{Found, Bad, Lost}
+use Rattle.stack.specs.declared.layout.Layout.{Layout}
+use Rattle.stack.specs.declared.layout.Layout.the-variants as layout
+use Rattle.stack.specs.declared.layout.SaveContextLayout.{SaveContextLayout}
+use Rattle.stack.specs.declared.reader.Place.{Place}
+
+unfoldable pub saveOf : Windows → State → ℕ → Outcome State Windows
+saveOf w s x = guardedOn w s (saveContext s x)
+
+unfoldable pub unsaveOf : Windows → State → ℕ → Outcome State Windows
+unsaveOf w s p = guardedOn w s (unsaveContext s p)
+
+-- SAVE $x of s and w answers r and leaves t and v
+abbrev pub SaveGives : Windows → State → ℕ → Reply → State → Windows → Type 0
+SaveGives w s x r t v = Gives (saveOf w s x) s r t v
+
+-- UNSAVE of the context at p answers r and leaves t; it writes nothing
+abbrev pub UnsaveGives : Windows → State → ℕ → Reply → State → Type 0
+UnsaveGives w s p r t = Gives (unsaveOf w s p) s r t w
+
+-- a context of l locals and threshold g: how many octabytes it has, the number of its packed octabyte, and how many specials
+abbrev pub contextOctas : ℕ → ℕ → ℕ
+contextOctas g l = l + 270 - g
+
+abbrev pub packedAt : ℕ → ℕ → ℕ
+packedAt g l = l + 269 - g
+
+abbrev pub contextSpecials : ℕ
+contextSpecials = 12
+
+-- where its count is, below its packed octabyte at p
+abbrev pub countBelow : ℕ → ℕ → ℕ
+countBelow p g = below p (269 - g)
+
+-- the parts of a context below its packed octabyte at p, for a threshold g and l locals
+unfoldable pub layoutAt : ℕ → ℕ → ℕ → SaveContextLayout
+layoutAt p g l = record {
+  «specials_base» = below p contextSpecials % 2 ^ 64;
+  «globals_base» = below p (268 - g) % 2 ^ 64;
+  «global_count» = 256 - g;
+  «local_count» = l;
+  «locals_base» = below p (packedAt g l) % 2 ^ 64;
+}
+
+-- the number of the local count below p: 6 where it is missing, 16 where it is above g, compared at full width
+unfoldable pub countReply : Windows → ℕ → ℕ → ℕ
+countReply w p g = cond (inside (shapesOf w) (countBelow p g)) (cond (leb (look both w (countBelow p g)) g) 0 16) 6
+
+-- 01's number of each case
+unfoldable pub layoutNumber : Layout → ℕ
+layoutNumber (layout.Found l) = 0
+layoutNumber (layout.Excess count) = 16
+layoutNumber (layout.Outside reply) = numberOf reply
+
+-- the case of each number, with its values, where the count is l
+unfoldable pub layoutAnswer : ℕ → ℕ → ℕ → ℕ → Layout
+layoutAnswer p g l n = cond (eqb n 0) (layout.Found (layoutAt p g l)) (cond (eqb n 16) (layout.Excess l) (layout.Outside (replyOf n)))
+
+pub record LayoutIs (w : Windows) (p g : ℕ) (r : Layout) : Type 0 where
+  pub answer-is : r ≡ layoutAnswer p g (look both w (countBelow p g)) (countReply w p g)
+  pub number-is : layoutNumber r ≡ countReply w p g
+
+-- where a context is: its first local's address, rG, rA and local count; all 0 where it is refused
+unfoldable pub spot : ℕ → ℕ → ℕ → ℕ → SavedContext
+spot o g a l = record { first = o; rg = g; ra = a; count = l }
+
+-- the context plan that UNSAVE and the reader share, with the place as its answer
+unfoldable pub locatedOf : Windows → ℕ → Outcome SavedContext Windows
+locatedOf w p = perform both (refusing (shapesOf w)) (spot 0 0 0 0) (contextAt (spot 0 0 0 0) (λ o g a l vs. spot o g a l) p) w
+
+-- 01's number of each case
+unfoldable pub locatedNumber : Located → ℕ
+locatedNumber (Found at) = 0
+locatedNumber (Bad reply) = numberOf reply
+locatedNumber (Lost reply) = numberOf reply
+
+-- the case of each number, with its value
+unfoldable pub locatedAnswer : ℕ → SavedContext → Located
+locatedAnswer n at = cond (eqb n 0) (Found at) (cond (eqb n 6) (Lost (replyOf n)) (Bad (replyOf n)))
+
+pub record LocatedIs (w : Windows) (p : ℕ) (r : Located) : Type 0 where
+  pub answer-is : r ≡ locatedAnswer (locatedOf w p .reply) (locatedOf w p .state)
+  pub number-is : locatedNumber r ≡ locatedOf w p .reply
+
+unfoldable pub placed : Reply → ℕ → ℕ → Place
+placed reply start size = record { reply = reply; start = start; size = size }
+
+-- the reader's reply and part; the part lies in the window
+pub record PlaceIs (w : Windows) (p : ℕ) (r : Place) : Type 0 where
+  pub reply-is : r .reply ≡ replyOf (readContext w p .reply)
+  pub number-is : numberOf (r .reply) ≡ readContext w p .reply
+  pub start-is : r .start ≡ readContext w p .state .start
+  pub size-is : r .size ≡ readContext w p .state .size
+  pub lies-inside : r .start + r .size ≤ length (w .bytes)
+
+-- the reader's reply, and the part r that it hands back of the window v: its bytes, and where it lies, as far behind v's first byte as
+-- the part's index says
+pub record PartIs (base : ℕ) (v : RefT (List ℕ)) (p : ℕ) (r : RefT (List ℕ)) (reply : ℕ) : Type 0 where
+  pub reply-is : reply ≡ readContext (lent base (now v)) p .reply
+  pub bytes-are : now r ≡ bytesIn (lent base (now v)) (readContext (lent base (now v)) p .state)
+  pub lies-at : ptr r ≡ (ptr v .0, ptr v .1 + readContext (lent base (now v)) p .state .start)
