@@ -4,8 +4,8 @@ pub mod Conditions
 pub mod Tells
 pub mod Interrupts
 pub mod Sends
+pub mod Groups
 pub mod Arms
 pub mod Onward
 pub mod SystemArms
-pub mod Groups
 pub mod Judges

@@ -1,10 +1,9 @@
 -- A step of an admissible state in a ruled window, for each arm of system.rs, from what the arm itself ensures.
 use mathlib.Core.Path.{_≡_, refl, sym, _∙_}
-use mathlib.Core.Bool.{true, false, true≢false, _&&_}
+use mathlib.Core.Bool.{true, _&&_}
 use Prim.Native.Nat.{ℕ}
 use native.Mathlib.Omega.{arith}
 use lib.Dec.{ltb, eqb}
-use borrow.Author.Tests.{ne-eqb}
 use Rattle.model.specs.Registers.{reg, next, admissible}
 use Rattle.model.specs.Memory.{Windows, shapesOf, ruled}
 use Rattle.model.specs.Plan.{Outcome}
@@ -21,10 +20,11 @@ use Rattle.model.proofs.Bools.{on}
 use Rattle.model.proofs.Entry.{step-open}
 use Rattle.model.proofs.StepByArm.{step-told, step-refused}
 use Rattle.stack.specs.Gives.{guardedOn}
+use Rattle.stack.specs.Context.{saveOf, unsaveOf}
 use Rattle.stack.proofs.Judged.{guarded-open}
 use Rattle.instruction.specs.Told.{getOf, tripOf, trapStep, Told}
 use Rattle.instruction.specs.Whole.{Whole}
-use Rattle.instruction.specs.Groups.{isSystem}
+use Rattle.instruction.specs.Arms.{unsaveAt}
 
 -- what is said, with the window as it was
 abbrev telling : Windows → Said → Outcome State Windows
@@ -87,16 +87,10 @@ module _ (w : Windows) (s : State) (a : admissible s ≡ true) (v : ruled (shape
   trap-step e h = tells 0x00 (trapStep s 0x00 x y z) e (trap-told w s a v x y z) (rw e at h)
 
   -- arms that do
-  pub save-step : (u : Windows) → op ≡ 0xFA → Whole (guardedOn w s (saveContext s x)) r t u → Whole (stepOf w s op x y z) r t u
+  pub save-step : (u : Windows) → op ≡ 0xFA → Whole (saveOf w s x) r t u → Whole (stepOf w s op x y z) r t u
+  unfolding saveOf
   save-step u e h = rw (e, save-open w s a v x y z) h
 
-  pub unsave-step : op ≡ 0xFB → Whole (guardedOn w s (unsaveContext s (reg s z))) r t w → Whole (stepOf w s op x y z) r t w
+  pub unsave-step : op ≡ 0xFB → Whole (unsaveAt w s z) r t w → Whole (stepOf w s op x y z) r t w
+  unfolding unsaveOf
   unsave-step e h = rw (e, unsave-open w s a v x y z) h
-
--- no opcode of the group is beside the nine
-pub no-other : {A : Type 0} (op : ℕ) → isSystem op ≡ true → (op ≡ 0x00 → ⊥) → (op ≡ 0xF6 → ⊥) → (op ≡ 0xF7 → ⊥) → (op ≡ 0xFA → ⊥) → (op ≡ 0xFB → ⊥)
-    → (op ≡ 0xFC → ⊥) → (op ≡ 0xFD → ⊥) → (op ≡ 0xFE → ⊥) → (op ≡ 0xFF → ⊥) → A
-no-other op e a b c d f g h i j =
-    let none : isSystem op ≡ false =
-    unfold isSystem in (rw (ne-eqb op 0x00 a, ne-eqb op 0xF6 b, ne-eqb op 0xF7 c, ne-eqb op 0xFA d, ne-eqb op 0xFB f, ne-eqb op 0xFC g, ne-eqb op 0xFD h, ne-eqb op 0xFE i, ne-eqb op 0xFF j)) in
-    absurd (true≢false (sym e ∙ none))

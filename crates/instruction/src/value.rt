@@ -90,7 +90,8 @@ pub fn raise_exceptions(
 
 /// One step on a state by value and a window.
 pub fn step(state: State, window: &mut [u8], base: u64, op: u8, x: u8, y: u8, z: u8) -> Outcome
-    ensures { λ r. ⌜ Whole (stepOf (lent base (now (window .entry))) state op x y z) (r .reply) (r .state) (lent base (now (window .exit))) ⌝ }
+    ensures { λ r. ⌜ Whole (stepOf (lent base (now (window .entry))) state op x y z)
+        (r .reply) (r .state) (lent base (now (window .exit))) ⌝ }
 {
     let mut general = state.general;
     let mut special = state.special;

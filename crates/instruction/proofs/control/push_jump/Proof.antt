@@ -2,8 +2,8 @@
 use borrow.Author.Needs.{needs}
 use Rattle.model.specs.Parts.{made, lent}
 use Rattle.instruction.proofs.Arms.{push-at}
-use Rattle.instruction.proofs.step.push_jump.Statement.{statement}
-use Rattle.instruction.proofs.step.push_jump.Tie as tie
+use Rattle.instruction.proofs.control.push_jump.Statement.{statement}
+use Rattle.instruction.proofs.control.push_jump.Tie as tie
 
 near-requires : tie.Need-near-requires
 near-requires c κs = search needs
