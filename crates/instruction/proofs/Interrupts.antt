@@ -19,8 +19,8 @@ use Rattle.model.specs.Numbers.{replyOf}
 use Rattle.model.specs.declared.State.{State}
 use Rattle.model.specs.declared.Reply.{Reply}
 use Rattle.model.specs.declared.Reply.the-variants.{Done, NotAdmissible, NamedTrap, NotLoaded, Trapped}
-use Rattle.instruction.specs.Told.{tripOf, trapStep, Told}
-use Rattle.instruction.proofs.Tells.{goes-is, next-is, halted-is}
+use Rattle.instruction.specs.NoMemoryArms.{tripOf, trapStep, Told}
+use Rattle.instruction.proofs.NoMemoryReplies.{goes-is, next-is, halted-is}
 
 -- ---- trips and traps
 

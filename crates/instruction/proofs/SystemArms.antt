@@ -22,8 +22,8 @@ use Rattle.model.proofs.StepByArm.{step-told, step-refused}
 use Rattle.stack.specs.Gives.{guardedOn}
 use Rattle.stack.specs.Context.{saveOf, unsaveOf}
 use Rattle.stack.proofs.Judged.{guarded-open}
-use Rattle.instruction.specs.Told.{getOf, tripOf, trapStep, Told}
-use Rattle.instruction.specs.Whole.{Whole}
+use Rattle.instruction.specs.NoMemoryArms.{getOf, tripOf, trapStep, Told}
+use Rattle.instruction.specs.StepAnswer.{Whole}
 use Rattle.instruction.specs.Arms.{unsaveAt}
 
 -- what is said, with the window as it was

@@ -9,8 +9,6 @@ use Rattle.model.specs.Opcodes.{Operand, register, immediate, wayOf, conditionO
 use Rattle.model.specs.Control.{near, far, sumOf, yzOf, holds}
 use Rattle.model.specs.Frames.{hole, pushFrame, popFrame}
 use Rattle.model.specs.declared.State.{State}
-use Rattle.model.specs.NoMemory.{Said}
-use Rattle.model.specs.System.{putSpecial}
 use Rattle.stack.specs.Gives.{guardedOn}
 use Rattle.stack.specs.Context.{unsaveOf}
 
@@ -52,9 +50,6 @@ pushJumpOf w s op x y z = callTo w s x (near s (wayOf op) y z)
 abbrev pub returnOf : Windows → State → ℕ → ℕ → ℕ → Outcome State Windows
 returnOf w s x y z = guardedOn w s (popFrame s x ((sp s rJ + 4 * yzOf y z) % 2 ^ 64))
 
--- PUT of $z, and UNSAVE at $z
-abbrev pub putOf : State → ℕ → ℕ → Said
-putOf s x z = putSpecial s x (reg s z)
-
+-- UNSAVE of the context at $z
 abbrev pub unsaveAt : Windows → State → ℕ → Outcome State Windows
 unsaveAt w s z = unsaveOf w s (reg s z)

@@ -2,7 +2,7 @@
 // and PC is sent on where that is done. Each judges 1 and 2, as the stack does.
 ghost use Prim.Native.Nat.{ℕ};
 ghost use Rattle.model.specs.Parts.{made, lent};
-ghost use Rattle.instruction.specs.Whole.{Whole};
+ghost use Rattle.instruction.specs.StepAnswer.{Whole};
 ghost use Rattle.instruction.specs.Arms.{callTo, returnOf};
 use model::Reply;
 use model::State;

@@ -2,7 +2,7 @@
 // @ + 4 where that is done. Each judges 1 and 2, as the stack does.
 ghost use Rattle.model.specs.Parts.{made, lent};
 ghost use Rattle.stack.specs.Context.{saveOf, unsaveOf};
-ghost use Rattle.instruction.specs.Whole.{Whole};
+ghost use Rattle.instruction.specs.StepAnswer.{Whole};
 use model::Reply;
 
 /// SAVE $x.

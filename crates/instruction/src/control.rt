@@ -9,11 +9,14 @@ ghost use Rattle.model.specs.NoMemory.{say};
 ghost use Rattle.model.specs.Control.{sumOf};
 ghost use Rattle.model.specs.Parts.{made, lent};
 ghost use Rattle.model.specs.Step.{stepOf};
-ghost use Rattle.instruction.specs.Told.{Told};
-ghost use Rattle.instruction.specs.Whole.{Whole};
+ghost use Rattle.instruction.specs.NoMemoryArms.{Told};
+ghost use Rattle.instruction.specs.StepAnswer.{Whole};
 ghost use Rattle.instruction.specs.Arms.{lastOf, branchOf, jumpOf, goOf, pushGoOf, pushJumpOf};
 ghost use Rattle.instruction.specs.Groups.{isBranch, isControl};
+use super::calls;
 use super::opcode;
+use super::registers;
+use super::target;
 use model::Reply;
 
 /// Whether an opcode is a branch, plain or probable.
@@ -37,11 +40,11 @@ pub(crate) fn branch(general: &[u64; 256], pc: &mut u64, op: u8, x: u8, y: u8, z
 {
     let v = general[x as usize];
     let at = *pc;
-    if super::target::is_taken(op, v) {
-        *pc = super::target::near(at, op, y, z);
+    if target::is_taken(op, v) {
+        *pc = target::near(at, op, y, z);
         return Reply::Done;
     }
-    *pc = super::target::following(at);
+    *pc = target::following(at);
     Reply::Done
 }
 
@@ -51,7 +54,7 @@ fn jump(pc: &mut u64, op: u8, x: u8, y: u8, z: u8) -> Reply
         (say 0 (jumpOf (made general special (now (pc .entry)) halt marks) op x y z))
         r (made general special (now (pc .exit)) halt marks)) ⌝ }
 {
-    *pc = super::target::far(*pc, op, x, y, z);
+    *pc = target::far(*pc, op, x, y, z);
     Reply::Done
 }
 
@@ -83,7 +86,7 @@ fn go_by(
         r (made (now (general .exit)) (now (special .exit)) (now (pc .exit)) halt marks)) ⌝ }
 {
     let target = sum(general, op, y, z);
-    super::registers::go_to(general, special, pc, x, target);
+    registers::go_to(general, special, pc, x, target);
     Reply::Done
 }
 
@@ -106,7 +109,7 @@ fn push_go(
         r (made (now (general .exit)) (now (special .exit)) (now (pc .exit)) halt marks) (lent base (now (window .exit)))) ⌝ }
 {
     let target = sum(general, op, y, z);
-    super::calls::push_to(general, special, pc, marks, window, base, x, target)
+    calls::push_to(general, special, pc, marks, window, base, x, target)
 }
 
 /// PUSHJ and PUSHJB.
@@ -127,8 +130,8 @@ fn push_jump(
         (made (now (general .entry)) (now (special .entry)) (now (pc .entry)) halt marks) op x y z)
         r (made (now (general .exit)) (now (special .exit)) (now (pc .exit)) halt marks) (lent base (now (window .exit)))) ⌝ }
 {
-    let target = super::target::near(*pc, op, y, z);
-    super::calls::push_to(general, special, pc, marks, window, base, x, target)
+    let target = target::near(*pc, op, y, z);
+    calls::push_to(general, special, pc, marks, window, base, x, target)
 }
 
 /// Whether an opcode is one of the arms that `control` chooses among.
@@ -183,11 +186,9 @@ pub(crate) fn control(
             push_jump(general, special, pc, marks, window, base, op, x, y, z)
         }
         opcode::GETA | opcode::GETAB => {
-            super::registers::get_address(general, special, pc, op, x, y, z)
+            registers::get_address(general, special, pc, op, x, y, z)
         }
-        opcode::POP => {
-            super::calls::pop_to(general, special, pc, halt, marks, window, base, x, y, z)
-        }
+        opcode::POP => { calls::pop_to(general, special, pc, halt, marks, window, base, x, y, z) }
         _ => Reply::NoArm,
     }
 }

@@ -8,7 +8,7 @@ ghost use lib.Count.{leadingZeros};
 ghost use Rattle.model.specs.Trips.{wordOf, interrupted, tripTo, withAdded};
 ghost use Rattle.model.specs.Step.{isNamed, exceptionOf};
 ghost use Rattle.model.specs.Parts.{made};
-ghost use Rattle.instruction.specs.Told.{tripOf, trapStep, Told};
+ghost use Rattle.instruction.specs.NoMemoryArms.{tripOf, trapStep, Told};
 use model::Reply;
 use model::State;
 

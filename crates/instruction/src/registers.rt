@@ -7,7 +7,7 @@ ghost use Rattle.model.specs.NoMemory.{say};
 ghost use Rattle.model.specs.Control.{xyzOf};
 ghost use Rattle.model.specs.System.{putSpecial, syncOf};
 ghost use Rattle.model.specs.Parts.{made};
-ghost use Rattle.instruction.specs.Told.{getOf, Told};
+ghost use Rattle.instruction.specs.NoMemoryArms.{getOf, Told};
 ghost use Rattle.instruction.specs.Arms.{addressOf, goTo};
 use model::Reply;
 

@@ -5,7 +5,9 @@ ghost use Rattle.model.specs.Memory.{shapesOf, ruled};
 ghost use Rattle.model.specs.Registers.{admissible};
 ghost use Rattle.model.specs.Parts.{made, lent};
 ghost use Rattle.model.specs.Step.{stepOf};
-ghost use Rattle.instruction.specs.Whole.{Whole};
+ghost use Rattle.instruction.specs.StepAnswer.{Whole};
+use super::control;
+use super::system;
 use model::Reply;
 
 /// The arm, or 3, once 1 and 2 have passed: each group knows its own opcodes.
@@ -29,26 +31,14 @@ fn dispatch(
         (made (now (general .entry)) (now (special .entry)) (now (pc .entry)) (now (halt .entry)) marks) op x y z)
         r (made (now (general .exit)) (now (special .exit)) (now (pc .exit)) (now (halt .exit)) marks) (lent base (now (window .exit))) ⌝ }
 {
-    if super::control::is_branch(op) {
-        return super::control::branch(general, pc, op, x, y, z);
+    if control::is_branch(op) {
+        return control::branch(general, pc, op, x, y, z);
     }
-    if super::control::is_control(op) {
-        return super::control::control(
-            general,
-            special,
-            pc,
-            halt,
-            marks,
-            window,
-            base,
-            op,
-            x,
-            y,
-            z,
-        );
+    if control::is_control(op) {
+        return control::control(general, special, pc, halt, marks, window, base, op, x, y, z);
     }
-    if super::system::is_system(op) {
-        return super::system::system(general, special, pc, halt, marks, window, base, op, x, y, z);
+    if system::is_system(op) {
+        return system::system(general, special, pc, halt, marks, window, base, op, x, y, z);
     }
     Reply::NoArm
 }

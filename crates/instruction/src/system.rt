@@ -8,11 +8,14 @@ ghost use Rattle.model.specs.Registers.{next, admissible};
 ghost use Rattle.model.specs.NoMemory.{say};
 ghost use Rattle.model.specs.Step.{stepOf};
 ghost use Rattle.model.specs.Parts.{made, lent};
-ghost use Rattle.instruction.specs.Told.{Told};
-ghost use Rattle.instruction.specs.Whole.{Whole};
-ghost use Rattle.instruction.specs.Arms.{putOf, unsaveAt};
+ghost use Rattle.instruction.specs.NoMemoryArms.{putOf, Told};
+ghost use Rattle.instruction.specs.StepAnswer.{Whole};
+ghost use Rattle.instruction.specs.Arms.{unsaveAt};
 ghost use Rattle.instruction.specs.Groups.{isSystem};
+use super::contexts;
+use super::exceptions;
 use super::opcode;
+use super::registers;
 use model::Reply;
 
 /// SWYM.
@@ -39,7 +42,7 @@ fn put_register(
         r (made (now (general .exit)) (now (special .exit)) (now (pc .exit)) (now (halt .exit)) marks)) ⌝ }
 {
     let value = general[z as usize];
-    super::registers::put_value(general, special, pc, halt, x, value)
+    registers::put_value(general, special, pc, halt, x, value)
 }
 
 /// UNSAVE: the context's address is $z.
@@ -59,7 +62,7 @@ fn unsave_register(
         r (made (now (general .exit)) (now (special .exit)) (now (pc .exit)) (now (halt .exit)) marks) (lent base (now (window .entry))) ⌝ }
 {
     let address = general[z as usize];
-    super::contexts::unsave_from(general, special, pc, halt, marks, window, base, address)
+    contexts::unsave_from(general, special, pc, halt, marks, window, base, address)
 }
 
 /// Whether an opcode is one of the arms that `system` chooses among.
@@ -103,24 +106,15 @@ pub(crate) fn system(
         r (made (now (general .exit)) (now (special .exit)) (now (pc .exit)) (now (halt .exit)) marks) (lent base (now (window .exit))) ⌝ }
 {
     match op {
-        opcode::TRAP => super::exceptions::trap_arm(general, special, *pc, halt, op, x, y, z),
+        opcode::TRAP => exceptions::trap_arm(general, special, *pc, halt, op, x, y, z),
         opcode::PUT => put_register(general, special, pc, halt, x, z),
-        opcode::PUTI => super::registers::put_value(general, special, pc, halt, x, z as u64),
-        opcode::SAVE => super::contexts::save_to(
-            general,
-            special,
-            pc,
-            halt,
-            marks,
-            window,
-            base,
-            x,
-        ),
+        opcode::PUTI => registers::put_value(general, special, pc, halt, x, z as u64),
+        opcode::SAVE => contexts::save_to(general, special, pc, halt, marks, window, base, x),
         opcode::UNSAVE => unsave_register(general, special, pc, halt, marks, window, base, z),
-        opcode::SYNC => super::registers::synchronize(pc, halt, x, y, z),
+        opcode::SYNC => registers::synchronize(pc, halt, x, y, z),
         opcode::SWYM => skip(pc),
-        opcode::GET => super::registers::get_special(general, special, pc, x, z),
-        opcode::TRIP => super::exceptions::trip_arm(general, special, pc, halt, marks, op, x, y, z),
+        opcode::GET => registers::get_special(general, special, pc, x, z),
+        opcode::TRIP => exceptions::trip_arm(general, special, pc, halt, marks, op, x, y, z),
         _ => Reply::NoArm,
     }
 }

@@ -3,8 +3,8 @@ ghost use mathlib.Core.Path.{_≡_};
 ghost use Rattle.model.specs.Step.{stepOf, exceptionOf};
 ghost use Rattle.model.specs.Numbers.{numberOf};
 ghost use Rattle.model.specs.Parts.{lent};
-ghost use Rattle.instruction.specs.Told.{Told};
-ghost use Rattle.instruction.specs.Whole.{Whole};
+ghost use Rattle.instruction.specs.NoMemoryArms.{Told};
+ghost use Rattle.instruction.specs.StepAnswer.{Whole};
 use model::Reply;
 use model::State;
 

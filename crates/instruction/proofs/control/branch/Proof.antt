@@ -4,7 +4,7 @@ use borrow.Author.Needs.{needs}
 use Rattle.model.specs.Registers.{goes}
 use Rattle.model.specs.Numbers.{replyOf}
 use Rattle.model.specs.Parts.{made}
-use Rattle.instruction.proofs.Arms.{branch-taken, branch-not}
+use Rattle.instruction.proofs.ControlArms.{branch-taken, branch-not}
 use Rattle.instruction.proofs.control.branch.Statement.{statement}
 use Rattle.instruction.proofs.control.branch.Tie as tie
 

@@ -4,7 +4,7 @@ use borrow.Author.Needs.{needs}
 use borrow.Author.Tests.{lt-ltb, le-ltb, ne-eqb}
 use Rattle.model.specs.Parts.{made, lent}
 use Rattle.instruction.proofs.Groups.{controlTests, no-other-control}
-use Rattle.instruction.proofs.Arms.{step-go, step-push-go, step-jump, step-push-jump, step-get-address, step-pop}
+use Rattle.instruction.proofs.ControlArms.{step-go, step-push-go, step-jump, step-push-jump, step-get-address, step-pop}
 use Rattle.instruction.proofs.control.control.Statement.{statement}
 use Rattle.instruction.proofs.control.control.Tie as tie
 

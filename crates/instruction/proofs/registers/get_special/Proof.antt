@@ -2,8 +2,8 @@
 use borrow.Author.Needs.{needs}
 use Rattle.model.specs.System.{got}
 use Rattle.model.specs.Parts.{made}
-use Rattle.instruction.specs.Told.{getOf}
-use Rattle.instruction.proofs.Tells.{get-done, get-none}
+use Rattle.instruction.specs.NoMemoryArms.{getOf}
+use Rattle.instruction.proofs.NoMemoryReplies.{get-done, get-none}
 use Rattle.instruction.proofs.registers.get_special.Statement.{statement}
 use Rattle.instruction.proofs.registers.get_special.Tie as tie
 

@@ -4,8 +4,8 @@ use native.Mathlib.Omega.{arith}
 use borrow.Author.Needs.{needs}
 use Rattle.model.specs.Parts.{made, lent}
 use Rattle.instruction.proofs.Groups.{no-arm}
-use Rattle.instruction.proofs.Arms.{step-branch}
-use Rattle.instruction.proofs.Judges.{no-arm-step}
+use Rattle.instruction.proofs.ControlArms.{step-branch}
+use Rattle.instruction.proofs.EarlyRefusals.{no-arm-step}
 use Rattle.instruction.proofs.step.dispatch.Statement.{statement}
 use Rattle.instruction.proofs.step.dispatch.Tie as tie
 

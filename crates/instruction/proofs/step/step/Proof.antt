@@ -3,7 +3,7 @@ use mathlib.Core.Path.{sym, _∙_}
 use borrow.Author.Needs.{needs}
 use borrow.Author.Tests.{not-true, not-false}
 use Rattle.model.specs.Parts.{made, lent}
-use Rattle.instruction.proofs.Judges.{unruled-step, inadmissible-step}
+use Rattle.instruction.proofs.EarlyRefusals.{unruled-step, inadmissible-step}
 use Rattle.instruction.proofs.step.step.Statement.{statement}
 use Rattle.instruction.proofs.step.step.Tie as tie
 

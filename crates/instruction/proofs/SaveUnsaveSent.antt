@@ -25,9 +25,9 @@ use Rattle.model.proofs.ItemInvariant.{Any}
 use Rattle.model.proofs.StepByArm.{sent, backTo, save-sent, unsave-sent}
 use Rattle.model.specs.Step.{unruledBy, guarded}
 use Rattle.stack.specs.Gives.{guardedOn, Gives}
-use Rattle.instruction.specs.Whole.{Whole}
-use Rattle.instruction.proofs.Sends.{unruled-most}
-use Rattle.instruction.proofs.Tells.{refusals, tag-is}
+use Rattle.instruction.specs.StepAnswer.{Whole}
+use Rattle.instruction.proofs.PushPopSent.{unruled-most}
+use Rattle.instruction.proofs.NoMemoryReplies.{refusals, tag-is}
 
 -- an outcome with one of 01's replies, and PC at @ + 4 where it is done, else as it was
 pub record Onward (o : Outcome State Windows) (s : State) : Type 0 where

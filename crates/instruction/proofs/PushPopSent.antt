@@ -28,8 +28,8 @@ use Rattle.stack.specs.Gives.{guardedOn, Gives}
 use Rattle.stack.specs.Frame.{pushOf, popOf, returnTo, popNumber, popAnswer, PopGives}
 use Rattle.stack.specs.declared.frame.PopFrame.{PopFrame}
 use Rattle.stack.specs.declared.frame.PopFrame.the-variants.{Frame, NoFrame, Rejected, Missing, NotAdmissible, WindowRule}
-use Rattle.instruction.specs.Whole.{Whole}
-use Rattle.instruction.proofs.Tells.{tag-is}
+use Rattle.instruction.specs.StepAnswer.{Whole}
+use Rattle.instruction.proofs.NoMemoryReplies.{tag-is}
 
 -- ---- the stack's outcome, PC sent on
 

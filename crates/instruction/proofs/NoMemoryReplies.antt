@@ -18,7 +18,7 @@ use Rattle.model.specs.declared.Reply.{Reply}
 use Rattle.model.specs.declared.Reply.the-variants.{Done, NoSpecial, SyncPrivileged, SyncIllegal}
 use Rattle.model.proofs.Reply.{the-type}
 use Rattle.model.proofs.Bools.{each, at-each, on}
-use Rattle.instruction.specs.Told.{getOf, Told}
+use Rattle.instruction.specs.NoMemoryArms.{getOf, Told}
 
 -- ---- PC
 

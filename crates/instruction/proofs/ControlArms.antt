@@ -18,8 +18,8 @@ use Rattle.model.proofs.Entry.{performOn, step-open}
 use Rattle.model.proofs.StepByArm.{step-told}
 use Rattle.stack.specs.Gives.{guardedOn}
 use Rattle.stack.proofs.Judged.{guarded-open}
-use Rattle.instruction.specs.Told.{Told}
-use Rattle.instruction.specs.Whole.{Whole}
+use Rattle.instruction.specs.NoMemoryArms.{Told}
+use Rattle.instruction.specs.StepAnswer.{Whole}
 use Rattle.instruction.specs.Arms.{lastOf, branchOf, jumpOf, addressOf, goOf, callTo, pushGoOf, pushJumpOf, returnOf}
 use Rattle.instruction.specs.Groups.{isBranch}
 
