@@ -1,4 +1,5 @@
--- Laws of control.rs's arms over plain variables: the sum, the branch, which arm an opcode is, and the step from what the arm's code gives.
+-- Laws of control.rs's arms, over plain variables: the sum and the branch; which arm an opcode is; then, arm by arm, the step from what the arm's
+-- code gives. What the stack gives for a PUSH or a POP: PushPopSent. system.rs's arms: SystemArms.
 use mathlib.Core.Path.{_≡_, refl, sym, ap, _∙_}
 use mathlib.Core.Bool.{Bool, true, false, cond}
 use Prim.Native.Nat.{ℕ, _+_, _%_, _^_, _≤_, _<_}
@@ -6,22 +7,18 @@ use native.Mathlib.Omega.{arith}
 use native.Mathlib.Decide.{ℕ-discrete}
 use borrow.Author.Tests.{eq-eqb, ne-eqb}
 use Rattle.model.specs.Memory.{Windows, shapesOf, ruled}
-use Rattle.model.specs.Plan.{Plan}
 use Rattle.model.specs.Registers.{reg, admissible, following, goes, next}
-use Rattle.model.specs.Opcodes.{Arm, branch, jump, getAddress, go, pushJump, pushGo, pop, register, immediate, wayOf, conditionOf, armOf}
-use Rattle.model.specs.NoMemory.{Said, say, tell}
+use Rattle.model.specs.Opcodes.{branch, jump, getAddress, go, pushJump, pushGo, pop, register, immediate, wayOf, conditionOf, armOf}
+use Rattle.model.specs.NoMemory.{say}
 use Rattle.model.specs.Control.{near, sumOf, holds}
 use Rattle.model.specs.Step.{refusalOf, planOf, stepOf}
 use Rattle.model.specs.declared.State.{State}
 use Rattle.model.specs.declared.Reply.{Reply}
-use Rattle.model.proofs.Entry.{performOn, step-open}
-use Rattle.model.proofs.StepByArm.{step-told}
-use Rattle.stack.specs.Gives.{guardedOn}
-use Rattle.stack.proofs.Judged.{guarded-open}
 use Rattle.instruction.specs.NoMemoryArms.{Told}
 use Rattle.instruction.specs.StepAnswer.{Whole}
 use Rattle.instruction.specs.Arms.{lastOf, branchOf, jumpOf, addressOf, goOf, callTo, pushGoOf, pushJumpOf, returnOf}
 use Rattle.instruction.specs.Groups.{isBranch}
+use Rattle.instruction.proofs.ArmSteps.{told-step, stack-step}
 
 -- ---- the sum, the branch
 
@@ -87,42 +84,30 @@ module _ (op : ℕ) where
 -- ---- the step
 
 module _ (w : Windows) (s : State) (a : admissible s ≡ true) (u : ruled (shapesOf w) ≡ true) (op x y z : ℕ) (r : Reply) (t : State) where
-  -- an arm that touches no memory, and one that the stack works on
-  module _ (m : Arm) (e : armOf op ≡ m) (f : refusalOf m x y z ≡ 0) where
-    told-step : (d : Said) → planOf s m op x y z ≡ tell d → Told d r t → Whole (stepOf w s op x y z) r t w
-    told-step d p h =
-        rw (step-told w s a u op x y z d (ap (λ (n : Arm). refusalOf n x y z) e ∙ f) (ap (λ (n : Arm). planOf s n op x y z) e ∙ p))
-        (record { reply-is = h .reply-is; state-is = h .state-is; window-is = refl })
-
-    stack-step : (p : Plan State) (v : Windows) → planOf s m op x y z ≡ p → Whole (guardedOn w s p) r t v → Whole (stepOf w s op x y z) r t v
-    stack-step p v g h =
-        rw (step-open w s op x y z a u (ap (λ (n : Arm). refusalOf n x y z) e ∙ f) ∙ ap (λ (n : Arm). performOn w s (planOf s n op x y z)) e ∙ ap (performOn w s) g)
-        (rw (guarded-open w s p a u) at h)
-
   pub step-branch : isBranch op ≡ true → Told (say 0 (branchOf s op x y z)) r t → Whole (stepOf w s op x y z) r t w
   unfolding refusalOf planOf branchOf
-  step-branch k q = told-step (branch (conditionOf op) (wayOf op)) (branch-arm op k) refl _ refl q
+  step-branch k q = told-step w s a u op x y z r t (branch (conditionOf op) (wayOf op)) (branch-arm op k) refl _ refl q
 
   pub step-go : 0x9E ≤ op → op < 0xA0 → Told (say 0 (goOf s op x y z)) r t → Whole (stepOf w s op x y z) r t w
   unfolding refusalOf planOf
-  step-go h l q = told-step (go (lastOf op)) (go-arm op h l) refl _ refl q
+  step-go h l q = told-step w s a u op x y z r t (go (lastOf op)) (go-arm op h l) refl _ refl q
 
   pub step-jump : 0xF0 ≤ op → op < 0xF2 → Told (say 0 (jumpOf s op x y z)) r t → Whole (stepOf w s op x y z) r t w
   unfolding refusalOf planOf
-  step-jump h l q = told-step (jump (wayOf op)) (jump-arm op h l) refl _ refl q
+  step-jump h l q = told-step w s a u op x y z r t (jump (wayOf op)) (jump-arm op h l) refl _ refl q
 
   pub step-get-address : 0xF4 ≤ op → op < 0xF6 → Told (say 0 (addressOf s op x y z)) r t → Whole (stepOf w s op x y z) r t w
   unfolding refusalOf planOf
-  step-get-address h l q = told-step (getAddress (wayOf op)) (get-address-arm op h l) refl _ refl q
+  step-get-address h l q = told-step w s a u op x y z r t (getAddress (wayOf op)) (get-address-arm op h l) refl _ refl q
 
   pub step-push-go : (v : Windows) → 0xBE ≤ op → op < 0xC0 → Whole (pushGoOf w s op x y z) r t v → Whole (stepOf w s op x y z) r t v
   unfolding refusalOf planOf
-  step-push-go v h l q = stack-step (pushGo (lastOf op)) (push-go-arm op h l) refl _ v refl q
+  step-push-go v h l q = stack-step w s a u op x y z r t (pushGo (lastOf op)) (push-go-arm op h l) refl _ v refl q
 
   pub step-push-jump : (v : Windows) → 0xF2 ≤ op → op < 0xF4 → Whole (pushJumpOf w s op x y z) r t v → Whole (stepOf w s op x y z) r t v
   unfolding refusalOf planOf
-  step-push-jump v h l q = stack-step (pushJump (wayOf op)) (push-jump-arm op h l) refl _ v refl q
+  step-push-jump v h l q = stack-step w s a u op x y z r t (pushJump (wayOf op)) (push-jump-arm op h l) refl _ v refl q
 
   pub step-pop : (v : Windows) → op ≡ 0xF8 → Whole (returnOf w s x y z) r t v → Whole (stepOf w s op x y z) r t v
   unfolding refusalOf planOf
-  step-pop v k q = stack-step pop (pop-arm op k) refl _ v refl q
+  step-pop v k q = stack-step w s a u op x y z r t pop (pop-arm op k) refl _ v refl q

@@ -1,4 +1,4 @@
--- 1, 2 and 3 as the step answers them: nothing is changed.
+-- 1, 2 and 3 as the step answers them: nothing is changed. 4 and 5 are judged by their arms: SystemArms.
 use mathlib.Core.Path.{_≡_, refl}
 use mathlib.Core.Bool.{true, false}
 use Prim.Native.Nat.{ℕ}

@@ -1,4 +1,5 @@
--- Laws of trips, traps and exceptions, over plain variables: what each tells, from what its callees ensure.
+-- Laws of trips, traps and exceptions, over plain variables and in this order: what each tells, from what its callees ensure.
+-- The other arms that touch no memory: NoMemoryReplies.
 use mathlib.Core.Path.{_≡_, refl, ap, _∙_}
 use mathlib.Core.Bool.{true, false, _&&_}
 use mathlib.Core.List.{List}

@@ -5,6 +5,7 @@ pub mod NoMemoryReplies
 pub mod Interrupts
 pub mod PushPopSent
 pub mod Groups
+pub mod ArmSteps
 pub mod ControlArms
 pub mod SaveUnsaveSent
 pub mod SystemArms

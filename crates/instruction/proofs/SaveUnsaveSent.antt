@@ -1,4 +1,5 @@
--- SAVE and UNSAVE over plain variables: the whole outcome, from what the stack gives and PC sent on where that is done.
+-- Laws of SAVE and UNSAVE, over plain variables: first which outcomes send PC on to @ + 4, then the whole outcome from what the stack gives, done or
+-- refused. PUSH and POP: PushPopSent.
 use mathlib.Core.Path.{_≡_, refl, sym, ap, _∙_}
 use mathlib.Core.Bool.{Bool, true, false, cond}
 use mathlib.Core.List.{List, []}

@@ -1,4 +1,5 @@
-// One step and one exception on a state by value.
+// One step and one exception on a state by value, and a reply's number. 01: "`&mut self` becomes self by value", so each entry that the Rust has
+// with `&mut self` is here under its name: the bench program's language takes `step`; nothing in this repository calls `raise_exceptions`.
 ghost use mathlib.Core.Path.{_≡_};
 ghost use Rattle.model.specs.Step.{stepOf, exceptionOf};
 ghost use Rattle.model.specs.Numbers.{numberOf};
