@@ -1,6 +1,7 @@
--- Laws of trips, traps and exceptions, over plain variables: what each tells, from what its callees ensure.
+-- Laws of trips, traps and exceptions, over plain variables and in this order: what each tells, from what its callees ensure.
+-- The other arms that touch no memory: NoMemoryReplies.
 use mathlib.Core.Path.{_≡_, refl, ap, _∙_}
-use mathlib.Core.Bool.{Bool, true, false, _&&_}
+use mathlib.Core.Bool.{true, false, _&&_}
 use mathlib.Core.List.{List}
 use Prim.Native.Nat.{ℕ, _+_, _-_, _*_, _/_, _%_, _^_, _≤_, _<_}
 use native.Mathlib.Omega.{arith}
@@ -10,7 +11,7 @@ use lib.Bits.{bitAnd, bitOr, and-le-l}
 use lib.Count.{leadingZeros, leading-le, leading-top, trailingZeros, trailing-le}
 use mir.Syntax.{w64}
 use mir.Val.{Fits}
-use borrow.Author.Tests.{eq-eqb, ne-eqb}
+use borrow.Author.Tests.{ne-eqb}
 use Rattle.model.specs.Registers.{withParts, rA, reg, withSpecial, admissible}
 use Rattle.model.specs.Trips.{wordOf, interrupted, tripped, trapped, tripRule, isLoaded, tripTo, trapOf, enables, added, withAdded, raised}
 use Rattle.model.specs.Step.{isNamed, exceptionOf}
@@ -19,8 +20,8 @@ use Rattle.model.specs.Numbers.{replyOf}
 use Rattle.model.specs.declared.State.{State}
 use Rattle.model.specs.declared.Reply.{Reply}
 use Rattle.model.specs.declared.Reply.the-variants.{Done, NotAdmissible, NamedTrap, NotLoaded, Trapped}
-use Rattle.instruction.specs.Told.{tripOf, trapStep, Told}
-use Rattle.instruction.proofs.Tells.{goes-is, next-is, halted-is}
+use Rattle.instruction.specs.NoMemoryArms.{tripOf, trapStep, Told}
+use Rattle.instruction.proofs.NoMemoryReplies.{goes-is, next-is, halted-is}
 
 -- ---- trips and traps
 
@@ -41,26 +42,14 @@ module _ (s : State) (k word u v : ℕ) (g l : List ℕ) (e : withParts s g l �
   unfolding tripTo replyOf
   trip-not-loaded h = rw h (record { reply-is = refl; state-is = halted-is s _ g l e })
 
--- not a named TRAP: X is not 0, or Y is not named
-module _ (x y : ℕ) where
-  pub trap-other : (x ≡ 0 → ⊥) → (eqb x 0 && isNamed y) ≡ false
-  trap-other h = rw (ne-eqb x 0 h)
-
-  pub trap-unnamed : isNamed y ≡ false → (eqb x 0 && isNamed y) ≡ false
-  trap-unnamed h = rw h (go (eqb x 0))
-    where
-      go : (t : Bool) → (t && false) ≡ false
-      go true = refl
-      go false = refl
-
 module _ (s : State) (op x y z : ℕ) where
   pub trip-word : (word : ℕ) (r : Reply) (t : State) → word ≡ wordOf op x y z → Told (tripTo s 0 word (reg s y) (reg s z)) r t → Told (tripOf s op x y z) r t
   unfolding tripOf
   trip-word word r t e h = rw e at h
 
-  pub trap-named : x ≡ 0 → isNamed y ≡ true → Told (trapStep s op x y z) NamedTrap s
+  pub trap-named : (eqb x 0 && isNamed y) ≡ true → Told (trapStep s op x y z) NamedTrap s
   unfolding trapStep replyOf
-  trap-named e h = rw (eq-eqb x 0 e, h) (record { reply-is = refl; state-is = refl })
+  trap-named h = rw h (record { reply-is = refl; state-is = refl })
 
   pub trap-done : (word : ℕ) (g l : List ℕ) → (eqb x 0 && isNamed y) ≡ false → word ≡ wordOf op x y z → withParts s g l ≡ trapped s word (reg s y) (reg s z)
       → Told (trapStep s op x y z) Trapped (made g l (s .pc) 1 (s .marks))

@@ -1,11 +1,12 @@
 -- The laws of this crate's definitions, for its proofs and for those of the crates above it.
 pub mod Counts
 pub mod Conditions
-pub mod Tells
+pub mod NoMemoryReplies
 pub mod Interrupts
-pub mod Sends
-pub mod Arms
-pub mod Onward
-pub mod SystemArms
+pub mod PushPopSent
 pub mod Groups
-pub mod Judges
+pub mod ArmSteps
+pub mod ControlArms
+pub mod SaveUnsaveSent
+pub mod SystemArms
+pub mod EarlyRefusals

@@ -1,14 +1,14 @@
--- A step of an admissible state in a ruled window, for each arm of system.rs, from what the arm itself ensures.
-use mathlib.Core.Path.{_≡_, refl, sym, _∙_}
-use mathlib.Core.Bool.{true, false, true≢false, _&&_}
+-- Laws of system.rs's arms: a step of an admissible state in a ruled window, from what the arm's code gives; first GET and TRAP, which judge 5
+-- and 4, then the others that touch no memory, then SAVE and UNSAVE. control.rs's arms: ControlArms.
+use mathlib.Core.Path.{_≡_, refl}
+use mathlib.Core.Bool.{true, _&&_}
 use Prim.Native.Nat.{ℕ}
 use native.Mathlib.Omega.{arith}
 use lib.Dec.{ltb, eqb}
-use borrow.Author.Tests.{ne-eqb}
 use Rattle.model.specs.Registers.{reg, next, admissible}
 use Rattle.model.specs.Memory.{Windows, shapesOf, ruled}
 use Rattle.model.specs.Plan.{Outcome}
-use Rattle.model.specs.Opcodes.{armOf}
+use Rattle.model.specs.Opcodes.{put, save, unsave, sync, swym, trip, register, immediate, armOf}
 use Rattle.model.specs.NoMemory.{Said, say}
 use Rattle.model.specs.Control.{xyzOf}
 use Rattle.model.specs.Contexts.{saveContext, unsaveContext}
@@ -18,13 +18,12 @@ use Rattle.model.specs.Step.{isNamed, refusalOf, planOf, stepOf}
 use Rattle.model.specs.declared.State.{State}
 use Rattle.model.specs.declared.Reply.{Reply}
 use Rattle.model.proofs.Bools.{on}
-use Rattle.model.proofs.Entry.{step-open}
 use Rattle.model.proofs.StepByArm.{step-told, step-refused}
-use Rattle.stack.specs.GivenBack.{guardedOn}
-use Rattle.stack.proofs.Judged.{guarded-open}
-use Rattle.instruction.specs.Told.{getOf, tripOf, trapStep, Told}
-use Rattle.instruction.specs.Whole.{Whole}
-use Rattle.instruction.specs.Groups.{isSystem}
+use Rattle.stack.specs.SaveUnsave.{saveOf, unsaveOf}
+use Rattle.instruction.specs.NoMemoryArms.{getOf, putOf, tripOf, trapStep, Told}
+use Rattle.instruction.specs.StepAnswer.{Whole}
+use Rattle.instruction.specs.Arms.{unsaveAt}
+use Rattle.instruction.proofs.ArmSteps.{told-step, stack-step}
 
 -- what is said, with the window as it was
 abbrev telling : Windows → Said → Outcome State Windows
@@ -45,58 +44,43 @@ module _ (w : Windows) (s : State) (a : admissible s ≡ true) (v : ruled (shape
       (λ e. step-refused w s a v 0x00 x y z 4 (rw e) (omega arith))
       (λ e. step-told w s a v 0x00 x y z (trapOf s (wordOf 0x00 x y z) (reg s y) (reg s z)) (rw e) refl)
 
-  save-open : stepOf w s 0xFA x y z ≡ guardedOn w s (saveContext s x)
-  unfolding planOf armOf refusalOf
-  save-open = step-open w s 0xFA x y z a v refl ∙ sym (guarded-open w s (saveContext s x) a v)
-
-  unsave-open : stepOf w s 0xFB x y z ≡ guardedOn w s (unsaveContext s (reg s z))
-  unfolding planOf armOf refusalOf
-  unsave-open = step-open w s 0xFB x y z a v refl ∙ sym (guarded-open w s (unsaveContext s (reg s z)) a v)
-
 module _ (w : Windows) (s : State) (a : admissible s ≡ true) (v : ruled (shapesOf w) ≡ true) (op x y z : ℕ) (r : Reply) (t : State) where
-  -- arms that touch no memory
+  -- 5, then GET; 4, then TRAP
   tells : (n : ℕ) (d : Said) → op ≡ n → stepOf w s n x y z ≡ telling w d → Told d r t → Whole (stepOf w s op x y z) r t w
   tells n d e f h = rw (e, f) (record { reply-is = h .reply-is; state-is = h .state-is; window-is = refl })
 
-  pub put-step : op ≡ 0xF6 → Told (putSpecial s x (reg s z)) r t → Whole (stepOf w s op x y z) r t w
-  unfolding planOf armOf refusalOf
-  put-step e h = tells 0xF6 _ e (step-told w s a v 0xF6 x y z (putSpecial s x (reg s z)) refl refl) h
-
-  pub puti-step : op ≡ 0xF7 → Told (putSpecial s x z) r t → Whole (stepOf w s op x y z) r t w
-  unfolding planOf armOf refusalOf
-  puti-step e h = tells 0xF7 _ e (step-told w s a v 0xF7 x y z (putSpecial s x z) refl refl) h
-
-  pub sync-step : op ≡ 0xFC → Told (syncOf s (xyzOf x y z)) r t → Whole (stepOf w s op x y z) r t w
-  unfolding planOf armOf refusalOf
-  sync-step e h = tells 0xFC _ e (step-told w s a v 0xFC x y z (syncOf s (xyzOf x y z)) refl refl) h
-
-  pub swym-step : op ≡ 0xFD → Told (say 0 (next s)) r t → Whole (stepOf w s op x y z) r t w
-  unfolding planOf armOf refusalOf
-  swym-step e h = tells 0xFD _ e (step-told w s a v 0xFD x y z (say 0 (next s)) refl refl) h
-
-  pub trip-step : op ≡ 0xFF → Told (tripOf s op x y z) r t → Whole (stepOf w s op x y z) r t w
-  unfolding planOf armOf refusalOf tripOf
-  trip-step e h = tells 0xFF (tripOf s 0xFF x y z) e (step-told w s a v 0xFF x y z (tripOf s 0xFF x y z) refl refl) (rw e at h)
-
-  -- 5, then GET
   pub get-step : op ≡ 0xFE → Told (getOf s x z) r t → Whole (stepOf w s op x y z) r t w
   get-step e h = tells 0xFE (getOf s x z) e (get-told w s a v x y z) h
 
-  -- 4, then TRAP
   pub trap-step : op ≡ 0x00 → Told (trapStep s op x y z) r t → Whole (stepOf w s op x y z) r t w
   trap-step e h = tells 0x00 (trapStep s 0x00 x y z) e (trap-told w s a v x y z) (rw e at h)
 
-  -- arms that do
-  pub save-step : (u : Windows) → op ≡ 0xFA → Whole (guardedOn w s (saveContext s x)) r t u → Whole (stepOf w s op x y z) r t u
-  save-step u e h = rw (e, save-open w s a v x y z) h
+  -- the other arms that touch no memory
+  pub put-step : op ≡ 0xF6 → Told (putOf s x z) r t → Whole (stepOf w s op x y z) r t w
+  unfolding planOf armOf refusalOf
+  put-step e h = told-step w s a v op x y z r t (put register) (rw e) refl (putOf s x z) refl h
 
-  pub unsave-step : op ≡ 0xFB → Whole (guardedOn w s (unsaveContext s (reg s z))) r t w → Whole (stepOf w s op x y z) r t w
-  unsave-step e h = rw (e, unsave-open w s a v x y z) h
+  pub puti-step : op ≡ 0xF7 → Told (putSpecial s x z) r t → Whole (stepOf w s op x y z) r t w
+  unfolding planOf armOf refusalOf
+  puti-step e h = told-step w s a v op x y z r t (put immediate) (rw e) refl (putSpecial s x z) refl h
 
--- no opcode of the group is beside the nine
-pub no-other : {A : Type 0} (op : ℕ) → isSystem op ≡ true → (op ≡ 0x00 → ⊥) → (op ≡ 0xF6 → ⊥) → (op ≡ 0xF7 → ⊥) → (op ≡ 0xFA → ⊥) → (op ≡ 0xFB → ⊥)
-    → (op ≡ 0xFC → ⊥) → (op ≡ 0xFD → ⊥) → (op ≡ 0xFE → ⊥) → (op ≡ 0xFF → ⊥) → A
-no-other op e a b c d f g h i j =
-    let none : isSystem op ≡ false =
-    unfold isSystem in (rw (ne-eqb op 0x00 a, ne-eqb op 0xF6 b, ne-eqb op 0xF7 c, ne-eqb op 0xFA d, ne-eqb op 0xFB f, ne-eqb op 0xFC g, ne-eqb op 0xFD h, ne-eqb op 0xFE i, ne-eqb op 0xFF j)) in
-    absurd (true≢false (sym e ∙ none))
+  pub sync-step : op ≡ 0xFC → Told (syncOf s (xyzOf x y z)) r t → Whole (stepOf w s op x y z) r t w
+  unfolding planOf armOf refusalOf
+  sync-step e h = told-step w s a v op x y z r t sync (rw e) refl (syncOf s (xyzOf x y z)) refl h
+
+  pub swym-step : op ≡ 0xFD → Told (say 0 (next s)) r t → Whole (stepOf w s op x y z) r t w
+  unfolding planOf armOf refusalOf
+  swym-step e h = told-step w s a v op x y z r t swym (rw e) refl (say 0 (next s)) refl h
+
+  pub trip-step : op ≡ 0xFF → Told (tripOf s op x y z) r t → Whole (stepOf w s op x y z) r t w
+  unfolding planOf armOf refusalOf tripOf
+  trip-step e h = told-step w s a v op x y z r t trip (rw e) refl (tripOf s op x y z) refl h
+
+  -- the arms that do
+  pub save-step : (u : Windows) → op ≡ 0xFA → Whole (saveOf w s x) r t u → Whole (stepOf w s op x y z) r t u
+  unfolding planOf armOf refusalOf saveOf
+  save-step u e h = stack-step w s a v op x y z r t save (rw e) refl (saveContext s x) u refl h
+
+  pub unsave-step : op ≡ 0xFB → Whole (unsaveAt w s z) r t w → Whole (stepOf w s op x y z) r t w
+  unfolding planOf armOf refusalOf unsaveOf
+  unsave-step e h = stack-step w s a v op x y z r t unsave (rw e) refl (unsaveContext s (reg s z)) w refl h

@@ -1,6 +1,6 @@
 -- What the instruction layer's contracts cite beside the model.
-pub mod Told
+pub mod NoMemoryArms
 pub mod Counts
-pub mod Whole
+pub mod StepAnswer
 pub mod Arms
 pub mod Groups

@@ -1,12 +1,9 @@
 // Arms that work on the register stack's frames (control.rs: PUSHJ, PUSHGO, POP), in place: the stack moves registers and octabytes,
 // and PC is sent on where that is done. Each judges 1 and 2, as the stack does.
-ghost use Prim.Native.Nat.{ℕ, _+_, _*_, _%_, _^_};
-ghost use Rattle.model.specs.Registers.{rJ, sp};
-ghost use Rattle.model.specs.Control.{yzOf};
-ghost use Rattle.model.specs.Frames.{hole, pushFrame, popFrame};
+ghost use Prim.Native.Nat.{ℕ};
 ghost use Rattle.model.specs.Parts.{made, lent};
-ghost use Rattle.stack.specs.GivenBack.{guardedOn};
-ghost use Rattle.instruction.specs.Whole.{Whole};
+ghost use Rattle.instruction.specs.StepAnswer.{Whole};
+ghost use Rattle.instruction.specs.Arms.{callTo, returnOf};
 use model::Reply;
 use model::State;
 use stack::frame::PopFrame;
@@ -22,7 +19,10 @@ pub fn push_to(
     x: u8,
     target: u64,
 ) -> Reply
-    ensures { λ r. ⌜ ((halt : ℕ) → Whole (guardedOn (lent base (now (window .entry))) (made (now (general .entry)) (now (special .entry)) (now (pc .entry)) halt marks) (pushFrame (made (now (general .entry)) (now (special .entry)) (now (pc .entry)) halt marks) (hole (made (now (general .entry)) (now (special .entry)) (now (pc .entry)) halt marks) x) target)) r (made (now (general .exit)) (now (special .exit)) (now (pc .exit)) halt marks) (lent base (now (window .exit)))) ⌝ }
+    ensures { λ r. ⌜ ((halt : ℕ) → Whole
+        (callTo (lent base (now (window .entry)))
+        (made (now (general .entry)) (now (special .entry)) (now (pc .entry)) halt marks) x target)
+        r (made (now (general .exit)) (now (special .exit)) (now (pc .exit)) halt marks) (lent base (now (window .exit)))) ⌝ }
 {
     let at = *pc;
     let reply = stack::frame::push_frame(general, special, at, marks, window, base, x);
@@ -48,7 +48,10 @@ pub fn pop_to(
     y: u8,
     z: u8,
 ) -> Reply
-    ensures { λ r. ⌜ Whole (guardedOn (lent base (now (window .entry))) (made (now (general .entry)) (now (special .entry)) (now (pc .entry)) (now (halt .entry)) marks) (popFrame (made (now (general .entry)) (now (special .entry)) (now (pc .entry)) (now (halt .entry)) marks) x ((sp (made (now (general .entry)) (now (special .entry)) (now (pc .entry)) (now (halt .entry)) marks) rJ + 4 * yzOf y z) % 2 ^ 64))) r (made (now (general .exit)) (now (special .exit)) (now (pc .exit)) (now (halt .exit)) marks) (lent base (now (window .entry))) ⌝ }
+    ensures { λ r. ⌜ Whole
+        (returnOf (lent base (now (window .entry)))
+        (made (now (general .entry)) (now (special .entry)) (now (pc .entry)) (now (halt .entry)) marks) x y z)
+        r (made (now (general .exit)) (now (special .exit)) (now (pc .exit)) (now (halt .exit)) marks) (lent base (now (window .entry))) ⌝ }
 {
     let rj = special[State::RJ];
     let yz = 256 * (y as u16) + z as u16;

@@ -1,9 +1,8 @@
 // Arms that work on saved contexts (system.rs: SAVE, UNSAVE), in place: the stack moves registers and octabytes, and PC goes on to
 // @ + 4 where that is done. Each judges 1 and 2, as the stack does.
-ghost use Rattle.model.specs.Contexts.{saveContext, unsaveContext};
 ghost use Rattle.model.specs.Parts.{made, lent};
-ghost use Rattle.stack.specs.GivenBack.{guardedOn};
-ghost use Rattle.instruction.specs.Whole.{Whole};
+ghost use Rattle.stack.specs.SaveUnsave.{saveOf, unsaveOf};
+ghost use Rattle.instruction.specs.StepAnswer.{Whole};
 use model::Reply;
 
 /// SAVE $x.
@@ -17,7 +16,10 @@ pub fn save_to(
     base: u64,
     x: u8,
 ) -> Reply
-    ensures { λ r. ⌜ Whole (guardedOn (lent base (now (window .entry))) (made (now (general .entry)) (now (special .entry)) (now (pc .entry)) (now (halt .entry)) marks) (saveContext (made (now (general .entry)) (now (special .entry)) (now (pc .entry)) (now (halt .entry)) marks) x)) r (made (now (general .exit)) (now (special .exit)) (now (pc .exit)) (now (halt .exit)) marks) (lent base (now (window .exit))) ⌝ }
+    ensures { λ r. ⌜ Whole
+        (saveOf (lent base (now (window .entry)))
+        (made (now (general .entry)) (now (special .entry)) (now (pc .entry)) (now (halt .entry)) marks) x)
+        r (made (now (general .exit)) (now (special .exit)) (now (pc .exit)) (now (halt .exit)) marks) (lent base (now (window .exit))) ⌝ }
 {
     let reply = stack::context::save_context(general, special, halt, marks, window, base, x);
     match reply {
@@ -40,7 +42,10 @@ pub fn unsave_from(
     base: u64,
     address: u64,
 ) -> Reply
-    ensures { λ r. ⌜ Whole (guardedOn (lent base (now (window .entry))) (made (now (general .entry)) (now (special .entry)) (now (pc .entry)) (now (halt .entry)) marks) (unsaveContext (made (now (general .entry)) (now (special .entry)) (now (pc .entry)) (now (halt .entry)) marks) address)) r (made (now (general .exit)) (now (special .exit)) (now (pc .exit)) (now (halt .exit)) marks) (lent base (now (window .entry))) ⌝ }
+    ensures { λ r. ⌜ Whole
+        (unsaveOf (lent base (now (window .entry)))
+        (made (now (general .entry)) (now (special .entry)) (now (pc .entry)) (now (halt .entry)) marks) address)
+        r (made (now (general .exit)) (now (special .exit)) (now (pc .exit)) (now (halt .exit)) marks) (lent base (now (window .entry))) ⌝ }
 {
     let reply = stack::context::unsave_context(
         general,

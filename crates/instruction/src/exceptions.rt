@@ -1,13 +1,14 @@
 // Trips, traps and exceptions in place (exceptions.rs, system.rs).
 ghost use mathlib.Core.Path.{_≡_};
+ghost use mathlib.Core.Bool.{_&&_};
 ghost use mathlib.Core.List.{List};
 ghost use Prim.Native.Nat.{ℕ, _+_, _/_, _%_, _^_, _<_, _≤_};
 ghost use lib.Dec.{eqb};
 ghost use lib.Count.{leadingZeros};
-ghost use Rattle.model.specs.Trips.{wordOf, tripped, trapped, tripTo, withAdded};
+ghost use Rattle.model.specs.Trips.{wordOf, interrupted, tripTo, withAdded};
 ghost use Rattle.model.specs.Step.{isNamed, exceptionOf};
 ghost use Rattle.model.specs.Parts.{made};
-ghost use Rattle.instruction.specs.Told.{tripOf, trapStep, Told};
+ghost use Rattle.instruction.specs.NoMemoryArms.{tripOf, trapStep, Told};
 use model::Reply;
 use model::State;
 
@@ -28,34 +29,33 @@ fn is_loaded(marks: u64, k: u64) -> bool
     (marks >> k) % 2 == 1
 }
 
-/// The trip registers.
-fn set_trip(general: &mut [u64; 256], special: &mut [u64; 32], pc: u64, word: u64, u: u64, v: u64)
-    ensures { λ _. ⌜ ((halt marks : ℕ) → made (now (general .exit)) (now (special .exit)) pc halt marks ≡ tripped (made (now (general .entry)) (now (special .entry)) pc halt marks) word u v) ⌝ }
+/// The registers of a trip or a trap, whose numbers are b, w, x, y and z.
+fn set_interrupt(
+    general: &mut [u64; 256],
+    special: &mut [u64; 32],
+    pc: u64,
+    b: usize,
+    w: usize,
+    x: usize,
+    y: usize,
+    z: usize,
+    word: u64,
+    u: u64,
+    v: u64,
+)
+    requires { ⌜ (b < 32) × (w < 32) × (x < 32) × (y < 32) × (z < 32) ⌝ }
+    ensures { λ _. ⌜ ((halt marks : ℕ) → made (now (general .exit)) (now (special .exit)) pc halt marks
+        ≡ interrupted (made (now (general .entry)) (now (special .entry)) pc halt marks) b w x y z word u v) ⌝ }
 {
     let rj = special[State::RJ];
     let last = general[255];
     let next = super::target::following(pc);
-    special[State::RB] = last;
+    special[b] = last;
     general[255] = rj;
-    special[State::RW] = next;
-    special[State::RX] = word;
-    special[State::RY] = u;
-    special[State::RZ] = v;
-}
-
-/// The trap registers.
-fn set_trap(general: &mut [u64; 256], special: &mut [u64; 32], pc: u64, word: u64, u: u64, v: u64)
-    ensures { λ _. ⌜ ((halt marks : ℕ) → made (now (general .exit)) (now (special .exit)) pc halt marks ≡ trapped (made (now (general .entry)) (now (special .entry)) pc halt marks) word u v) ⌝ }
-{
-    let rj = special[State::RJ];
-    let last = general[255];
-    let next = super::target::following(pc);
-    special[State::RBB] = last;
-    general[255] = rj;
-    special[State::RWW] = next;
-    special[State::RXX] = word;
-    special[State::RYY] = u;
-    special[State::RZZ] = v;
+    special[w] = next;
+    special[x] = word;
+    special[y] = u;
+    special[z] = v;
 }
 
 /// A trip through vector k, of 0 to 8: PC goes there if it is loaded, else the halt code is 1 (19).
@@ -71,10 +71,24 @@ fn trip(
     v: u64,
 ) -> Reply
     requires { ⌜ k ≤ 8 ⌝ }
-    ensures { λ r. ⌜ Told (tripTo (made (now (general .entry)) (now (special .entry)) (now (pc .entry)) (now (halt .entry)) marks) k word u v) r (made (now (general .exit)) (now (special .exit)) (now (pc .exit)) (now (halt .exit)) marks) ⌝ }
+    ensures { λ r. ⌜ Told
+        (tripTo (made (now (general .entry)) (now (special .entry)) (now (pc .entry)) (now (halt .entry)) marks) k word u v)
+        r (made (now (general .exit)) (now (special .exit)) (now (pc .exit)) (now (halt .exit)) marks) ⌝ }
 {
     let at = *pc;
-    set_trip(general, special, at, word, u, v);
+    set_interrupt(
+        general,
+        special,
+        at,
+        State::RB,
+        State::RW,
+        State::RX,
+        State::RY,
+        State::RZ,
+        word,
+        u,
+        v,
+    );
     if is_loaded(marks, k) {
         *pc = 16 * k;
         return Reply::Done;
@@ -95,7 +109,9 @@ pub fn trip_arm(
     y: u8,
     z: u8,
 ) -> Reply
-    ensures { λ r. ⌜ Told (tripOf (made (now (general .entry)) (now (special .entry)) (now (pc .entry)) (now (halt .entry)) marks) op x y z) r (made (now (general .exit)) (now (special .exit)) (now (pc .exit)) (now (halt .exit)) marks) ⌝ }
+    ensures { λ r. ⌜ Told
+        (tripOf (made (now (general .entry)) (now (special .entry)) (now (pc .entry)) (now (halt .entry)) marks) op x y z)
+        r (made (now (general .exit)) (now (special .exit)) (now (pc .exit)) (now (halt .exit)) marks) ⌝ }
 {
     let word = word_of(op, x, y, z);
     let u = general[y as usize];
@@ -103,10 +119,13 @@ pub fn trip_arm(
     trip(general, special, pc, halt, marks, 0, word, u, v)
 }
 
-/// Whether `from_u8` names Y.
-fn is_named(y: u8) -> bool
-    ensures { λ r. ⌜ r ≡ isNamed y ⌝ }
+/// Whether a TRAP names a system call: X is 0, and `from_u8` names Y.
+fn is_named(x: u8, y: u8) -> bool
+    ensures { λ r. ⌜ r ≡ (eqb x 0 && isNamed y) ⌝ }
 {
+    if x != 0 {
+        return false;
+    }
     if y <= 10 {
         return true;
     }
@@ -130,24 +149,37 @@ pub fn trap_arm(
     y: u8,
     z: u8,
 ) -> Reply
-    ensures { λ r. ⌜ ((marks : ℕ) → Told (trapStep (made (now (general .entry)) (now (special .entry)) pc (now (halt .entry)) marks) op x y z) r (made (now (general .exit)) (now (special .exit)) pc (now (halt .exit)) marks)) ⌝ }
+    ensures { λ r. ⌜ ((marks : ℕ) → Told
+        (trapStep (made (now (general .entry)) (now (special .entry)) pc (now (halt .entry)) marks) op x y z)
+        r (made (now (general .exit)) (now (special .exit)) pc (now (halt .exit)) marks)) ⌝ }
 {
-    if x == 0 {
-        if is_named(y) {
-            return Reply::NamedTrap;
-        }
+    if is_named(x, y) {
+        return Reply::NamedTrap;
     }
     let word = word_of(op, x, y, z);
     let u = general[y as usize];
     let v = general[z as usize];
-    set_trap(general, special, pc, word, u, v);
+    set_interrupt(
+        general,
+        special,
+        pc,
+        State::RBB,
+        State::RWW,
+        State::RXX,
+        State::RYY,
+        State::RZZ,
+        word,
+        u,
+        v,
+    );
     *halt = 1;
     Reply::Trapped
 }
 
 /// The flags raised and disabled are added to rA.
 fn add_disabled(special: &mut [u64; 32], flags: u8)
-    ensures { λ _. ⌜ ((general : List ℕ) (pc halt marks : ℕ) → made general (now (special .exit)) pc halt marks ≡ withAdded (made general (now (special .entry)) pc halt marks) flags) ⌝ }
+    ensures { λ _. ⌜ ((general : List ℕ) (pc halt marks : ℕ) → made general (now (special .exit)) pc halt marks
+        ≡ withAdded (made general (now (special .entry)) pc halt marks) flags) ⌝ }
 {
     let ra = special[State::RA];
     let enables = ((ra / 256) % 256) as u8;
@@ -178,19 +210,22 @@ pub fn raise_exceptions(
     y_val: u64,
     z_val: u64,
 ) -> Reply
-    ensures { λ r. ⌜ Told (exceptionOf (made (now (general .entry)) (now (special .entry)) (now (pc .entry)) (now (halt .entry)) marks) flags op x y z «y_val» «z_val») r (made (now (general .exit)) (now (special .exit)) (now (pc .exit)) (now (halt .exit)) marks) ⌝ }
+    ensures { λ r. ⌜ Told
+        (exceptionOf (made (now (general .entry)) (now (special .entry)) (now (pc .entry)) (now (halt .entry)) marks)
+        flags op x y z «y_val» «z_val»)
+        r (made (now (general .exit)) (now (special .exit)) (now (pc .exit)) (now (halt .exit)) marks) ⌝ }
 {
-    if stack::pass::admissible(special, marks) {
-        let ra = special[State::RA];
-        let taken = flags & (((ra / 256) % 256) as u8);
-        add_disabled(special, flags);
-        if taken == 0 {
-            *pc = super::target::following(*pc);
-            return Reply::Done;
-        }
-        let k = vector_of(taken);
-        let word = word_of(op, x, y, z);
-        return trip(general, special, pc, halt, marks, k, word, y_val, z_val);
+    if !stack::pass::admissible(special, marks) {
+        return Reply::NotAdmissible;
     }
-    Reply::NotAdmissible
+    let ra = special[State::RA];
+    let taken = flags & (((ra / 256) % 256) as u8);
+    add_disabled(special, flags);
+    if taken == 0 {
+        *pc = super::target::following(*pc);
+        return Reply::Done;
+    }
+    let k = vector_of(taken);
+    let word = word_of(op, x, y, z);
+    trip(general, special, pc, halt, marks, k, word, y_val, z_val)
 }

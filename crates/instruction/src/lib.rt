@@ -1,11 +1,20 @@
-//! The instruction layer, over the stack's contracts alone: `target` has the addresses and conditions of control.rs, `exceptions`
-//! trips, traps and the exceptions entry, `registers` the arms that move nothing but registers. All work in place on lent registers;
-//! `value` has the exceptions entry on a state that goes in and comes back.
+//! The instruction layer, over the stack's contracts alone; all of it works in place on lent registers, but for `value`.
+//!
+//! - `step`: one step; 1 and 2 judged, then the choice among the groups of opcodes
+//! - `control`, `system`: the choice within a group, as control.rs and system.rs have it
+//! - `opcode`: the opcodes by name
+//! - `target`: addresses and conditions
+//! - `registers`: the arms that move nothing but registers
+//! - `calls`: those that work on frames
+//! - `contexts`: those that work on saved contexts
+//! - `exceptions`: TRIP and TRAP, and the exceptions entry
+//! - `value`: one step and one exception on a state that goes in and comes back, and the numbers of replies
 
 pub mod calls;
 pub mod contexts;
+mod control;
 pub mod exceptions;
-mod group;
+pub mod opcode;
 pub mod registers;
 pub mod step;
 mod system;

@@ -3,12 +3,12 @@
 ghost use mathlib.Core.Path.{_≡_};
 ghost use mathlib.Core.List.{List};
 ghost use Prim.Native.Nat.{ℕ};
-ghost use Rattle.model.specs.Registers.{setRegister, goes, following, next};
-ghost use Rattle.model.specs.Opcodes.{wayOf};
-ghost use Rattle.model.specs.Control.{near, xyzOf};
+ghost use Rattle.model.specs.NoMemory.{say};
+ghost use Rattle.model.specs.Control.{xyzOf};
 ghost use Rattle.model.specs.System.{putSpecial, syncOf};
 ghost use Rattle.model.specs.Parts.{made};
-ghost use Rattle.instruction.specs.Told.{getOf, Told};
+ghost use Rattle.instruction.specs.NoMemoryArms.{getOf, Told};
+ghost use Rattle.instruction.specs.Arms.{addressOf, goTo};
 use model::Reply;
 
 /// GETA and GETAB.
@@ -20,18 +20,22 @@ pub fn get_address(
     x: u8,
     y: u8,
     z: u8,
-)
-    ensures { λ _. ⌜ ((halt marks : ℕ) → made (now (general .exit)) (now (special .exit)) (now (pc .exit)) halt marks ≡ next (setRegister (made (now (general .entry)) (now (special .entry)) (now (pc .entry)) halt marks) x (near (made (now (general .entry)) (now (special .entry)) (now (pc .entry)) halt marks) (wayOf op) y z))) ⌝ }
+) -> Reply
+    ensures { λ r. ⌜ ((halt marks : ℕ) → Told
+        (say 0 (addressOf (made (now (general .entry)) (now (special .entry)) (now (pc .entry)) halt marks) op x y z))
+        r (made (now (general .exit)) (now (special .exit)) (now (pc .exit)) halt marks)) ⌝ }
 {
     let at = *pc;
     let target = super::target::near(at, op, y, z);
     stack::pass::set_register(general, special, x, target);
     *pc = super::target::following(at);
+    Reply::Done
 }
 
 /// GO and GOI to a target that was read first.
 pub fn go_to(general: &mut [u64; 256], special: &mut [u64; 32], pc: &mut u64, x: u8, target: u64)
-    ensures { λ _. ⌜ ((halt marks : ℕ) → made (now (general .exit)) (now (special .exit)) (now (pc .exit)) halt marks ≡ goes (setRegister (made (now (general .entry)) (now (special .entry)) (now (pc .entry)) halt marks) x (following (made (now (general .entry)) (now (special .entry)) (now (pc .entry)) halt marks))) target) ⌝ }
+    ensures { λ _. ⌜ ((halt marks : ℕ) → made (now (general .exit)) (now (special .exit)) (now (pc .exit)) halt marks
+        ≡ goTo (made (now (general .entry)) (now (special .entry)) (now (pc .entry)) halt marks) x target) ⌝ }
 {
     let next = super::target::following(*pc);
     stack::pass::set_register(general, special, x, next);
@@ -46,15 +50,17 @@ pub fn get_special(
     x: u8,
     z: u8,
 ) -> Reply
-    ensures { λ r. ⌜ ((halt marks : ℕ) → Told (getOf (made (now (general .entry)) (now (special .entry)) (now (pc .entry)) halt marks) x z) r (made (now (general .exit)) (now (special .exit)) (now (pc .exit)) halt marks)) ⌝ }
+    ensures { λ r. ⌜ ((halt marks : ℕ) → Told
+        (getOf (made (now (general .entry)) (now (special .entry)) (now (pc .entry)) halt marks) x z)
+        r (made (now (general .exit)) (now (special .exit)) (now (pc .exit)) halt marks)) ⌝ }
 {
-    if z <= 31 {
-        let v = special[z as usize];
-        stack::pass::set_register(general, special, x, v);
-        *pc = super::target::following(*pc);
-        return Reply::Done;
+    if z > 31 {
+        return Reply::NoSpecial;
     }
-    Reply::NoSpecial
+    let v = special[z as usize];
+    stack::pass::set_register(general, special, x, v);
+    *pc = super::target::following(*pc);
+    Reply::Done
 }
 
 /// PUT and PUTI of a value.
@@ -66,7 +72,9 @@ pub fn put_value(
     x: u8,
     value: u64,
 ) -> Reply
-    ensures { λ r. ⌜ ((marks : ℕ) → Told (putSpecial (made (now (general .entry)) (now (special .entry)) (now (pc .entry)) (now (halt .entry)) marks) x value) r (made (now (general .exit)) (now (special .exit)) (now (pc .exit)) (now (halt .exit)) marks)) ⌝ }
+    ensures { λ r. ⌜ ((marks : ℕ) → Told
+        (putSpecial (made (now (general .entry)) (now (special .entry)) (now (pc .entry)) (now (halt .entry)) marks) x value)
+        r (made (now (general .exit)) (now (special .exit)) (now (pc .exit)) (now (halt .exit)) marks)) ⌝ }
 {
     let reply = stack::pass::put_special(general, special, x, value);
     match reply {
@@ -82,7 +90,9 @@ pub fn put_value(
 
 /// SYNC.
 pub fn synchronize(pc: &mut u64, halt: &mut u64, x: u8, y: u8, z: u8) -> Reply
-    ensures { λ r. ⌜ ((general special : List ℕ) (marks : ℕ) → Told (syncOf (made general special (now (pc .entry)) (now (halt .entry)) marks) (xyzOf x y z)) r (made general special (now (pc .exit)) (now (halt .exit)) marks)) ⌝ }
+    ensures { λ r. ⌜ ((general special : List ℕ) (marks : ℕ) → Told
+        (syncOf (made general special (now (pc .entry)) (now (halt .entry)) marks) (xyzOf x y z))
+        r (made general special (now (pc .exit)) (now (halt .exit)) marks)) ⌝ }
 {
     let xyz = 65536 * (x as u64) + (256 * (y as u64) + z as u64);
     if 7 < xyz {

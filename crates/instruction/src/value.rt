@@ -1,10 +1,11 @@
-// One step and one exception on a state by value.
+// One step and one exception on a state by value, and a reply's number. 01: "`&mut self` becomes self by value", so each entry that the Rust has
+// with `&mut self` is here under its name: the bench program's language takes `step`; nothing in this repository calls `raise_exceptions`.
 ghost use mathlib.Core.Path.{_≡_};
 ghost use Rattle.model.specs.Step.{stepOf, exceptionOf};
 ghost use Rattle.model.specs.Numbers.{numberOf};
 ghost use Rattle.model.specs.Parts.{lent};
-ghost use Rattle.instruction.specs.Told.{Told};
-ghost use Rattle.instruction.specs.Whole.{Whole};
+ghost use Rattle.instruction.specs.NoMemoryArms.{Told};
+ghost use Rattle.instruction.specs.StepAnswer.{Whole};
 use model::Reply;
 use model::State;
 
@@ -68,7 +69,8 @@ pub fn raise_exceptions(
 
 /// One step on a state by value and a window.
 pub fn step(state: State, window: &mut [u8], base: u64, op: u8, x: u8, y: u8, z: u8) -> Outcome
-    ensures { λ r. ⌜ Whole (stepOf (lent base (now (window .entry))) state op x y z) (r .reply) (r .state) (lent base (now (window .exit))) ⌝ }
+    ensures { λ r. ⌜ Whole (stepOf (lent base (now (window .entry))) state op x y z)
+        (r .reply) (r .state) (lent base (now (window .exit))) ⌝ }
 {
     let mut general = state.general;
     let mut special = state.special;

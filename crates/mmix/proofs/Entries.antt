@@ -13,8 +13,8 @@ use Rattle.model.specs.Step.{stepOf, exceptionOf}
 use Rattle.model.specs.Numbers.{numberOf, replyOf}
 use Rattle.model.specs.declared.State.{State}
 use Rattle.model.specs.declared.Reply.{Reply}
-use Rattle.instruction.specs.Told.{Told}
-use Rattle.instruction.specs.Whole.{Whole}
+use Rattle.instruction.specs.NoMemoryArms.{Told}
+use Rattle.instruction.specs.StepAnswer.{Whole}
 use Rattle.mmix.specs.Image.{imageLength, imageOf, stateOf}
 use Rattle.mmix.specs.Entries.{isImage, Decoded, Encoded, Initialized, Stepped, SteppedState, Raised, RaisedState}
 

@@ -21,7 +21,7 @@ use Rattle.model.specs.declared.Reply.{Reply}
 use Rattle.model.proofs.Bools.{on}
 use Rattle.model.proofs.Numbers.{numbered}
 use Rattle.model.proofs.Leaves.{replies-leave}
-use Rattle.instruction.specs.Whole.{Whole}
+use Rattle.instruction.specs.StepAnswer.{Whole}
 use Rattle.script.specs.Line.{lineOf}
 use Rattle.script.specs.Text.{filled}
 use Rattle.script.specs.Script.{doneLine, refusedLine, stepText, badText, turnOf, atFirst, pieces, carried, window, scriptMost, printed}

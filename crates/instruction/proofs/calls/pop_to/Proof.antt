@@ -6,7 +6,7 @@ use Rattle.model.specs.Control.{yzOf}
 use Rattle.model.specs.Numbers.{replyOf}
 use Rattle.model.specs.Parts.{made, lent}
 use Rattle.stack.specs.PushPop.{popNumber}
-use Rattle.instruction.proofs.Sends.{pop-done, pop-none, pop-refused}
+use Rattle.instruction.proofs.PushPopSent.{pop-done, pop-none, pop-refused}
 use Rattle.instruction.proofs.calls.pop_to.Statement.{statement}
 use Rattle.instruction.proofs.calls.pop_to.Tie as tie
 

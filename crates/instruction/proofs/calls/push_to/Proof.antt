@@ -2,7 +2,7 @@
 use borrow.Author.Needs.{needs}
 use Rattle.model.specs.Registers.{goes}
 use Rattle.model.specs.Parts.{made, lent}
-use Rattle.instruction.proofs.Sends.{push-done, push-refused}
+use Rattle.instruction.proofs.PushPopSent.{push-done, push-refused}
 use Rattle.instruction.proofs.calls.push_to.Statement.{statement}
 use Rattle.instruction.proofs.calls.push_to.Tie as tie
 

@@ -2,7 +2,7 @@
 use borrow.Author.Needs.{needs}
 use Rattle.model.specs.Parts.{made, lent}
 use Rattle.stack.specs.SaveUnsave.{saveOf}
-use Rattle.instruction.proofs.Onward.{save-onward, onward-done, onward-refused}
+use Rattle.instruction.proofs.SaveUnsaveSent.{save-onward, onward-done, onward-refused}
 use Rattle.instruction.proofs.contexts.save_to.Statement.{statement}
 use Rattle.instruction.proofs.contexts.save_to.Tie as tie
 

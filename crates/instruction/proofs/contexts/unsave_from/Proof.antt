@@ -2,7 +2,7 @@
 use borrow.Author.Needs.{needs}
 use Rattle.model.specs.Parts.{made, lent}
 use Rattle.stack.specs.SaveUnsave.{unsaveOf}
-use Rattle.instruction.proofs.Onward.{unsave-onward, onward-done, onward-refused}
+use Rattle.instruction.proofs.SaveUnsaveSent.{unsave-onward, onward-done, onward-refused}
 use Rattle.instruction.proofs.contexts.unsave_from.Statement.{statement}
 use Rattle.instruction.proofs.contexts.unsave_from.Tie as tie
 

@@ -2,6 +2,7 @@
 use mathlib.Core.Path.{_≡_, sym, _∙_}
 use mathlib.Core.Bool.{true}
 use borrow.Author.Needs.{needs}
+use borrow.Author.Tests.{not-true, not-false}
 use Rattle.model.specs.Registers.{admissible}
 use Rattle.model.specs.Parts.{made}
 use Rattle.instruction.proofs.Interrupts.{not-admissible, none-taken, one-taken}
@@ -10,6 +11,9 @@ use Rattle.instruction.proofs.exceptions.raise_exceptions.Tie as tie
 
 admissible-requires : tie.Need-admissible-requires
 admissible-requires c κs = search needs
+
+returns : tie.Need-returns
+returns c = not-admissible _ _ _ _ _ _ _ _ (sym (c .before .admissible .ensures _ _ _) ∙ not-true _ (c .if1 .taken))
 
 element-copy-out-ra : tie.Need-element-copy-out-ra
 element-copy-out-ra c = search needs
@@ -23,13 +27,14 @@ add-disabled-requires c κs = search needs
 following-requires : tie.Need-following-requires
 following-requires c κs = search needs
 
-returns : tie.Need-returns
-returns c =
+returns-2 : tie.Need-returns-2
+returns-2 c =
     let adds = c .before .before .before in
-    let start = adds .before .before .before .before .before .before in
+    let passed = adds .before .before .before in
+    let start = passed .before .before .before in
     let a = start .args in
     let s = made (a .general .now) (a .special .now) (a .pc .now) (a .halt .now) (a .marks) in
-    let admits : admissible s ≡ true = sym (adds .before .before .before .before .admissible .ensures (s .general) (s .pc) (s .halt)) ∙ adds .before .before .before .if1 .taken in
+    let admits : admissible s ≡ true = sym (passed .before .admissible .ensures (s .general) (s .pc) (s .halt)) ∙ not-false _ (passed .if1 .left) in
     let added = adds .add-disabled .ensures (s .general) (s .pc) (s .halt) (s .marks) in
     none-taken s _ _ _ _ _ _ _ (start .fits .flags .fits) admits _ added _ (c .before .before .if2 .taken) (c .following .ensures)
 
@@ -42,13 +47,14 @@ word-of-requires c κs = search needs
 trip-requires : tie.Need-trip-requires
 trip-requires c κs = search needs
 
-returns-2 : tie.Need-returns-2
-returns-2 c =
+returns-3 : tie.Need-returns-3
+returns-3 c =
     let adds = c .before .before .before .before .before .before .before .before in
-    let start = adds .before .before .before .before .before .before in
+    let passed = adds .before .before .before in
+    let start = passed .before .before .before in
     let a = start .args in
     let s = made (a .general .now) (a .special .now) (a .pc .now) (a .halt .now) (a .marks) in
-    let admits : admissible s ≡ true = sym (adds .before .before .before .before .admissible .ensures (s .general) (s .pc) (s .halt)) ∙ adds .before .before .before .if1 .taken in
+    let admits : admissible s ≡ true = sym (passed .before .admissible .ensures (s .general) (s .pc) (s .halt)) ∙ not-false _ (passed .if1 .left) in
     let added = adds .add-disabled .ensures (s .general) (s .pc) (s .halt) (s .marks) in
     let flagged = c .before .before .before .before .before .before .before in
     let vector = c .before .before .before .before .before .before .vector-of in
@@ -57,21 +63,5 @@ returns-2 c =
     let t = made (last .0) (last .1 .0) (last .1 .1 .0) (last .1 .1 .1 .0) (a .marks) in
     one-taken s _ _ _ _ _ _ _ (start .fits .flags .fits) admits _ added (vector .result) (word .result) (c .trip .result) t (flagged .if2 .left) (vector .ensures .0) (word .ensures) (c .trip .ensures)
 
-returns-3 : tie.Need-returns-3
-returns-3 c = not-admissible _ _ _ _ _ _ _ _ (sym (c .before .admissible .ensures _ _ _) ∙ c .if1 .left)
-
 pub raise-exceptions-spec : {M : Type 1} → statement M
-raise-exceptions-spec =
-    tie.close
-    (tie.spec
-    admissible-requires
-    element-copy-out-ra
-    cast-taken
-    add-disabled-requires
-    following-requires
-    returns
-    vector-of-requires
-    word-of-requires
-    trip-requires
-    returns-2
-    returns-3)
+raise-exceptions-spec = tie.close (tie.spec admissible-requires returns element-copy-out-ra cast-taken add-disabled-requires following-requires returns-2 vector-of-requires word-of-requires trip-requires returns-3)

@@ -6,8 +6,8 @@ use Rattle.instruction.proofs.Interrupts.{trip-loaded, trip-not-loaded}
 use Rattle.instruction.proofs.exceptions.trip.Statement.{statement}
 use Rattle.instruction.proofs.exceptions.trip.Tie as tie
 
-set-trip-requires : tie.Need-set-trip-requires
-set-trip-requires c κs = search needs
+set-interrupt-requires : tie.Need-set-interrupt-requires
+set-interrupt-requires c κs = search needs
 
 is-loaded-requires : tie.Need-is-loaded-requires
 is-loaded-requires c κs = search needs
@@ -19,13 +19,13 @@ returns : tie.Need-returns
 returns c =
     let a = c .before .before .before .before .before .before .args in
     let s = made (a .general .now) (a .special .now) (a .pc .now) (a .halt .now) (a .marks) in
-    trip-loaded s _ _ _ _ _ _ (c .before .before .set-trip .ensures (a .halt .now) (a .marks)) (sym (c .before .is-loaded .ensures) ∙ c .if1 .taken)
+    trip-loaded s _ _ _ _ _ _ (c .before .before .set-interrupt .ensures (a .halt .now) (a .marks)) (sym (c .before .is-loaded .ensures) ∙ c .if1 .taken)
 
 returns-2 : tie.Need-returns-2
 returns-2 c =
     let a = c .before .before .before .before .before .before .args in
     let s = made (a .general .now) (a .special .now) (a .pc .now) (a .halt .now) (a .marks) in
-    trip-not-loaded s _ _ _ _ _ _ (c .before .before .set-trip .ensures (a .halt .now) (a .marks)) (sym (c .before .is-loaded .ensures) ∙ c .if1 .left)
+    trip-not-loaded s _ _ _ _ _ _ (c .before .before .set-interrupt .ensures (a .halt .now) (a .marks)) (sym (c .before .is-loaded .ensures) ∙ c .if1 .left)
 
 pub trip-spec : {M : Type 1} → statement M
-trip-spec = tie.close (tie.spec set-trip-requires is-loaded-requires mul-pc returns returns-2)
+trip-spec = tie.close (tie.spec set-interrupt-requires is-loaded-requires mul-pc returns returns-2)

@@ -1,9 +1,10 @@
 -- `get_address` meets its contract: the target goes into $X, and PC to the next tetra.
-use mathlib.Core.Path.{ap, _∙_}
+use mathlib.Core.Path.{refl, ap, _∙_}
 use borrow.Author.Needs.{needs}
 use Rattle.model.specs.Registers.{setRegister}
+use Rattle.model.specs.Numbers.{replyOf}
 use Rattle.model.specs.Parts.{made}
-use Rattle.instruction.proofs.Tells.{next-is}
+use Rattle.instruction.proofs.NoMemoryReplies.{next-is}
 use Rattle.instruction.proofs.registers.get_address.Statement.{statement}
 use Rattle.instruction.proofs.registers.get_address.Tie as tie
 
@@ -17,12 +18,15 @@ following-requires : tie.Need-following-requires
 following-requires c κs = search needs
 
 returns : tie.Need-returns
+unfolding replyOf
 returns c =
     λ halt marks.
     let a = c .before .before .before .before .before .before .args in
     let s = made (a .general .now) (a .special .now) (a .pc .now) halt marks in
-    next-is s _ _ _ (c .before .set-register .ensures s ∙ ap (setRegister s (a .x)) (c .before .before .before .before .near .ensures)) _ (c .following .ensures)
+    record {
+      reply-is = refl;
+      state-is = next-is s _ _ _ (c .before .set-register .ensures s ∙ ap (setRegister s (a .x)) (c .before .before .before .before .near .ensures)) _ (c .following .ensures);
+    }
 
 pub get-address-spec : {M : Type 1} → statement M
-get-address-spec =
-    tie.close (tie.spec near-requires set-register-requires following-requires returns)
+get-address-spec = tie.close (tie.spec near-requires set-register-requires following-requires returns)

@@ -2,10 +2,13 @@
 use borrow.Author.Needs.{needs}
 use Rattle.model.specs.System.{got}
 use Rattle.model.specs.Parts.{made}
-use Rattle.instruction.specs.Told.{getOf}
-use Rattle.instruction.proofs.Tells.{get-done, get-none}
+use Rattle.instruction.specs.NoMemoryArms.{getOf}
+use Rattle.instruction.proofs.NoMemoryReplies.{get-done, get-none}
 use Rattle.instruction.proofs.registers.get_special.Statement.{statement}
 use Rattle.instruction.proofs.registers.get_special.Tie as tie
+
+returns : tie.Need-returns
+returns c = λ halt marks. get-none _ _ _ (c .if1 .taken)
 
 mul-v : tie.Need-mul-v
 mul-v c = search needs
@@ -19,18 +22,14 @@ set-register-requires c κs = search needs
 following-requires : tie.Need-following-requires
 following-requires c κs = search needs
 
-returns : tie.Need-returns
-unfolding getOf got
-returns c =
-    λ halt marks.
-    let a = c .before .before .before .before .before .before .before .args in
-    let s = made (a .general .now) (a .special .now) (a .pc .now) halt marks in
-    get-done s (a .x) (a .z) _ _ _ _ (c .before .before .before .before .before .before .if1 .taken) (search (c .before .before .set-register .ensures s)) (c .following .ensures)
-
 returns-2 : tie.Need-returns-2
-returns-2 c = λ halt marks. get-none _ _ _ (c .if1 .left)
+unfolding getOf got
+returns-2 c =
+    λ halt marks.
+    let passed = c .before .before .before .before .before .before in
+    let a = passed .before .args in
+    let s = made (a .general .now) (a .special .now) (a .pc .now) halt marks in
+    get-done s (a .x) (a .z) _ _ _ _ (passed .if1 .left) (search (c .before .before .set-register .ensures s)) (c .following .ensures)
 
 pub get-special-spec : {M : Type 1} → statement M
-get-special-spec =
-    tie.close
-    (tie.spec mul-v element-copy-out-v set-register-requires following-requires returns returns-2)
+get-special-spec = tie.close (tie.spec returns mul-v element-copy-out-v set-register-requires following-requires returns-2)

@@ -1,7 +1,7 @@
 -- `put_value` meets its contract: the reply's number is the refusal's, so the match tells whether there is one.
 use borrow.Author.Needs.{needs}
 use Rattle.model.specs.Parts.{made}
-use Rattle.instruction.proofs.Tells.{put-done, put-refused}
+use Rattle.instruction.proofs.NoMemoryReplies.{put-done, put-refused}
 use Rattle.instruction.proofs.registers.put_value.Statement.{statement}
 use Rattle.instruction.proofs.registers.put_value.Tie as tie
 

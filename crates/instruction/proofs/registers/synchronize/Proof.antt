@@ -2,7 +2,7 @@
 use borrow.Author.Needs.{needs}
 use Rattle.model.specs.Registers.{halted}
 use Rattle.model.specs.Parts.{made}
-use Rattle.instruction.proofs.Tells.{sync-illegal, sync-privileged, sync-done}
+use Rattle.instruction.proofs.NoMemoryReplies.{sync-illegal, sync-privileged, sync-done}
 use Rattle.instruction.proofs.registers.synchronize.Statement.{statement}
 use Rattle.instruction.proofs.registers.synchronize.Tie as tie
 

@@ -1,7 +1,8 @@
 -- `system` meets its contract: the key that matched names the arm, and what the arm ensures is the step.
 use borrow.Author.Needs.{needs}
 use Rattle.model.specs.Parts.{made, lent}
-use Rattle.instruction.proofs.SystemArms.{put-step, puti-step, sync-step, swym-step, trip-step, get-step, trap-step, save-step, unsave-step, no-other}
+use Rattle.instruction.proofs.Groups.{no-other-system}
+use Rattle.instruction.proofs.SystemArms.{put-step, puti-step, sync-step, swym-step, trip-step, get-step, trap-step, save-step, unsave-step}
 use Rattle.instruction.proofs.system.system.Statement.{statement}
 use Rattle.instruction.proofs.system.system.Tie as tie
 
@@ -105,7 +106,7 @@ returns-10 : tie.Need-returns-10
 returns-10 c =
     let start = c .before .before in
     let k = c .match .rest in
-    no-other _ (start .pre .2) (k .0 .0 .0 .0 .0 .0 .0 .0 .1) (k .0 .0 .0 .0 .0 .0 .0 .1) (k .0 .0 .0 .0 .0 .0 .1) (k .0 .0 .0 .0 .0 .1) (k .0 .0 .0 .0 .1) (k .0 .0 .0 .1) (k .0 .0 .1) (k .0 .1) (k .1)
+    no-other-system _ (start .pre .2) (k .0 .0 .0 .0 .0 .0 .0 .0 .1) (k .0 .0 .0 .0 .0 .0 .0 .1) (k .0 .0 .0 .0 .0 .0 .1) (k .0 .0 .0 .0 .0 .1) (k .0 .0 .0 .0 .1) (k .0 .0 .0 .1) (k .0 .0 .1) (k .0 .1) (k .1)
 
 pub system-spec : {M : Type 1} → statement M
 system-spec =

@@ -1,9 +1,9 @@
 -- `sum` meets its contract: an even opcode's last operand is $Z, an odd one's Z.
 use borrow.Author.Needs.{needs}
 use Rattle.model.specs.Parts.{made}
-use Rattle.instruction.proofs.Arms.{sum-register, sum-immediate}
-use Rattle.instruction.proofs.step.sum.Statement.{statement}
-use Rattle.instruction.proofs.step.sum.Tie as tie
+use Rattle.instruction.proofs.ControlArms.{sum-register, sum-immediate}
+use Rattle.instruction.proofs.control.sum.Statement.{statement}
+use Rattle.instruction.proofs.control.sum.Tie as tie
 
 mul-v : tie.Need-mul-v
 mul-v c = search needs

@@ -5,7 +5,7 @@ use mathlib.Core.Bool.{cond, _&&_}
 use lib.Dec.{ltb, eqb}
 use Rattle.model.specs.Registers.{reg, next}
 use Rattle.model.specs.NoMemory.{Said, say}
-use Rattle.model.specs.System.{got}
+use Rattle.model.specs.System.{putSpecial, got}
 use Rattle.model.specs.Trips.{wordOf, tripTo, trapOf}
 use Rattle.model.specs.Step.{isNamed}
 use Rattle.model.specs.Numbers.{replyOf}
@@ -15,6 +15,10 @@ use Rattle.model.specs.declared.Reply.{Reply}
 -- 5, then GET
 unfoldable pub getOf : State → ℕ → ℕ → Said
 getOf s x z = cond (ltb 31 z) (say 5 s) (say 0 (next (got s x z)))
+
+-- PUT of $z
+abbrev pub putOf : State → ℕ → ℕ → Said
+putOf s x z = putSpecial s x (reg s z)
 
 -- TRIP
 unfoldable pub tripOf : State → ℕ → ℕ → ℕ → ℕ → Said

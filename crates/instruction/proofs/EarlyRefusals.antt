@@ -1,4 +1,4 @@
--- 1, 2 and 3 as the step answers them: nothing is changed.
+-- 1, 2 and 3 as the step answers them: nothing is changed. 4 and 5 are judged by their arms: SystemArms.
 use mathlib.Core.Path.{_≡_, refl}
 use mathlib.Core.Bool.{true, false}
 use Prim.Native.Nat.{ℕ}
@@ -11,7 +11,7 @@ use Rattle.model.specs.Step.{refusalOf, stepOf}
 use Rattle.model.specs.declared.State.{State}
 use Rattle.model.specs.declared.Reply.the-variants.{NotAdmissible, WindowRule, NoArm}
 use Rattle.model.proofs.StepByArm.{step-refused, step-inadmissible, step-unruled}
-use Rattle.instruction.specs.Whole.{Whole}
+use Rattle.instruction.specs.StepAnswer.{Whole}
 
 module _ (w : Windows) (s : State) (op x y z : ℕ) where
   pub inadmissible-step : admissible s ≡ false → Whole (stepOf w s op x y z) NotAdmissible s w

@@ -1,4 +1,5 @@
--- Laws of what an arm tells, over plain variables: a reply and the parts that code leaves, from what its callees ensure.
+-- Laws of what an arm that touches no memory tells, over plain variables: a reply and the parts that code leaves, from what its callees ensure.
+-- First PC and the halt code, then GET, PUT (with the tags of replies), SYNC. Trips and traps: Interrupts.
 use mathlib.Core.Path.{_≡_, refl, sym, ap, _∙_}
 use mathlib.Core.Bool.{true, false, cond, _||_}
 use mathlib.Core.List.{List, [], _∷_}
@@ -18,7 +19,7 @@ use Rattle.model.specs.declared.Reply.{Reply}
 use Rattle.model.specs.declared.Reply.the-variants.{Done, NoSpecial, SyncPrivileged, SyncIllegal}
 use Rattle.model.proofs.Reply.{the-type}
 use Rattle.model.proofs.Bools.{each, at-each, on}
-use Rattle.instruction.specs.Told.{getOf, Told}
+use Rattle.instruction.specs.NoMemoryArms.{getOf, Told}
 
 -- ---- PC
 

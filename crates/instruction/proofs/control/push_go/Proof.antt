@@ -1,9 +1,9 @@
 -- `push_go` meets its contract: the sum is read before the push.
 use borrow.Author.Needs.{needs}
 use Rattle.model.specs.Parts.{made, lent}
-use Rattle.instruction.proofs.Arms.{push-at}
-use Rattle.instruction.proofs.step.push_go.Statement.{statement}
-use Rattle.instruction.proofs.step.push_go.Tie as tie
+use Rattle.instruction.proofs.ControlArms.{push-at}
+use Rattle.instruction.proofs.control.push_go.Statement.{statement}
+use Rattle.instruction.proofs.control.push_go.Tie as tie
 
 sum-requires : tie.Need-sum-requires
 sum-requires c κs = search needs

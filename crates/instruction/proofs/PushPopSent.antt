@@ -1,7 +1,8 @@
--- Laws of calls and returns: the stack leaves PC as it was, and where it is done the arm sends PC on. Over plain variables.
+-- Laws of calls and returns, over plain variables: the stack leaves PC as it was, and where it is done the arm sends PC on. First the outcome of a
+-- plan with PC sent on, then PUSH, then POP. SAVE and UNSAVE: SaveUnsaveSent.
 use mathlib.Core.Path.{_≡_, refl, sym, ap, _∙_}
 use mathlib.Core.Bool.{Bool, false, cond}
-use mathlib.Core.List.{List, [], _∷_}
+use mathlib.Core.List.{List, []}
 use Prim.Native.Nat.{ℕ, _≤_}
 use native.Mathlib.Omega.{arith}
 use lib.Dec.{eqb}
@@ -28,8 +29,8 @@ use Rattle.stack.specs.GivenBack.{guardedOn, Gives}
 use Rattle.stack.specs.PushPop.{pushOf, popOf, returnTo, popNumber, popAnswer, PopGives}
 use Rattle.stack.specs.declared.frame.PopFrame.{PopFrame}
 use Rattle.stack.specs.declared.frame.PopFrame.the-variants.{Frame, NoFrame, Rejected, Missing, NotAdmissible, WindowRule}
-use Rattle.instruction.specs.Whole.{Whole}
-use Rattle.instruction.proofs.Tells.{tag-is}
+use Rattle.instruction.specs.StepAnswer.{Whole}
+use Rattle.instruction.proofs.NoMemoryReplies.{refusals, tag-is}
 
 -- ---- the stack's outcome, PC sent on
 
@@ -113,10 +114,9 @@ module _ (w : Windows) (s : State) (x target : ℕ) (r : Reply) (t : State) (v :
   pub push-done : tagOf the-type r ≡ 0 → Whole (guardedOn w s (pushFrame s (hole s x) target)) r (goes t target) v
   push-done z = sent-done s _ _ target r t v push-open (g .reply-is) (g .state-is) (g .window-is) (sym number ∙ z)
 
-  pub push-refused : OneOf (1 ∷ 2 ∷ 3 ∷ 4 ∷ 5 ∷ 6 ∷ 7 ∷ 8 ∷ 9 ∷ 10 ∷ 11 ∷ 12 ∷ 13 ∷ 14 ∷ 15 ∷ 16 ∷ 17 ∷ 18 ∷ 19 ∷ 20 ∷ []) (tagOf the-type r)
-      → Whole (guardedOn w s (pushFrame s (hole s x) target)) r t v
+  pub push-refused : OneOf refusals (tagOf the-type r) → Whole (guardedOn w s (pushFrame s (hole s x) target)) r t v
   push-refused h =
-      let z : eqb (pushOf w s x .reply) 0 ≡ false = ne-eqb _ 0 (λ q. miss (1 ∷ 2 ∷ 3 ∷ 4 ∷ 5 ∷ 6 ∷ 7 ∷ 8 ∷ 9 ∷ 10 ∷ 11 ∷ 12 ∷ 13 ∷ 14 ∷ 15 ∷ 16 ∷ 17 ∷ 18 ∷ 19 ∷ 20 ∷ []) 0 tt (rw (number ∙ q) at h)) in
+      let z : eqb (pushOf w s x .reply) 0 ≡ false = ne-eqb _ 0 (λ q. miss refusals 0 tt (rw (number ∙ q) at h)) in
       sent-not s _ _ target r t v push-open (g .reply-is) (g .state-is) (g .window-is) at-start z
 
 -- ---- POP

@@ -1,4 +1,5 @@
--- SAVE and UNSAVE over plain variables: the whole outcome, from what the stack gives and PC sent on where that is done.
+-- Laws of SAVE and UNSAVE, over plain variables: first which outcomes send PC on to @ + 4, then the whole outcome from what the stack gives, done or
+-- refused. PUSH and POP: PushPopSent.
 use mathlib.Core.Path.{_≡_, refl, sym, ap, _∙_}
 use mathlib.Core.Bool.{Bool, true, false, cond}
 use mathlib.Core.List.{List, []}
@@ -25,9 +26,9 @@ use Rattle.model.proofs.ItemInvariant.{Any}
 use Rattle.model.proofs.StepByArm.{sent, backTo, save-sent, unsave-sent}
 use Rattle.model.specs.Step.{unruledBy, guarded}
 use Rattle.stack.specs.GivenBack.{guardedOn, Gives}
-use Rattle.instruction.specs.Whole.{Whole}
-use Rattle.instruction.proofs.Sends.{unruled-most}
-use Rattle.instruction.proofs.Tells.{refusals, tag-is}
+use Rattle.instruction.specs.StepAnswer.{Whole}
+use Rattle.instruction.proofs.PushPopSent.{unruled-most}
+use Rattle.instruction.proofs.NoMemoryReplies.{refusals, tag-is}
 
 -- an outcome with one of 01's replies, and PC at @ + 4 where it is done, else as it was
 pub record Onward (o : Outcome State Windows) (s : State) : Type 0 where

@@ -1,0 +1,194 @@
+// The arms of control.rs: those that are more than a call of another file's, and the choice among them, once 1 and 2 have passed.
+ghost use mathlib.Core.Path.{_≡_};
+ghost use mathlib.Core.Bool.{true};
+ghost use mathlib.Core.List.{List};
+ghost use Prim.Native.Nat.{ℕ};
+ghost use Rattle.model.specs.Memory.{shapesOf, ruled};
+ghost use Rattle.model.specs.Registers.{admissible};
+ghost use Rattle.model.specs.NoMemory.{say};
+ghost use Rattle.model.specs.Control.{sumOf};
+ghost use Rattle.model.specs.Parts.{made, lent};
+ghost use Rattle.model.specs.Step.{stepOf};
+ghost use Rattle.instruction.specs.NoMemoryArms.{Told};
+ghost use Rattle.instruction.specs.StepAnswer.{Whole};
+ghost use Rattle.instruction.specs.Arms.{lastOf, branchOf, jumpOf, goOf, pushGoOf, pushJumpOf};
+ghost use Rattle.instruction.specs.Groups.{isBranch, isControl};
+use super::calls;
+use super::opcode;
+use super::registers;
+use super::target;
+use model::Reply;
+
+/// Whether an opcode is a branch, plain or probable.
+pub(crate) fn is_branch(op: u8) -> bool
+    ensures { λ r. ⌜ r ≡ isBranch op ⌝ }
+{
+    if op < opcode::FIRST_BRANCH {
+        return false;
+    }
+    if op <= opcode::LAST_BRANCH {
+        return true;
+    }
+    false
+}
+
+/// A branch.
+pub(crate) fn branch(general: &[u64; 256], pc: &mut u64, op: u8, x: u8, y: u8, z: u8) -> Reply
+    ensures { λ r. ⌜ ((special : List ℕ) (halt marks : ℕ) → Told
+        (say 0 (branchOf (made (now (general .entry)) special (now (pc .entry)) halt marks) op x y z))
+        r (made (now (general .entry)) special (now (pc .exit)) halt marks)) ⌝ }
+{
+    let v = general[x as usize];
+    let at = *pc;
+    if target::is_taken(op, v) {
+        *pc = target::near(at, op, y, z);
+        return Reply::Done;
+    }
+    *pc = target::following(at);
+    Reply::Done
+}
+
+/// JMP and JMPB.
+fn jump(pc: &mut u64, op: u8, x: u8, y: u8, z: u8) -> Reply
+    ensures { λ r. ⌜ ((general special : List ℕ) (halt marks : ℕ) → Told
+        (say 0 (jumpOf (made general special (now (pc .entry)) halt marks) op x y z))
+        r (made general special (now (pc .exit)) halt marks)) ⌝ }
+{
+    *pc = target::far(*pc, op, x, y, z);
+    Reply::Done
+}
+
+/// $Y + $Z for an even opcode, $Y + Z for an odd one.
+fn sum(general: &[u64; 256], op: u8, y: u8, z: u8) -> u64
+    ensures { λ r. ⌜ ((special : List ℕ) (pc halt marks : ℕ) → r
+        ≡ sumOf (made (now (general .entry)) special pc halt marks) (lastOf op) y z) ⌝ }
+{
+    let v = general[y as usize];
+    if op % 2 == 0 {
+        let last = general[z as usize];
+        return stack::pass::wrapping_add(v, last);
+    }
+    stack::pass::wrapping_add(v, z as u64)
+}
+
+/// GO and GOI.
+fn go_by(
+    general: &mut [u64; 256],
+    special: &mut [u64; 32],
+    pc: &mut u64,
+    op: u8,
+    x: u8,
+    y: u8,
+    z: u8,
+) -> Reply
+    ensures { λ r. ⌜ ((halt marks : ℕ) → Told
+        (say 0 (goOf (made (now (general .entry)) (now (special .entry)) (now (pc .entry)) halt marks) op x y z))
+        r (made (now (general .exit)) (now (special .exit)) (now (pc .exit)) halt marks)) ⌝ }
+{
+    let target = sum(general, op, y, z);
+    registers::go_to(general, special, pc, x, target);
+    Reply::Done
+}
+
+/// PUSHGO and PUSHGOI.
+fn push_go(
+    general: &mut [u64; 256],
+    special: &mut [u64; 32],
+    pc: &mut u64,
+    marks: u64,
+    window: &mut [u8],
+    base: u64,
+    op: u8,
+    x: u8,
+    y: u8,
+    z: u8,
+) -> Reply
+    ensures { λ r. ⌜ ((halt : ℕ) → Whole
+        (pushGoOf (lent base (now (window .entry)))
+        (made (now (general .entry)) (now (special .entry)) (now (pc .entry)) halt marks) op x y z)
+        r (made (now (general .exit)) (now (special .exit)) (now (pc .exit)) halt marks) (lent base (now (window .exit)))) ⌝ }
+{
+    let target = sum(general, op, y, z);
+    calls::push_to(general, special, pc, marks, window, base, x, target)
+}
+
+/// PUSHJ and PUSHJB.
+fn push_jump(
+    general: &mut [u64; 256],
+    special: &mut [u64; 32],
+    pc: &mut u64,
+    marks: u64,
+    window: &mut [u8],
+    base: u64,
+    op: u8,
+    x: u8,
+    y: u8,
+    z: u8,
+) -> Reply
+    ensures { λ r. ⌜ ((halt : ℕ) → Whole
+        (pushJumpOf (lent base (now (window .entry)))
+        (made (now (general .entry)) (now (special .entry)) (now (pc .entry)) halt marks) op x y z)
+        r (made (now (general .exit)) (now (special .exit)) (now (pc .exit)) halt marks) (lent base (now (window .exit)))) ⌝ }
+{
+    let target = target::near(*pc, op, y, z);
+    calls::push_to(general, special, pc, marks, window, base, x, target)
+}
+
+/// Whether an opcode is one of the arms that `control` chooses among.
+pub(crate) fn is_control(op: u8) -> bool
+    ensures { λ r. ⌜ r ≡ isControl op ⌝ }
+{
+    match op {
+        opcode::GO
+        | opcode::GOI
+        | opcode::PUSHGO
+        | opcode::PUSHGOI
+        | opcode::JMP
+        | opcode::JMPB
+        | opcode::PUSHJ
+        | opcode::PUSHJB
+        | opcode::GETA
+        | opcode::GETAB
+        | opcode::POP => true,
+        _ => false,
+    }
+}
+
+/// One step with one of these opcodes.
+pub(crate) fn control(
+    general: &mut [u64; 256],
+    special: &mut [u64; 32],
+    pc: &mut u64,
+    halt: &mut u64,
+    marks: u64,
+    window: &mut [u8],
+    base: u64,
+    op: u8,
+    x: u8,
+    y: u8,
+    z: u8,
+) -> Reply
+    requires { ⌜ (admissible (made (now general) (now special) (now pc) (now halt) marks) ≡ true)
+        × (ruled (shapesOf (lent base (now window))) ≡ true)
+        × (isControl op ≡ true) ⌝ }
+    ensures { λ r. ⌜ Whole
+        (stepOf (lent base (now (window .entry)))
+        (made (now (general .entry)) (now (special .entry)) (now (pc .entry)) (now (halt .entry)) marks) op x y z)
+        r (made (now (general .exit)) (now (special .exit)) (now (pc .exit)) (now (halt .exit)) marks) (lent base (now (window .exit))) ⌝ }
+{
+    match op {
+        opcode::GO | opcode::GOI => go_by(general, special, pc, op, x, y, z),
+        opcode::PUSHGO | opcode::PUSHGOI => {
+            push_go(general, special, pc, marks, window, base, op, x, y, z)
+        }
+        opcode::JMP | opcode::JMPB => jump(pc, op, x, y, z),
+        opcode::PUSHJ | opcode::PUSHJB => {
+            push_jump(general, special, pc, marks, window, base, op, x, y, z)
+        }
+        opcode::GETA | opcode::GETAB => {
+            registers::get_address(general, special, pc, op, x, y, z)
+        }
+        opcode::POP => { calls::pop_to(general, special, pc, halt, marks, window, base, x, y, z) }
+        _ => Reply::NoArm,
+    }
+}
