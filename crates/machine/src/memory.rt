@@ -55,60 +55,13 @@ pub fn run_refusal(window: &[u8], base: u64, addr: u64, n: u64) -> u64
     0
 }
 
-fn wide(b: u8) -> u64
-    ensures { λ r. ⌜ r ≡ b ⌝ }
-{
-    b as u64
-}
-
-// The four bytes from `at` up as a number.
-fn load_tetra(window: &[u8], at: usize) -> u64
-    requires { ⌜ at + 4 ≤ length (now window) ⌝ }
-    ensures { λ r. ⌜ (r ≡ valueOf 0 (part (now (window .entry)) at 4)) × (r < 4294967296) ⌝ }
-{
-    let mut v: u64 = 0;
-    for k in 0..4usize {
-        v = v * 256 + wide(window[at + k]);
-    }
-    v
-}
-
-// The eight bytes from `at` up as a number; in halves, since of one loop over eight the compiler makes no single load.
-fn load(window: &[u8], at: usize) -> u64
-    requires { ⌜ at + 8 ≤ length (now window) ⌝ }
-    ensures { λ r. ⌜ r ≡ valueOf 0 (part (now (window .entry)) at 8) ⌝ }
-{
-    let high = load_tetra(window, at);
-    let low = load_tetra(window, at + 4);
-    high * 4294967296 + low
-}
-
-// Byte j of v, the high one first.
-fn byte_of(v: u64, j: usize) -> u8
-    requires { ⌜ j < 8 ⌝ }
-    ensures { λ r. ⌜ r ≡ getD (bytesOf v) j 0 ⌝ }
-{
-    let k = 56 - 8 * (j as u64);
-    ((v >> k) % 256) as u8
-}
-
-// They become those of v.
-fn store(window: &mut [u8], at: usize, v: u64)
-    requires { ⌜ at + 8 ≤ length (now window) ⌝ }
-    ensures { λ _. ⌜ now (window .exit) ≡ written (now (window .entry)) at (bytesOf v) ⌝ }
-{
-    for k in 0..8usize {
-        window[at + k] = byte_of(v, k);
-    }
-}
-
 /// The octabyte that `addr` names, or 0 where it lies outside the window.
 pub fn read_octa(window: &[u8], base: u64, addr: u64) -> u64
     ensures { λ r. ⌜ r ≡ readOcta (lent base (now (window .entry))) addr ⌝ }
 {
     if run_refusal(window, base, addr, 1) == 0 {
         let at = distance(base, addr) as usize;
-        return load(window, at);
+        return super::octabytes::load(window, at);
     }
     0
 }
@@ -119,7 +72,7 @@ pub fn write_octa(window: &mut [u8], base: u64, addr: u64, v: u64)
 {
     if run_refusal(window, base, addr, 1) == 0 {
         let at = distance(base, addr) as usize;
-        store(window, at, v);
+        super::octabytes::store(window, at, v);
     }
 }
 

@@ -8,12 +8,11 @@ use Rattle.model.specs.Fill.{over, tab}
 use Rattle.model.specs.Memory.{Windows, shapesOf, both}
 use Rattle.model.specs.Plan.{worst, puts}
 use Rattle.model.specs.Registers.{rO, rS, rG, rL, rA}
-use Rattle.model.specs.Contexts.{extent, savedSpecial, saved, unsaved}
+use Rattle.model.specs.Contexts.{extent, savedSpecial, saved, unsaved, octasOf, packedAt}
 use Rattle.model.specs.Step.{refusing}
 use Rattle.model.specs.Parts.{made}
 use Rattle.machine.specs.Octas.{readOcta}
 use Rattle.model.specs.declared.State.{State}
-use Rattle.stack.specs.SaveUnsave.{contextOctas, packedAt}
 use Rattle.stack.specs.declared.layout.SavedContext.{SavedContext}
 
 -- what a context's size and packed octabyte rest on
@@ -31,12 +30,12 @@ pub record StoresContext (general special : List ℕ) (w v : Windows) : Type 0 w
 -- the registers that SAVE $x leaves
 unfoldable pub leftGeneral : List ℕ → List ℕ → ℕ → List ℕ
 leftGeneral general special x =
-    set (over (λ k. 0) 0 (getD special rG 0) general) x ((getD special rO 0 + 8 * packedAt (getD special rG 0) (getD special rL 0)) % 2 ^ 64)
+    set (over (λ k. 0) 0 (getD special rG 0) general) x ((getD special rO 0 + 8 * packedAt (getD special rL 0) (getD special rG 0)) % 2 ^ 64)
 
 unfoldable pub leftSpecial : List ℕ → List ℕ
 leftSpecial special =
-    set (set (set special rL 0) rO ((getD special rO 0 + 8 * contextOctas (getD special rG 0) (getD special rL 0)) % 2 ^ 64)) rS
-    ((getD special rO 0 + 8 * contextOctas (getD special rG 0) (getD special rL 0)) % 2 ^ 64)
+    set (set (set special rL 0) rO ((getD special rO 0 + 8 * octasOf (getD special rL 0) (getD special rG 0)) % 2 ^ 64)) rS
+    ((getD special rO 0 + 8 * octasOf (getD special rL 0) (getD special rG 0)) % 2 ^ 64)
 
 -- the n octabytes from address a up, as code reads them
 unfoldable pub octasFrom : Windows → ℕ → ℕ → List ℕ
@@ -44,7 +43,7 @@ octasFrom w a n = tab 0 n (λ i. readOcta w ((a + 8 * i) % 2 ^ 64))
 
 -- the state that UNSAVE makes of s by a context that was found
 abbrev pub unsavedAs : Windows → State → SavedContext → State
-unsavedAs w s c = unsaved s (c .first) (c .rg) (c .ra) (c .count) (octasFrom w (c .first) (contextOctas (c .rg) (c .count)))
+unsavedAs w s c = unsaved s (c .first) (c .rg) (c .ra) (c .count) (octasFrom w (c .first) (octasOf (c .count) (c .rg)))
 
 -- l with f k at the place of the special that is number k of the twelve, for each k below n
 unfoldable pub loaded : (ℕ → ℕ) → ℕ → List ℕ → List ℕ

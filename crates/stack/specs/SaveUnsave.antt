@@ -8,7 +8,7 @@ use lib.ListN.{length}
 use denote.Ref.{RefT, ptr, now}
 use Rattle.model.specs.Memory.{Windows, shapesOf, inside, both}
 use Rattle.model.specs.Plan.{Outcome, perform, look}
-use Rattle.model.specs.Contexts.{below, saveContext, contextAt, unsaveContext}
+use Rattle.model.specs.Contexts.{below, saveContext, contextAt, unsaveContext, packedAt, countBelow}
 use Rattle.model.specs.Step.{refusing}
 use Rattle.model.specs.Reader.{readContext, bytesIn}
 use Rattle.model.specs.Numbers.{numberOf, replyOf}
@@ -38,19 +38,8 @@ SaveGives w s x r t v = Gives (saveOf w s x) s r t v
 abbrev pub UnsaveGives : Windows → State → ℕ → Reply → State → Type 0
 UnsaveGives w s p r t = Gives (unsaveOf w s p) s r t w
 
--- a context of l locals and threshold g: how many octabytes it has, the number of its packed octabyte, and how many specials
-abbrev pub contextOctas : ℕ → ℕ → ℕ
-contextOctas g l = l + 270 - g
-
-abbrev pub packedAt : ℕ → ℕ → ℕ
-packedAt g l = l + 269 - g
-
 abbrev pub contextSpecials : ℕ
 contextSpecials = 12
-
--- where its count is, below its packed octabyte at p
-abbrev pub countBelow : ℕ → ℕ → ℕ
-countBelow p g = below p (269 - g)
 
 -- the parts of a context below its packed octabyte at p, for a threshold g and l locals
 unfoldable pub layoutAt : ℕ → ℕ → ℕ → SaveContextLayout
@@ -59,12 +48,12 @@ layoutAt p g l = record {
   «globals_base» = below p (268 - g) % 2 ^ 64;
   «global_count» = 256 - g;
   «local_count» = l;
-  «locals_base» = below p (packedAt g l) % 2 ^ 64;
+  «locals_base» = below p (packedAt l g) % 2 ^ 64;
 }
 
 -- the number of the local count below p: 6 where it is missing, 16 where it is above g, compared at full width
 unfoldable pub countReply : Windows → ℕ → ℕ → ℕ
-countReply w p g = cond (inside (shapesOf w) (countBelow p g)) (cond (leb (look both w (countBelow p g)) g) 0 16) 6
+countReply w p g = cond (inside (shapesOf w) (below p (countBelow g))) (cond (leb (look both w (below p (countBelow g))) g) 0 16) 6
 
 -- 01's number of each case
 unfoldable pub layoutNumber : Layout → ℕ
@@ -77,7 +66,7 @@ unfoldable pub layoutAnswer : ℕ → ℕ → ℕ → ℕ → Layout
 layoutAnswer p g l n = cond (eqb n 0) (layout.Found (layoutAt p g l)) (cond (eqb n 16) (layout.Excess l) (layout.Outside (replyOf n)))
 
 pub record LayoutIs (w : Windows) (p g : ℕ) (r : Layout) : Type 0 where
-  pub answer-is : r ≡ layoutAnswer p g (look both w (countBelow p g)) (countReply w p g)
+  pub answer-is : r ≡ layoutAnswer p g (look both w (below p (countBelow g))) (countReply w p g)
   pub number-is : layoutNumber r ≡ countReply w p g
 
 -- where a context is: its first local's address, rG, rA and local count; all 0 where it is refused

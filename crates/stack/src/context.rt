@@ -3,10 +3,10 @@ ghost use mathlib.Core.Path.{_≡_};
 ghost use Prim.Native.Nat.{ℕ, _+_, _-_, _*_, _%_, _^_, _≤_, _<_};
 ghost use lib.ListN.{getD};
 ghost use Rattle.model.specs.Fill.{over};
-ghost use Rattle.model.specs.Contexts.{savedSpecial, unsavedGeneral};
+ghost use Rattle.model.specs.Contexts.{savedSpecial, unsavedGeneral, octasOf, below};
 ghost use Rattle.model.specs.Parts.{made, lent};
 ghost use Rattle.machine.specs.Octas.{readOcta, writtenRun};
-ghost use Rattle.stack.specs.SaveUnsave.{SaveGives, UnsaveGives, contextOctas, contextSpecials};
+ghost use Rattle.stack.specs.SaveUnsave.{SaveGives, UnsaveGives, contextSpecials};
 ghost use Rattle.stack.specs.ContextWork.{Ranged, StoresContext, leftGeneral, leftSpecial, octasFrom, unsavedAs, loaded};
 use super::layout::AT_PACKED;
 use super::layout::AT_SPECIALS;
@@ -136,7 +136,7 @@ pub fn save_context(
 fn load_general(general: &mut [u64; 256], window: &[u8], base: u64, first: u64, rg: u64, count: u64)
     requires { ⌜ (rg ≤ 255) × (count ≤ rg) ⌝ }
     ensures { λ _. ⌜ now (general .exit)
-        ≡ over (unsavedGeneral rg count (octasFrom (lent base (now (window .entry))) first (contextOctas rg count))) 0 256 (now (general .entry)) ⌝ }
+        ≡ over (unsavedGeneral rg count (octasFrom (lent base (now (window .entry))) first (octasOf count rg))) 0 256 (now (general .entry)) ⌝ }
 {
     let globals = machine::number::wrapping_add(first, 8 * (count + 1));
     machine::memory::load_range(general, window, base, first, 0, count);
