@@ -28,23 +28,23 @@ module _ (l : List ℕ) (i : ℕ) (fits : 8 * i + 8 ≤ length l) (small : 8 * i
   unfolding offset octa
   at-offset = omega arith
 
-  inside : inside (shapesOf (lent 0 l)) (8 * i) ≡ true
+  octa-there : inside (shapesOf (lent 0 l)) (8 * i) ≡ true
   unfolding has shapeOf
-  inside =
+  octa-there =
       let h : offset 0 (8 * i) + 8 ≤ length l = omega (arith, at-offset) in
       le-leb _ _ h
 
   pub read-octabyte : readOcta (lent 0 l) (8 * i) ≡ octabyteOf l i
   unfolding readOcta octabyteOf
   read-octabyte =
-      ap (λ (t : Bool). cond t (look both (lent 0 l) (8 * i)) 0) inside
+      ap (λ (t : Bool). cond t (look both (lent 0 l) (8 * i)) 0) octa-there
       ∙ look-is (lent 0 l) (8 * i)
       ∙ ap (λ (n : ℕ). valueOf 0 (part l n 8)) at-offset
 
   pub write-octabyte : (m : List ℕ) (v : ℕ) → lent 0 m ≡ writtenOcta (lent 0 l) (8 * i) v → m ≡ written l (8 * i) (bytesOf v)
   unfolding writtenOcta writeOcta
   write-octabyte m v e =
-      ap (λ (w : Windows). w .bytes) (e ∙ ap (λ (t : Bool). cond t (putOcta (lent 0 l) (8 * i) v) (lent 0 l)) inside)
+      ap (λ (w : Windows). w .bytes) (e ∙ ap (λ (t : Bool). cond t (putOcta (lent 0 l) (8 * i) v) (lent 0 l)) octa-there)
       ∙ ap (λ (n : ℕ). written l n (bytesOf v)) at-offset
 
 -- ---- a write
