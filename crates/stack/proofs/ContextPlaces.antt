@@ -75,10 +75,10 @@ module _ (w : Windows) (p g marker : ℕ) (e : marker ≡ below p (269 - g) % 2 
     unfolding countReply layoutAnswer layoutNumber
     layout-excess l = answered 16 count (Excess count) (rw (count-there, count-read, lt-leb count g l)) count-read refl refl
 
-    pub layout-found : (sb gb lb : ℕ) → count ≤ g → sb ≡ below p 12 % 2 ^ 64 → gb ≡ below p (268 - g) % 2 ^ 64 → lb ≡ below p (count + 269 - g) % 2 ^ 64
-        → LayoutIs w p g (layout.Found (record { «specials_base» = sb; «globals_base» = gb; «global_count» = 256 - g; «local_count» = count; «locals_base» = lb }))
+    pub layout-found : (lb : ℕ) → count ≤ g → lb ≡ below p (count + 269 - g) % 2 ^ 64
+        → LayoutIs w p g (layout.Found (record { «local_count» = count; «locals_base» = lb }))
     unfolding countReply layoutAnswer layoutNumber layoutAt
-    layout-found sb gb lb l es eg el = answered 0 count _ (rw (count-there, count-read, le-leb count g l)) count-read (rw (es, eg, el)) refl
+    layout-found lb l el = answered 0 count _ (rw (count-there, count-read, le-leb count g l)) count-read (rw el) refl
 
 -- ---- the stages, for any kind of state
 

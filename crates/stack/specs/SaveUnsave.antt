@@ -44,9 +44,6 @@ contextSpecials = 12
 -- the parts of a context below its packed octabyte at p, for a threshold g and l locals
 unfoldable pub layoutAt : ℕ → ℕ → ℕ → SaveContextLayout
 layoutAt p g l = record {
-  «specials_base» = below p contextSpecials % 2 ^ 64;
-  «globals_base» = below p (268 - g) % 2 ^ 64;
-  «global_count» = 256 - g;
   «local_count» = l;
   «locals_base» = below p (packedAt l g) % 2 ^ 64;
 }

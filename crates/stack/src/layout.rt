@@ -17,11 +17,8 @@ pub(crate) const CONTEXT_OCTAS: u64 = 270;
 /// The packed octabyte is rG times this, and rA.
 pub(crate) const PACKED_RG: u64 = 0x100000000000000;
 
-/// Addresses below a saved context's packed octabyte.
+/// Below a saved context's packed octabyte: how many locals it has, and the address of the first. (The Rust's other fields serve nobody here.)
 pub struct SaveContextLayout {
-    pub specials_base: u64,
-    pub globals_base: u64,
-    pub global_count: u64,
     pub local_count: u64,
     pub locals_base: u64,
 }
@@ -68,13 +65,8 @@ pub fn save_context_layout(window: &[u8], base: u64, packed_addr: u64, rg_saved:
     if rg < count {
         return Layout::Excess(count);
     }
-    let specials_base = machine::number::wrapping_sub(packed_addr, 8 * (CONTEXT_SPECIALS as u64));
-    let globals_base = machine::number::wrapping_sub(packed_addr, 8 * (AT_PACKED - 1 - rg));
     let locals_base = machine::number::wrapping_sub(packed_addr, 8 * (count + AT_PACKED - rg));
     Layout::Found(SaveContextLayout {
-        specials_base: specials_base,
-        globals_base: globals_base,
-        global_count: 256 - rg,
         local_count: count,
         locals_base: locals_base,
     })

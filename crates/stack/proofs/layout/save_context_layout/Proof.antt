@@ -43,45 +43,24 @@ returns-2 c =
     let read = c .before in
     layout-excess _ _ _ _ (read .before .before .before .wrapping-sub .ensures) _ (inside (read .before)) (read .read-octa .ensures) (c .if2 .taken)
 
+add-wrapping-sub : tie.Need-add-wrapping-sub
+add-wrapping-sub c = search needs
+
+sub-wrapping-sub-2 : tie.Need-sub-wrapping-sub-2
+sub-wrapping-sub-2 c = search needs
+
 mul-wrapping-sub-2 : tie.Need-mul-wrapping-sub-2
 mul-wrapping-sub-2 c = search needs
 
 wrapping-sub-requires-2 : tie.Need-wrapping-sub-requires-2
 wrapping-sub-requires-2 c κs = search needs
 
-sub-wrapping-sub-2 : tie.Need-sub-wrapping-sub-2
-sub-wrapping-sub-2 c = search needs
-
-sub-wrapping-sub-3 : tie.Need-sub-wrapping-sub-3
-sub-wrapping-sub-3 c = search needs
-
-mul-wrapping-sub-3 : tie.Need-mul-wrapping-sub-3
-mul-wrapping-sub-3 c = search needs
-
-wrapping-sub-requires-3 : tie.Need-wrapping-sub-requires-3
-wrapping-sub-requires-3 c κs = search needs
-
-add-wrapping-sub : tie.Need-add-wrapping-sub
-add-wrapping-sub c = search needs
-
-sub-wrapping-sub-4 : tie.Need-sub-wrapping-sub-4
-sub-wrapping-sub-4 c = search needs
-
-mul-wrapping-sub-4 : tie.Need-mul-wrapping-sub-4
-mul-wrapping-sub-4 c = search needs
-
-wrapping-sub-requires-4 : tie.Need-wrapping-sub-requires-4
-wrapping-sub-requires-4 c κs = search needs
-
-sub-t12 : tie.Need-sub-t12
-sub-t12 c = search needs
-
 returns-3 : tie.Need-returns-3
 returns-3 c =
-    let counted = c .before .before .before in
+    let counted = c .before in
     let read = counted .before in
-    layout-found _ _ _ _ (read .before .before .before .wrapping-sub .ensures) _ (inside (read .before)) (read .read-octa .ensures) _ _ _
-    (counted .if2 .left) (c .before .before .wrapping-sub2 .ensures) (c .before .wrapping-sub3 .ensures) (c .wrapping-sub4 .ensures)
+    layout-found _ _ _ _ (read .before .before .before .wrapping-sub .ensures) _ (inside (read .before)) (read .read-octa .ensures) _
+    (counted .if2 .left) (c .wrapping-sub2 .ensures)
 
 pub save-context-layout-spec : {M : Type 1} → statement M
 save-context-layout-spec =
@@ -95,15 +74,8 @@ save-context-layout-spec =
     returns
     read-octa-requires
     returns-2
+    add-wrapping-sub
+    sub-wrapping-sub-2
     mul-wrapping-sub-2
     wrapping-sub-requires-2
-    sub-wrapping-sub-2
-    sub-wrapping-sub-3
-    mul-wrapping-sub-3
-    wrapping-sub-requires-3
-    add-wrapping-sub
-    sub-wrapping-sub-4
-    mul-wrapping-sub-4
-    wrapping-sub-requires-4
-    sub-t12
     returns-3)
