@@ -255,6 +255,6 @@ pub extern "C" fn mmix_context(
     let at = stack::reader::place_context(window, base, address);
     *start = at.start;
     *length = at.size;
-    let reply = at.reply;
-    instruction::value::number_of(reply)
+    let found = at.reply;
+    instruction::value::number_of(found)
 }
