@@ -50,6 +50,7 @@ need-gcc:
 # printed there only where the rest has passed too.
 test: need-rt need-gcc
 	@docs/check_traceability
+	@docs/check_contracts
 	@if $(MAKE) --no-print-directory -q build/ci.log; then echo 'proofs and edits: nothing has changed since they passed; make clean to repeat them'; \
 	  else $(MAKE) --no-print-directory build/ci.log; fi
 	@$(MAKE) --no-print-directory host-test scripts-test oracle-test differential

@@ -1,9 +1,7 @@
 // The octabytes of a lent window (memory.rs). Distances from the base wrap at 2^64, so a window may cross the end of memory.
 ghost use mathlib.Core.Path.{_≡_};
-ghost use Prim.Native.Nat.{ℕ, _+_, _-_, _*_, _≤_, _<_};
-ghost use lib.ListN.{length, getD};
+ghost use Prim.Native.Nat.{ℕ, _+_, _-_, _*_};
 ghost use Rattle.model.specs.Fill.{over};
-ghost use Rattle.model.specs.Octa.{part, written, valueOf, bytesOf};
 ghost use Rattle.model.specs.Memory.{shapeOf, ruled, offset};
 ghost use Rattle.model.specs.Plan.{worst};
 ghost use Rattle.model.specs.Step.{refusing};

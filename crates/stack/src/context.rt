@@ -1,9 +1,9 @@
 // Contexts in place: SAVE and UNSAVE.
 ghost use mathlib.Core.Path.{_≡_};
-ghost use Prim.Native.Nat.{ℕ, _+_, _-_, _*_, _%_, _^_, _≤_, _<_};
+ghost use Prim.Native.Nat.{ℕ, _+_, _*_, _%_, _^_, _≤_, _<_};
 ghost use lib.ListN.{getD};
 ghost use Rattle.model.specs.Fill.{over};
-ghost use Rattle.model.specs.Contexts.{savedSpecial, unsavedGeneral, octasOf, below};
+ghost use Rattle.model.specs.Contexts.{savedSpecial, unsavedGeneral, octasOf};
 ghost use Rattle.model.specs.Parts.{made, lent};
 ghost use Rattle.machine.specs.Octas.{readOcta, writtenRun};
 ghost use Rattle.stack.specs.SaveUnsave.{SaveGives, UnsaveGives, contextSpecials};

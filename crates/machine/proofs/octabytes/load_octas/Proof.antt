@@ -1,6 +1,5 @@
 -- `load_octas` meets its contract: the run is loaded where it fits.
 use mathlib.Core.Path.{refl, sym, _∙_}
-
 use borrow.Author.Needs.{needs}
 use borrow.Author.Tests.{leb-true}
 use Rattle.machine.specs.Octabytes.{loadedOctas}

@@ -1,6 +1,5 @@
 -- `store_octas` meets its contract: the run is stored where it fits.
 use mathlib.Core.Path.{refl, sym, _∙_}
-
 use borrow.Author.Needs.{needs}
 use borrow.Author.Tests.{leb-true}
 use Rattle.machine.specs.Octabytes.{storedOctas}

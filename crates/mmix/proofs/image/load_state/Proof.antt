@@ -1,6 +1,5 @@
 -- `load_state` meets its contract: each part of the state is loaded from its place.
 use native.Mathlib.Omega.{arith}
-
 use Rattle.mmix.proofs.Codec.{state-loaded}
 use borrow.Author.Needs.{needs}
 use Rattle.mmix.proofs.image.load_state.Statement.{statement}
