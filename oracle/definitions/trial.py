@@ -11,11 +11,12 @@ CRATE = os.path.join(ROOT, "crates", "model")
 WORK = os.path.join(ROOT, "target", "constants")
 KEPT = os.path.join(ROOT, "build", "constants")
 
-SIDES = ("points", "laws")
-# What all others rest on: points first.
+# Some points, all points, laws and theorems.
+SIDES = ("some", "points", "laws")
+# What all others rest on: points first, and of these some.
 GROUND = ["Registers", "Memory", "Plan", "Octa", "Fill", "NoMemory", "Lists"]
 # Points are computed some at a time, each few in a file of their own, so that only those that a change reaches are computed anew.
-FEW, CHUNKS = 5, 80
+FEW, CHUNKS, SOME = 5, 80, 9
 
 
 def read(path):
@@ -55,8 +56,8 @@ def computed(crate):
     return found
 
 
-def split_points(crate):
-    """Bench.antt as files of few points each; left whole where its form is another."""
+def split_points(crate, some):
+    """Bench.antt as files of few points each, with `some` one in nine of these; left whole where its form is another."""
     tests, bench = computed(crate), os.path.join(crate, "proofs", "Bench.antt")
     text = read(bench)
     opened = re.search(r"^unfolding (.*)$", text, re.M)
@@ -70,6 +71,8 @@ def split_points(crate):
         parts = [f"{function} (take {FEW} (drop {FEW * k} {points}))" for k in range(CHUNKS)]
         parts = parts + [f"{function} (drop {FEW * CHUNKS} {points})"] if points else [function]
         for k, part in enumerate(parts):
+            if some and k % SOME:
+                continue
             name = f"{points or function}-{k}"
             names.append(f"Part{len(names)}")
             write(os.path.join(crate, "proofs", names[-1] + ".antt"),
@@ -79,7 +82,7 @@ def split_points(crate):
 
 
 def repository(path, side):
-    """A repository of the crate alone, unchanged, with one side of its proofs: the points or the laws."""
+    """A repository of the crate alone, unchanged, with one side of its proofs: points or laws."""
     shutil.rmtree(path, ignore_errors=True)
     os.makedirs(os.path.join(path, "crates"))
     write(os.path.join(path, "crates.txt"), "model:\n")
@@ -88,13 +91,13 @@ def repository(path, side):
     root, kept = os.path.join(crate, "proofs", "Lib.antt"), []
     for line in read(root).split("\n"):
         name = line.split()[-1] if line.startswith("pub mod ") else None
-        if name and (name == "Bench") != (side == "points"):
+        if name and (name == "Bench") == (side == "laws"):
             os.remove(os.path.join(crate, "proofs", name + ".antt"))
         else:
             kept.append(line)
     write(root, "\n".join(kept))
-    if side == "points":
-        split_points(crate)
+    if side != "laws":
+        split_points(crate, side == "some")
 
 
 def prepared():
@@ -123,7 +126,7 @@ class Trial:
             repository(os.path.join(self.path, side), side)
 
     def tried(self, change, from_nothing):
-        for side in SIDES if change.file in GROUND else reversed(SIDES):
+        for side in SIDES if change.file in GROUND else ("laws", "points"):
             verdict = self.on(side, change, from_nothing)
             if verdict != "accepted":
                 break
