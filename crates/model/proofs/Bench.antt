@@ -14,16 +14,17 @@ use Rattle.model.specs.Frames.{hole, framed, slid, slide, pushedRule, pu
 use Rattle.model.specs.Contexts.{savedSpecial, saved, savedUnspilled, savedState, saveContext, unsavedGeneral, unsavedSpecial, unsavedUnspilled, unsaved, contextRest, contextCount, contextAt, unsaveContext}
 use Rattle.model.specs.System.{putRefusal, putState, putSpecial, got, gotRule, syncOf}
 use Rattle.model.specs.Trips.{interrupted, tripRule, tripTo, trapRule, trapOf, leftmost, added, exactUnderflow, addedRule, withAdded, raised}
+use Rattle.model.specs.Reader.{partAt, readContext}
 use Rattle.model.specs.Lists.{stepOn, runs}
 use Rattle.model.specs.Step.{refusalOf, unruledBy, judged, refusing, planOf, guarded, fromThree, stepPlan, stepOf, exceptionOf, itemPlan, mmix}
-use Rattle.model.specs.Rules.{readRule, pushRule, belowTop, poppedRule, popHoleRule, popAnyRule, unsavedGeneralRule, unsavedSpecialRule, unsavedRule, unsaveRestRule, unsaveCountRule, unsaveRule, ruleOf, stepRule, withAddedRule, raisedRule, exceptionRule}
+use Rattle.model.specs.Rules.{readRule, pushRule, belowTop, poppedRule, popHoleRule, popAnyRule, unsavedGeneralRule, unsavedSpecialRule, unsavedRule, unsaveRestRule, unsaveCountRule, unsaveRule, ruleOf, stepRule, withAddedRule, raisedRule, exceptionRule, counted}
 use Rattle.model.specs.Bench.{start, shows, met, allMet, points, PointsMet}
-use Rattle.model.specs.Points.{ruledShapes, morePoints, MorePointsMet}
-use Rattle.model.specs.DepartureExamples.{shown, allShown, shownException, allShownExceptions, examples, exceptionExamples, ExamplesShown}
+use Rattle.model.specs.Points.{ruledShapes, numbered, freshIs, readerPoints, morePoints, MorePointsMet}
+use Rattle.model.specs.DepartureExamples.{shown, allShown, shownException, allShownExceptions, examples, exceptionExamples, cutExamples, countExample, ExamplesShown}
 
 computed : PointsMet × MorePointsMet × ExamplesShown
-unfolding leadingZeros over indexed within tab octa part written valueOf bytesOf admissible fresh goes halted withSpecial cleared claimLocal stored setRegister putLocals putGlobals spilled shapeOf ruled offset has octaBytes writeOcta one worst named look looks puts perform conditionOf armOf tell targetOf holds hole framed slid slide pushedRule pushed pushFrame countOf lastOutput restored unslide popped popTo popRule noFrame misplaced popFrame savedSpecial saved savedUnspilled savedState saveContext unsavedGeneral unsavedSpecial unsavedUnspilled unsaved contextRest contextCount contextAt unsaveContext putRefusal putState putSpecial got syncOf interrupted tripRule tripTo trapOf added withAdded raised stepOn runs refusalOf unruledBy judged refusing planOf guarded fromThree stepPlan exceptionOf itemPlan mmix start shows met allMet points framedRule gotRule trapRule leftmost exactUnderflow addedRule mapPlan stepOf readRule pushRule belowTop poppedRule popHoleRule popAnyRule unsavedGeneralRule unsavedSpecialRule unsavedRule unsaveRestRule unsaveCountRule unsaveRule ruleOf stepRule withAddedRule raisedRule exceptionRule ruledShapes morePoints shown allShown shownException allShownExceptions examples exceptionExamples
-computed = (refl, (refl, refl), (refl, refl))
+unfolding leadingZeros over indexed within tab octa part written valueOf bytesOf admissible fresh goes halted withSpecial cleared claimLocal stored setRegister putLocals putGlobals spilled shapeOf ruled offset has octaBytes writeOcta one worst named look looks puts perform conditionOf armOf tell targetOf holds hole framed slid slide pushedRule pushed pushFrame countOf lastOutput restored unslide popped popTo popRule noFrame misplaced popFrame savedSpecial saved savedUnspilled savedState saveContext unsavedGeneral unsavedSpecial unsavedUnspilled unsaved contextRest contextCount contextAt unsaveContext putRefusal putState putSpecial got syncOf interrupted tripRule tripTo trapOf added withAdded raised stepOn runs refusalOf unruledBy judged refusing planOf guarded fromThree stepPlan exceptionOf itemPlan mmix start shows met allMet points framedRule gotRule trapRule leftmost exactUnderflow addedRule mapPlan stepOf readRule pushRule belowTop poppedRule popHoleRule popAnyRule unsavedGeneralRule unsavedSpecialRule unsavedRule unsaveRestRule unsaveCountRule unsaveRule ruleOf stepRule withAddedRule raisedRule exceptionRule ruledShapes numbered freshIs readerPoints partAt readContext morePoints shown allShown shownException allShownExceptions examples exceptionExamples cutExamples countExample counted
+computed = (refl, (refl, refl, refl, refl, refl), (refl, refl, refl, refl))
 
 pub points-met : PointsMet
 points-met = computed .0

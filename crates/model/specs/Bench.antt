@@ -22,7 +22,7 @@ pub record Point : Type 0 where
 
 -- ---- what it is to be met
 
-abbrev sameList : List ℕ → List ℕ → Bool
+abbrev pub sameList : List ℕ → List ℕ → Bool
 sameList [] [] = true
 sameList [] (y ∷ ys) = false
 sameList (x ∷ xs) [] = false

@@ -5,12 +5,12 @@ use mathlib.Core.Bool.{Bool, true, false, _&&_}
 use mathlib.Core.List.{List, [], _∷_, _++_}
 use lib.Dec.{eqb}
 use lib.ListN.{replicate}
-use Rattle.model.specs.Registers.{rJ, rO, rS, rT, rK, rG, rL, rA, rW, rX, rWW, rXX, stackStart, sp, fresh, goes, halted, withSpecial, stored}
+use Rattle.model.specs.Registers.{rJ, rO, rS, rT, rK, rG, rL, rA, rW, rX, rWW, rXX, stackStart, sp, fresh, goes, halted, withSpecial, stored, rC, rI, rU}
 use Rattle.model.specs.Memory.{Windows, putOcta}
 use Rattle.model.specs.Plan.{Outcome}
 use Rattle.model.specs.NoMemory.{Said}
 use Rattle.model.specs.Step.{stepOf, exceptionOf}
-use Rattle.model.specs.Rules.{After, goesOn, interrupts, stepRule, exceptionRule}
+use Rattle.model.specs.Rules.{After, goesOn, interrupts, unsavedGeneralRule, unsavedSpecialRule, stepRule, exceptionRule, counted}
 use Rattle.model.specs.Bench.{start, sameState, sameWindow}
 use Rattle.model.specs.declared.State.{State}
 
@@ -260,5 +260,23 @@ exceptionExamples =
       knuth = goes (tripRegisters (withSpecial fresh rA 0x8000) 0) 0x10;
     } ∷ []
 
+-- Knuth's UNSAVE with more locals than rG, two where rG is 1, and with fewer: rL is cut to rG, and globals follow all that was saved
+abbrev saves : List ℕ
+saves = 10 ∷ 11 ∷ 12 ∷ 13 ∷ []
+
+unfoldable pub cutExamples : Bool
+cutExamples =
+    eqb (unsavedGeneralRule 1 2 saves 0) 10 && (eqb (unsavedGeneralRule 1 2 saves 1) 13 && (eqb (unsavedGeneralRule 3 1 saves 0) 10
+    && (eqb (unsavedGeneralRule 3 1 saves 1) 0 && (eqb (unsavedGeneralRule 3 1 saves 2) 0 && (eqb (unsavedGeneralRule 3 1 saves 3) 12
+    && (eqb (unsavedSpecialRule start 0 1 0 2 saves rL) 1 && (eqb (unsavedSpecialRule start 0 3 0 2 saves rL) 2
+    && eqb (unsavedSpecialRule start 7 3 5 2 saves rA) 5)))))))
+
+-- the counters wrap: a cycle, a use and an interval of 2^64 + 1 where rC and rU are at their last value and rI is 0
+unfoldable pub countExample : Bool
+countExample = sameState
+    (counted 1 1 (2 ^ 64 + 1) (withSpecial (withSpecial start rC 0xFFFFFFFFFFFFFFFF) rU 0xFFFFFFFFFFFFFFFF))
+    (withSpecial start rI 0xFFFFFFFFFFFFFFFF)
+    && sameState (counted 3 5 7 start) (withSpecial (withSpecial (withSpecial start rC 3) rU 5) rI 0xFFFFFFFFFFFFFFF9)
+
 abbrev pub ExamplesShown : Type 0
-ExamplesShown = (allShown examples ≡ true) × (allShownExceptions exceptionExamples ≡ true)
+ExamplesShown = (allShown examples ≡ true) × (allShownExceptions exceptionExamples ≡ true) × (cutExamples ≡ true) × (countExample ≡ true)

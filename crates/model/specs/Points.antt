@@ -4,11 +4,14 @@ use Prim.Native.Nat.{ℕ, _+_, _-_, _*_, _^_}
 use mathlib.Core.Path.{_≡_}
 use mathlib.Core.Bool.{Bool, true, false, cond, not, _&&_}
 use mathlib.Core.List.{List, [], _∷_, _++_}
+use lib.Dec.{eqb}
 use lib.ListN.{replicate}
-use Rattle.model.specs.Memory.{Windows, Shapes, ruled}
-use Rattle.model.specs.Registers.{rJ, rBB, rO, rS, rG, rL, rA, rB, rW, rX, rY, rZ, rWW, rXX, rYY, rZZ, stackStart, fresh, goes, halted, withSpecial, stored}
+use Rattle.model.specs.Fill.{tab}
+use Rattle.model.specs.Memory.{Windows, Shapes, ruled, putOcta}
+use Rattle.model.specs.Registers.{rB, rD, rE, rH, rJ, rM, rR, rBB, rC, rN, rO, rS, rI, rT, rTT, rK, rQ, rU, rV, rG, rL, rA, rF, rP, rW, rX, rY, rZ, rWW, rXX, rYY, rZZ, stackStart, fresh, goes, halted, withSpecial, stored}
 use Rattle.model.specs.Step.{Item, step, exception}
-use Rattle.model.specs.Bench.{Point, allMet, start}
+use Rattle.model.specs.Reader.{readContext}
+use Rattle.model.specs.Bench.{Point, allMet, start, sameList, sameState}
 use Rattle.model.specs.declared.State.{State}
 
 -- ---- on no memory
@@ -246,10 +249,43 @@ ruledShapes =
     ruled (shape 0 65536) && (ruled (shape (2 ^ 64 - 8) 8) && (ruled (shape 8 0)
     && (not (ruled (shape 0 65544)) && (not (ruled (shape 0 4)) && (not (ruled (shape 4 8)) && (not (ruled (shape (2 ^ 64) 8)) && not (ruled (shape 1 0))))))))
 
+-- ---- the special registers' numbers, and the fresh state's, one by one
+
+unfoldable pub numbered : Bool
+numbered = sameList
+    (rB ∷ rD ∷ rE ∷ rH ∷ rJ ∷ rM ∷ rR ∷ rBB ∷ rC ∷ rN ∷ rO ∷ rS ∷ rI ∷ rT ∷ rTT ∷ rK
+    ∷ rQ ∷ rU ∷ rV ∷ rG ∷ rL ∷ rA ∷ rF ∷ rP ∷ rW ∷ rX ∷ rY ∷ rZ ∷ rWW ∷ rXX ∷ rYY ∷ rZZ ∷ [])
+    (tab 0 32 (λ k. k))
+
+unfoldable pub freshIs : Bool
+freshIs = sameState fresh (record {
+  general = replicate 256 0;
+  special = 0 ∷ 0 ∷ 0 ∷ 0 ∷ 0 ∷ 0 ∷ 0 ∷ 0 ∷ 0 ∷ 2009 ∷ 0x6000000000000000 ∷ 0x6000000000000000 ∷ 0
+      ∷ 0x8000000500000000 ∷ 0x8000000600000000 ∷ 0xFFFFFFFFFFFFFFFF ∷ 0 ∷ 0 ∷ 0x369C200400000000 ∷ 32
+      ∷ 0 ∷ 0 ∷ 0 ∷ 0 ∷ 0 ∷ 0 ∷ 0 ∷ 0 ∷ 0 ∷ 0 ∷ 0 ∷ 0 ∷ [];
+  pc = 0;
+  halt = 0;
+  marks = 0;
+})
+
+-- ---- the reader: a context of 15 octabytes, rG 255, in a window of 17; none in an empty window, and in one that breaks its rule
+
+abbrev contextual : Windows
+contextual = putOcta (record { base = stackStart; bytes = replicate 136 0 }) (stackStart + 120) (255 * 2 ^ 56)
+
+abbrev reads : Windows → ℕ → ℕ → ℕ → ℕ → Bool
+reads w p r o n =
+    eqb (readContext w p .reply) r && (eqb (readContext w p .state .start) o && eqb (readContext w p .state .size) n)
+
+unfoldable pub readerPoints : Bool
+readerPoints =
+    reads contextual (stackStart + 120) 0 8 120
+    && (reads contextual (stackStart + 128) 14 0 0 && (reads nowhere stackStart 6 0 0 && reads (record { base = 4; bytes = [] }) 0 2 0 0))
+
 unfoldable pub morePoints : List Point
 morePoints =
     tripMarks ++ (markPoints 0 ++ (markPoints 1 ++ (markPoints 2 ++ (markPoints 3 ++ (markPoints 4 ++ (markPoints 5 ++ (markPoints 6 ++ (markPoints 7
     ++ (trapPoints ++ (interruptPoints ++ (marginalPoint ∷ (branchPoints ++ (controlPoints ++ (callPoints ++ (popPoints ++ (enablePoints ++ (noArmPoints ++ (putPoints ++ admissiblePoints))))))))))))))))))
 
 abbrev pub MorePointsMet : Type 0
-MorePointsMet = (allMet morePoints ≡ true) × (ruledShapes ≡ true)
+MorePointsMet = (allMet morePoints ≡ true) × (ruledShapes ≡ true) × (numbered ≡ true) × (freshIs ≡ true) × (readerPoints ≡ true)

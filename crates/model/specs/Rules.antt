@@ -5,12 +5,11 @@ use Prim.Native.Nat.{ℕ, _+_, _-_, _*_, _/_, _%_, _^_, min}
 use mathlib.Core.Bool.{cond, _&&_}
 use mathlib.Core.List.{List, []}
 use lib.Dec.{leb, ltb, eqb}
-use lib.Bits.{bitOr}
 use lib.Count.{leadingZeros}
 use lib.ListN.{getD}
 use Rattle.model.specs.Fill.{over, tab}
 use Rattle.model.specs.Octa.{octa}
-use Rattle.model.specs.Registers.{withParts, rJ, rC, rO, rI, rU, rG, rL, rA, sp, reg, following, admissible, goes, next, withSpecial, isMarginal, setRegister, spilled}
+use Rattle.model.specs.Registers.{withParts, rJ, rC, rO, rI, rU, rG, rL, sp, reg, following, admissible, goes, next, withSpecial, isMarginal, setRegister, spilled}
 use Rattle.model.specs.Memory.{Windows, shapesOf, both}
 use Rattle.model.specs.Plan.{Plan, answer, read, Outcome, mapPlan, perform}
 use Rattle.model.specs.Opcodes.{Operand, register, immediate, Arm, branch, jump, getAddress, go, pushJump, pushGo, pop, put, get, save, unsave, sync, swym, trip, trap, none, armOf}
@@ -19,7 +18,7 @@ use Rattle.model.specs.Control.{near, far, yzOf, xyzOf, holds}
 use Rattle.model.specs.Frames.{hole, framedRule, pushedRule, unslide}
 use Rattle.model.specs.Contexts.{extent, saved, savedState, below, unsavedSpecial, packedAt, octasOf, countBelow}
 use Rattle.model.specs.System.{putRefusal, putState, gotRule}
-use Rattle.model.specs.Trips.{wordOf, tripRule, trapRule, enabled, addedRule}
+use Rattle.model.specs.Trips.{wordOf, tripRule, trapRule, enabled, addedRule, flagged}
 use Rattle.model.specs.Step.{refusing, guarded}
 use Rattle.model.specs.declared.State.{State}
 
@@ -156,7 +155,7 @@ settledRule w s op x y z =
 -- ---- exceptions: "every exception but the taken one is added", and the trip is taken whatever is at the vector
 
 unfoldable pub withAddedRule : State → ℕ → State
-withAddedRule s f = withSpecial s rA (bitOr (sp s rA) (addedRule s f))
+withAddedRule s f = flagged s (addedRule s f)
 
 unfoldable pub raisedRule : State → ℕ → ℕ → ℕ → ℕ → State
 raisedRule s f word u v =

@@ -73,8 +73,12 @@ exactUnderflow s f = eqb (f / 4 % 2) 1 && (eqb (f % 2) 0 && eqb (enables s / 4 %
 unfoldable pub addedRule : State → ℕ → ℕ
 addedRule s f = bitAnd (cond (exactUnderflow s f) (f % 256 - 4) (f % 256)) (255 - leftmost (enabled s f))
 
+-- rA with more flags
+abbrev pub flagged : State → ℕ → State
+flagged s n = withSpecial s rA (bitOr (sp s rA) n)
+
 unfoldable pub withAdded : State → ℕ → State
-withAdded s f = withSpecial s rA (bitOr (sp s rA) (added s f))
+withAdded s f = flagged s (added s f)
 
 -- "The taken exception is the leftmost enabled one, its vector 16 × (leading zeros + 1)"; "With none taken, PC is @ + 4"
 unfoldable pub raised : State → ℕ → ℕ → ℕ → ℕ → Said
