@@ -1,11 +1,10 @@
--- Which arm the opcodes of a range have; and that an opcode in no range that is no key of the code's matches has none, below JMP and from JMP on.
+-- Which arm the opcodes of a range have; and that an opcode in no range that is no key of the code's match has none.
 use mathlib.Core.Path.{_≡_, refl, sym, _∙_}
 use mathlib.Core.Bool.{Bool, true, false, _||_}
 use mathlib.Core.List.{List, [], _∷_}
-use Prim.Native.Nat.{ℕ, _≤_, _<_}
-use native.Mathlib.Omega.{arith}
-use lib.Dec.{ltb, leb, eqb}
-use borrow.Author.Tests.{ltb-true, leb-true, eqb-true, lt-leb, le-leb, ne-eqb}
+use Prim.Native.Nat.{ℕ}
+use lib.Dec.{eqb}
+use borrow.Author.Tests.{eqb-true, ne-eqb}
 use mir.Val.{hasKey}
 use Rattle.model.specs.Opcodes.{opTRAP, opGO, opGOI, opPUSHGO, opPUSHGOI, opJMP, opJMPB, opPUSHJ, opPUSHJB, opGETA, opGETAB}
 use Rattle.model.specs.Opcodes.{opPUT, opPUTI, opPOP, opSAVE, opUNSAVE, opSYNC, opSWYM, opGET, opTRIP, branch, none, wayOf, conditionOf, armOf}
@@ -30,35 +29,16 @@ missed-after N (k ∷ ks) op m = let r = missed-after (N × (op ≡ k → ⊥)) 
 missed : (ks : List ℕ) (op : ℕ) → Missed ks op → (n : ℕ) → hasKey ks n ≡ true → eqb op n ≡ false
 missed ks op m = missed-after (Unit {0}) ks op m .1
 
--- the keys in code, in their order: those of `below_jump`, those of `dispatch`
-abbrev keysBelow : List ℕ
-keysBelow = opTRAP ∷ opGO ∷ opGOI ∷ opPUSHGO ∷ opPUSHGOI ∷ []
-
-abbrev keysFrom : List ℕ
-keysFrom = opJMP ∷ opJMPB ∷ opPUSHJ ∷ opPUSHJB ∷ opGETA ∷ opGETAB ∷ opPUT ∷ opPUTI ∷ opPOP
-    ∷ opSAVE ∷ opUNSAVE ∷ opSYNC ∷ opSWYM ∷ opGET ∷ opTRIP ∷ []
+-- the keys in code, in their order
+abbrev keys : List ℕ
+keys = opTRAP ∷ opGO ∷ opGOI ∷ opPUSHGO ∷ opPUSHGOI ∷ opJMP ∷ opJMPB ∷ opPUSHJ ∷ opPUSHJB ∷ opGETA ∷ opGETAB
+    ∷ opPUT ∷ opPUTI ∷ opPOP ∷ opSAVE ∷ opUNSAVE ∷ opSYNC ∷ opSWYM ∷ opGET ∷ opTRIP ∷ []
 
 module _ (op : ℕ) where
   pub branch-arm : isBranch op ≡ true → armOf op ≡ branch (conditionOf op) (wayOf op)
   unfolding armOf
   branch-arm h = rw h
 
-  pub no-arm-below : op < opJMP → isBranch op ≡ false → Missed keysBelow op → armOf op ≡ none
+  pub no-arm : isBranch op ≡ false → Missed keys op → armOf op ≡ none
   unfolding armOf
-  no-arm-below l b m = simp (b, missed keysBelow op m, other)
-    where
-      other : (n : ℕ) → leb opJMP n ≡ true → eqb op n ≡ false
-      other n h = ne-eqb op n (λ e. omega (arith, leb-true opJMP n h))
-
-  pub no-arm-from : opJMP ≤ op → Missed keysFrom op → armOf op ≡ none
-  unfolding armOf
-  no-arm-from l m = simp (past, short, missed keysFrom op m, other)
-    where
-      past : (n : ℕ) → ltb n opJMP ≡ true → leb n op ≡ true
-      past n h = le-leb n op (omega (arith, ltb-true n opJMP h))
-
-      short : (n : ℕ) → ltb n opJMP ≡ true → leb op n ≡ false
-      short n h = lt-leb op n (omega (arith, ltb-true n opJMP h))
-
-      other : (n : ℕ) → ltb n opJMP ≡ true → eqb op n ≡ false
-      other n h = ne-eqb op n (λ e. omega (arith, ltb-true n opJMP h))
+  no-arm b m = simp (b, missed keys op m)

@@ -1,10 +1,8 @@
 // One step in place: the judging of 1 and 2, then the choice by opcode. The arms are in the other files.
 ghost use mathlib.Core.Path.{_≡_};
 ghost use mathlib.Core.Bool.{true};
-ghost use Prim.Native.Nat.{_<_};
 ghost use Rattle.model.specs.Memory.{shapesOf, ruled};
 ghost use Rattle.model.specs.Registers.{admissible};
-ghost use Rattle.model.specs.Opcodes.{opJMP};
 ghost use Rattle.model.specs.Parts.{made, lent};
 ghost use Rattle.model.specs.Step.{stepOf};
 ghost use Rattle.instruction.specs.StepAnswer.{Whole};
@@ -17,42 +15,7 @@ use super::registers;
 use super::system;
 use model::Reply;
 
-/// The arm of an opcode below JMP, or 3: a question for each range, then the opcodes that stand alone.
-fn below_jump(
-    general: &mut [u64; 256],
-    special: &mut [u64; 32],
-    pc: &mut u64,
-    halt: &mut u64,
-    marks: u64,
-    window: &mut [u8],
-    base: u64,
-    op: u8,
-    x: u8,
-    y: u8,
-    z: u8,
-) -> Reply
-    requires { ⌜ (admissible (made (now general) (now special) (now pc) (now halt) marks) ≡ true)
-        × (ruled (shapesOf (lent base (now window))) ≡ true)
-        × (op < opJMP) ⌝ }
-    ensures { λ r. ⌜ Whole
-        (stepOf (lent base (now (window .entry)))
-        (made (now (general .entry)) (now (special .entry)) (now (pc .entry)) (now (halt .entry)) marks) op x y z)
-        r (made (now (general .exit)) (now (special .exit)) (now (pc .exit)) (now (halt .exit)) marks) (lent base (now (window .exit))) ⌝ }
-{
-    if control::is_branch(op) {
-        return control::branch(general, pc, op, x, y, z);
-    }
-    match op {
-        opcode::TRAP => exceptions::trap_arm(general, special, *pc, halt, op, x, y, z),
-        opcode::GO => control::go_by(general, special, pc, op, x, y, z),
-        opcode::GOI => control::go_by(general, special, pc, op, x, y, z),
-        opcode::PUSHGO => control::push_go(general, special, pc, marks, window, base, op, x, y, z),
-        opcode::PUSHGOI => control::push_go(general, special, pc, marks, window, base, op, x, y, z),
-        _ => Reply::NoArm,
-    }
-}
-
-/// The arm, or 3, once 1 and 2 have passed. Each opcode is a key by itself, so that the choice is one jump.
+/// The arm, or 3, once 1 and 2 have passed. Each opcode of the match is a key by itself, so that the choice is a jump and no chain of tests.
 fn dispatch(
     general: &mut [u64; 256],
     special: &mut [u64; 32],
@@ -73,10 +36,15 @@ fn dispatch(
         (made (now (general .entry)) (now (special .entry)) (now (pc .entry)) (now (halt .entry)) marks) op x y z)
         r (made (now (general .exit)) (now (special .exit)) (now (pc .exit)) (now (halt .exit)) marks) (lent base (now (window .exit))) ⌝ }
 {
-    if op < opcode::JMP {
-        return below_jump(general, special, pc, halt, marks, window, base, op, x, y, z);
+    if control::is_branch(op) {
+        return control::branch(general, pc, op, x, y, z);
     }
     match op {
+        opcode::TRAP => exceptions::trap_arm(general, special, *pc, halt, op, x, y, z),
+        opcode::GO => control::go_by(general, special, pc, op, x, y, z),
+        opcode::GOI => control::go_by(general, special, pc, op, x, y, z),
+        opcode::PUSHGO => control::push_go(general, special, pc, marks, window, base, op, x, y, z),
+        opcode::PUSHGOI => control::push_go(general, special, pc, marks, window, base, op, x, y, z),
         opcode::JMP => control::jump(pc, op, x, y, z),
         opcode::JMPB => control::jump(pc, op, x, y, z),
         opcode::PUSHJ => control::push_jump(general, special, pc, marks, window, base, op, x, y, z),
