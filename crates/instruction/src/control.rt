@@ -1,18 +1,14 @@
-// The arms of control.rs: those that are more than a call of another file's, and the choice among them, once 1 and 2 have passed.
+// The arms of control.rs that are more than a call of another file's; the question for the branches.
 ghost use mathlib.Core.Path.{_≡_};
-ghost use mathlib.Core.Bool.{true};
 ghost use mathlib.Core.List.{List};
 ghost use Prim.Native.Nat.{ℕ};
-ghost use Rattle.model.specs.Memory.{shapesOf, ruled};
-ghost use Rattle.model.specs.Registers.{admissible};
 ghost use Rattle.model.specs.NoMemory.{say};
 ghost use Rattle.model.specs.Control.{sumOf};
 ghost use Rattle.model.specs.Parts.{made, lent};
-ghost use Rattle.model.specs.Step.{stepOf};
 ghost use Rattle.instruction.specs.NoMemoryArms.{Told};
 ghost use Rattle.instruction.specs.StepAnswer.{Whole};
 ghost use Rattle.instruction.specs.Arms.{lastOf, branchOf, jumpOf, goOf, pushGoOf, pushJumpOf};
-ghost use Rattle.instruction.specs.Groups.{isBranch, isControl};
+ghost use Rattle.instruction.specs.Groups.{isBranch};
 use super::calls;
 use super::opcode;
 use super::registers;
@@ -49,7 +45,7 @@ pub(crate) fn branch(general: &[u64; 256], pc: &mut u64, op: u8, x: u8, y: u8, z
 }
 
 /// JMP and JMPB.
-fn jump(pc: &mut u64, op: u8, x: u8, y: u8, z: u8) -> Reply
+pub(crate) fn jump(pc: &mut u64, op: u8, x: u8, y: u8, z: u8) -> Reply
     ensures { λ r. ⌜ ((general special : List ℕ) (halt marks : ℕ) → Told
         (say 0 (jumpOf (made general special (now (pc .entry)) halt marks) op x y z))
         r (made general special (now (pc .exit)) halt marks)) ⌝ }
@@ -72,7 +68,7 @@ fn sum(general: &[u64; 256], op: u8, y: u8, z: u8) -> u64
 }
 
 /// GO and GOI.
-fn go_by(
+pub(crate) fn go_by(
     general: &mut [u64; 256],
     special: &mut [u64; 32],
     pc: &mut u64,
@@ -91,7 +87,7 @@ fn go_by(
 }
 
 /// PUSHGO and PUSHGOI.
-fn push_go(
+pub(crate) fn push_go(
     general: &mut [u64; 256],
     special: &mut [u64; 32],
     pc: &mut u64,
@@ -113,7 +109,7 @@ fn push_go(
 }
 
 /// PUSHJ and PUSHJB.
-fn push_jump(
+pub(crate) fn push_jump(
     general: &mut [u64; 256],
     special: &mut [u64; 32],
     pc: &mut u64,
@@ -132,63 +128,4 @@ fn push_jump(
 {
     let target = target::near(*pc, op, y, z);
     calls::push_to(general, special, pc, marks, window, base, x, target)
-}
-
-/// Whether an opcode is one of the arms that `control` chooses among.
-pub(crate) fn is_control(op: u8) -> bool
-    ensures { λ r. ⌜ r ≡ isControl op ⌝ }
-{
-    match op {
-        opcode::GO
-        | opcode::GOI
-        | opcode::PUSHGO
-        | opcode::PUSHGOI
-        | opcode::JMP
-        | opcode::JMPB
-        | opcode::PUSHJ
-        | opcode::PUSHJB
-        | opcode::GETA
-        | opcode::GETAB
-        | opcode::POP => true,
-        _ => false,
-    }
-}
-
-/// One step with one of these opcodes.
-pub(crate) fn control(
-    general: &mut [u64; 256],
-    special: &mut [u64; 32],
-    pc: &mut u64,
-    halt: &mut u64,
-    marks: u64,
-    window: &mut [u8],
-    base: u64,
-    op: u8,
-    x: u8,
-    y: u8,
-    z: u8,
-) -> Reply
-    requires { ⌜ (admissible (made (now general) (now special) (now pc) (now halt) marks) ≡ true)
-        × (ruled (shapesOf (lent base (now window))) ≡ true)
-        × (isControl op ≡ true) ⌝ }
-    ensures { λ r. ⌜ Whole
-        (stepOf (lent base (now (window .entry)))
-        (made (now (general .entry)) (now (special .entry)) (now (pc .entry)) (now (halt .entry)) marks) op x y z)
-        r (made (now (general .exit)) (now (special .exit)) (now (pc .exit)) (now (halt .exit)) marks) (lent base (now (window .exit))) ⌝ }
-{
-    match op {
-        opcode::GO | opcode::GOI => go_by(general, special, pc, op, x, y, z),
-        opcode::PUSHGO | opcode::PUSHGOI => {
-            push_go(general, special, pc, marks, window, base, op, x, y, z)
-        }
-        opcode::JMP | opcode::JMPB => jump(pc, op, x, y, z),
-        opcode::PUSHJ | opcode::PUSHJB => {
-            push_jump(general, special, pc, marks, window, base, op, x, y, z)
-        }
-        opcode::GETA | opcode::GETAB => {
-            registers::get_address(general, special, pc, op, x, y, z)
-        }
-        opcode::POP => { calls::pop_to(general, special, pc, halt, marks, window, base, x, y, z) }
-        _ => Reply::NoArm,
-    }
 }

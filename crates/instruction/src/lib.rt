@@ -1,7 +1,7 @@
 //! The instruction layer, over the stack's contracts alone; all of it works in place on lent registers, but for `value`.
 //!
-//! - `step`: one step; 1 and 2 judged, then the choice among the groups of opcodes
-//! - `control`, `system`: the choice within a group, as control.rs and system.rs have it
+//! - `step`: one step; 1 and 2 judged, then the choice by opcode
+//! - `control`, `system`: the arms of control.rs and system.rs that are more than a call of another file's
 //! - `opcode`: the opcodes by name
 //! - `target`: addresses and conditions
 //! - `registers`: the arms that move nothing but registers

@@ -1,4 +1,4 @@
-// One step in place: the judging of 1 and 2, then the choice among the groups of opcodes.
+// One step in place: the judging of 1 and 2, then the choice by opcode. The arms are in the other files.
 ghost use mathlib.Core.Path.{_≡_};
 ghost use mathlib.Core.Bool.{true};
 ghost use Rattle.model.specs.Memory.{shapesOf, ruled};
@@ -6,11 +6,16 @@ ghost use Rattle.model.specs.Registers.{admissible};
 ghost use Rattle.model.specs.Parts.{made, lent};
 ghost use Rattle.model.specs.Step.{stepOf};
 ghost use Rattle.instruction.specs.StepAnswer.{Whole};
+use super::calls;
+use super::contexts;
 use super::control;
+use super::exceptions;
+use super::opcode;
+use super::registers;
 use super::system;
 use model::Reply;
 
-/// The arm, or 3, once 1 and 2 have passed: each group knows its own opcodes.
+/// The arm, or 3, once 1 and 2 have passed. Each opcode of the match is a key by itself, so that the choice is a jump and no chain of tests.
 fn dispatch(
     general: &mut [u64; 256],
     special: &mut [u64; 32],
@@ -34,13 +39,33 @@ fn dispatch(
     if control::is_branch(op) {
         return control::branch(general, pc, op, x, y, z);
     }
-    if control::is_control(op) {
-        return control::control(general, special, pc, halt, marks, window, base, op, x, y, z);
+    match op {
+        opcode::TRAP => exceptions::trap_arm(general, special, *pc, halt, op, x, y, z),
+        opcode::GO => control::go_by(general, special, pc, op, x, y, z),
+        opcode::GOI => control::go_by(general, special, pc, op, x, y, z),
+        opcode::PUSHGO => control::push_go(general, special, pc, marks, window, base, op, x, y, z),
+        opcode::PUSHGOI => control::push_go(general, special, pc, marks, window, base, op, x, y, z),
+        opcode::JMP => control::jump(pc, op, x, y, z),
+        opcode::JMPB => control::jump(pc, op, x, y, z),
+        opcode::PUSHJ => control::push_jump(general, special, pc, marks, window, base, op, x, y, z),
+        opcode::PUSHJB => {
+            control::push_jump(general, special, pc, marks, window, base, op, x, y, z)
+        }
+        opcode::GETA => registers::get_address(general, special, pc, op, x, y, z),
+        opcode::GETAB => registers::get_address(general, special, pc, op, x, y, z),
+        opcode::PUT => system::put_register(general, special, pc, halt, x, z),
+        opcode::PUTI => registers::put_value(general, special, pc, halt, x, z as u64),
+        opcode::POP => calls::pop_to(general, special, pc, halt, marks, window, base, x, y, z),
+        opcode::SAVE => contexts::save_to(general, special, pc, halt, marks, window, base, x),
+        opcode::UNSAVE => {
+            system::unsave_register(general, special, pc, halt, marks, window, base, z)
+        }
+        opcode::SYNC => registers::synchronize(pc, halt, x, y, z),
+        opcode::SWYM => system::skip(pc),
+        opcode::GET => registers::get_special(general, special, pc, x, z),
+        opcode::TRIP => exceptions::trip_arm(general, special, pc, halt, marks, op, x, y, z),
+        _ => Reply::NoArm,
     }
-    if system::is_system(op) {
-        return system::system(general, special, pc, halt, marks, window, base, op, x, y, z);
-    }
-    Reply::NoArm
 }
 
 /// One step in place: 1, then 2, then 3 to 5 and the instruction's own.

@@ -1,10 +1,11 @@
--- `dispatch` meets its contract: the group of the opcode chooses the arms, and an opcode of none is 3.
+-- `dispatch` meets its contract: a range's question or the key that matched names the arm, and what the arm ensures is the step; no key, no arm.
 use mathlib.Core.Path.{sym, _∙_}
-use native.Mathlib.Omega.{arith}
 use borrow.Author.Needs.{needs}
-use Rattle.model.specs.Parts.{made, lent}
-use Rattle.instruction.proofs.Groups.{no-arm}
-use Rattle.instruction.proofs.ControlArms.{step-branch}
+use Rattle.model.specs.Opcodes.{armOf}
+use Rattle.model.specs.Parts.{made}
+use Rattle.instruction.proofs.Groups.{branch-arm, no-arm}
+use Rattle.instruction.proofs.ControlArms.{step-branch, step-go, step-push-go, step-jump, step-push-jump, step-get-address, step-pop}
+use Rattle.instruction.proofs.SystemArms.{trap-step, put-step, puti-step, save-step, unsave-step, sync-step, swym-step, get-step, trip-step}
 use Rattle.instruction.proofs.EarlyRefusals.{no-arm-step}
 use Rattle.instruction.proofs.step.dispatch.Statement.{statement}
 use Rattle.instruction.proofs.step.dispatch.Tie as tie
@@ -19,49 +20,234 @@ returns : tie.Need-returns
 returns c =
     let then = c .before .before .before in
     let start = then .before .before .before in
-    let a = start .args in
-    let w = lent (a .base) (a .window .now) in
-    let s = made (a .general .now) (a .special .now) (a .pc .now) (a .halt .now) (a .marks) in
-    step-branch w s (start .pre .0) (start .pre .1) (a .op) (a .x) (a .y) (a .z) _ _ (sym (then .before .is-branch .ensures) ∙ then .if1 .taken) (c .branch .ensures (a .special .now) (a .halt .now) (a .marks))
+    step-branch _ _ (start .pre .0) (start .pre .1) _ _ _ _ _ (made _ _ _ _ _) (branch-arm _ (sym (then .before .is-branch .ensures) ∙ then .if1 .taken)) (c .branch .ensures _ _ _)
 
-is-control-requires : tie.Need-is-control-requires
-is-control-requires c κs = search needs
+trap-arm-requires : tie.Need-trap-arm-requires
+trap-arm-requires c κs = search needs
 
-control-requires : tie.Need-control-requires
-control-requires c κs =
-    let then = c .before .before .before .before .before in
-    let start = then .before .before .before .before .before in
-    (start .pre .0, start .pre .1, sym (then .before .is-control .ensures) ∙ then .if2 .taken)
+go-by-requires : tie.Need-go-by-requires
+go-by-requires c κs = search needs
+
+go-by-requires-2 : tie.Need-go-by-requires-2
+go-by-requires-2 c κs = search needs
+
+push-go-requires : tie.Need-push-go-requires
+push-go-requires c κs = search needs
+
+push-go-requires-2 : tie.Need-push-go-requires-2
+push-go-requires-2 c κs = search needs
+
+jump-requires : tie.Need-jump-requires
+jump-requires c κs = search needs
+
+jump-requires-2 : tie.Need-jump-requires-2
+jump-requires-2 c κs = search needs
+
+push-jump-requires : tie.Need-push-jump-requires
+push-jump-requires c κs = search needs
+
+push-jump-requires-2 : tie.Need-push-jump-requires-2
+push-jump-requires-2 c κs = search needs
+
+get-address-requires : tie.Need-get-address-requires
+get-address-requires c κs = search needs
+
+get-address-requires-2 : tie.Need-get-address-requires-2
+get-address-requires-2 c κs = search needs
+
+put-register-requires : tie.Need-put-register-requires
+put-register-requires c κs = search needs
+
+put-value-requires : tie.Need-put-value-requires
+put-value-requires c κs = search needs
+
+pop-to-requires : tie.Need-pop-to-requires
+pop-to-requires c κs = search needs
+
+save-to-requires : tie.Need-save-to-requires
+save-to-requires c κs = search needs
+
+unsave-register-requires : tie.Need-unsave-register-requires
+unsave-register-requires c κs = search needs
+
+synchronize-requires : tie.Need-synchronize-requires
+synchronize-requires c κs = search needs
+
+skip-requires : tie.Need-skip-requires
+skip-requires c κs = search needs
+
+get-special-requires : tie.Need-get-special-requires
+get-special-requires c κs = search needs
+
+trip-arm-requires : tie.Need-trip-arm-requires
+trip-arm-requires c κs = search needs
+
+returns-2 : tie.Need-returns-2
+unfolding armOf
+returns-2 c =
+    let key = c .before .before .before .before .before in
+    let start = key .before .before .before .before in
+    trap-step _ _ (start .pre .0) (start .pre .1) _ _ _ _ _ (made _ _ _ _ _) (rw (key .match .keys1)) (c .trap-arm .ensures _)
+
+returns-3 : tie.Need-returns-3
+unfolding armOf
+returns-3 c =
+    let key = c .before .before .before .before in
+    let start = key .before .before .before .before in
+    step-go _ _ (start .pre .0) (start .pre .1) _ _ _ _ _ (made _ _ _ _ _) (rw (key .match .keys2)) (c .go-by .ensures _ _)
+
+returns-4 : tie.Need-returns-4
+unfolding armOf
+returns-4 c =
+    let key = c .before .before .before .before in
+    let start = key .before .before .before .before in
+    step-go _ _ (start .pre .0) (start .pre .1) _ _ _ _ _ (made _ _ _ _ _) (rw (key .match .keys3)) (c .go-by2 .ensures _ _)
 
 same-length : tie.Need-same-length
 same-length c = search needs
 
-returns-2 : tie.Need-returns-2
-returns-2 c = search needs
-
-is-system-requires : tie.Need-is-system-requires
-is-system-requires c κs = search needs
-
-system-requires : tie.Need-system-requires
-system-requires c κs =
-    let then = c .before .before .before .before .before in
-    let start = then .before .before .before .before .before .before .before in
-    (start .pre .0, start .pre .1, sym (then .before .is-system .ensures) ∙ then .if3 .taken)
+returns-5 : tie.Need-returns-5
+unfolding armOf
+returns-5 c =
+    let key = c .before .before .before .before .before .before .before in
+    let start = key .before .before .before .before in
+    step-push-go _ _ (start .pre .0) (start .pre .1) _ _ _ _ _ (made _ _ _ _ _) _ (rw (key .match .keys4)) (c .before .before .push-go .ensures _)
 
 same-length-2 : tie.Need-same-length-2
 same-length-2 c = search needs
 
-returns-3 : tie.Need-returns-3
-returns-3 c = search needs
+returns-6 : tie.Need-returns-6
+unfolding armOf
+returns-6 c =
+    let key = c .before .before .before .before .before .before .before in
+    let start = key .before .before .before .before in
+    step-push-go _ _ (start .pre .0) (start .pre .1) _ _ _ _ _ (made _ _ _ _ _) _ (rw (key .match .keys5)) (c .before .before .push-go2 .ensures _)
 
-returns-4 : tie.Need-returns-4
-returns-4 c =
-    let start = c .before .before .before .before .before .before .before in
-    let a = start .args in
-    let w = lent (a .base) (a .window .now) in
-    let s = made (a .general .now) (a .special .now) (a .pc .now) (a .halt .now) (a .marks) in
-    no-arm-step w s (a .op) (a .x) (a .y) (a .z) (start .pre .0) (start .pre .1)
-    (no-arm (a .op) (omega arith) (sym (c .before .before .before .before .before .is-branch .ensures) ∙ c .before .before .before .before .if1 .left) (sym (c .before .before .before .is-control .ensures) ∙ c .before .before .if2 .left) (sym (c .before .is-system .ensures) ∙ c .if3 .left))
+returns-7 : tie.Need-returns-7
+unfolding armOf
+returns-7 c =
+    let key = c .before .before in
+    let start = key .before .before .before .before in
+    step-jump _ _ (start .pre .0) (start .pre .1) _ _ _ _ _ (made _ _ _ _ _) (rw (key .match .keys6)) (c .jump .ensures _ _ _ _)
+
+returns-8 : tie.Need-returns-8
+unfolding armOf
+returns-8 c =
+    let key = c .before .before in
+    let start = key .before .before .before .before in
+    step-jump _ _ (start .pre .0) (start .pre .1) _ _ _ _ _ (made _ _ _ _ _) (rw (key .match .keys7)) (c .jump2 .ensures _ _ _ _)
+
+same-length-3 : tie.Need-same-length-3
+same-length-3 c = search needs
+
+returns-9 : tie.Need-returns-9
+unfolding armOf
+returns-9 c =
+    let key = c .before .before .before .before .before .before .before in
+    let start = key .before .before .before .before in
+    step-push-jump _ _ (start .pre .0) (start .pre .1) _ _ _ _ _ (made _ _ _ _ _) _ (rw (key .match .keys8)) (c .before .before .push-jump .ensures _)
+
+same-length-4 : tie.Need-same-length-4
+same-length-4 c = search needs
+
+returns-10 : tie.Need-returns-10
+unfolding armOf
+returns-10 c =
+    let key = c .before .before .before .before .before .before .before in
+    let start = key .before .before .before .before in
+    step-push-jump _ _ (start .pre .0) (start .pre .1) _ _ _ _ _ (made _ _ _ _ _) _ (rw (key .match .keys9)) (c .before .before .push-jump2 .ensures _)
+
+returns-11 : tie.Need-returns-11
+unfolding armOf
+returns-11 c =
+    let key = c .before .before .before .before in
+    let start = key .before .before .before .before in
+    step-get-address _ _ (start .pre .0) (start .pre .1) _ _ _ _ _ (made _ _ _ _ _) (rw (key .match .keys10)) (c .get-address .ensures _ _)
+
+returns-12 : tie.Need-returns-12
+unfolding armOf
+returns-12 c =
+    let key = c .before .before .before .before in
+    let start = key .before .before .before .before in
+    step-get-address _ _ (start .pre .0) (start .pre .1) _ _ _ _ _ (made _ _ _ _ _) (rw (key .match .keys11)) (c .get-address2 .ensures _ _)
+
+returns-13 : tie.Need-returns-13
+unfolding armOf
+returns-13 c =
+    let key = c .before .before .before .before .before in
+    let start = key .before .before .before .before in
+    put-step _ _ (start .pre .0) (start .pre .1) _ _ _ _ _ (made _ _ _ _ _) (rw (key .match .keys12)) (c .put-register .ensures _)
+
+returns-14 : tie.Need-returns-14
+unfolding armOf
+returns-14 c =
+    let key = c .before .before .before .before .before in
+    let start = key .before .before .before .before in
+    puti-step _ _ (start .pre .0) (start .pre .1) _ _ _ _ _ (made _ _ _ _ _) (rw (key .match .keys13)) (c .put-value .ensures _)
+
+same-length-5 : tie.Need-same-length-5
+same-length-5 c = search needs
+
+returns-15 : tie.Need-returns-15
+unfolding armOf
+returns-15 c =
+    let key = c .before .before .before .before .before .before in
+    let start = key .before .before .before .before in
+    step-pop _ _ (start .pre .0) (start .pre .1) _ _ _ _ _ (made _ _ _ _ _) _ (rw (key .match .keys14)) (c .pop-to .ensures)
+
+same-length-6 : tie.Need-same-length-6
+same-length-6 c = search needs
+
+returns-16 : tie.Need-returns-16
+unfolding armOf
+returns-16 c =
+    let key = c .before .before .before .before .before .before .before .before in
+    let start = key .before .before .before .before in
+    save-step _ _ (start .pre .0) (start .pre .1) _ _ _ _ _ (made _ _ _ _ _) _ (rw (key .match .keys15)) (c .before .before .save-to .ensures)
+
+same-length-7 : tie.Need-same-length-7
+same-length-7 c = search needs
+
+returns-17 : tie.Need-returns-17
+unfolding armOf
+returns-17 c =
+    let key = c .before .before .before .before .before .before in
+    let start = key .before .before .before .before in
+    unsave-step _ _ (start .pre .0) (start .pre .1) _ _ _ _ _ (made _ _ _ _ _) (rw (key .match .keys16)) (c .unsave-register .ensures)
+
+returns-18 : tie.Need-returns-18
+unfolding armOf
+returns-18 c =
+    let key = c .before .before .before in
+    let start = key .before .before .before .before in
+    sync-step _ _ (start .pre .0) (start .pre .1) _ _ _ _ _ (made _ _ _ _ _) (rw (key .match .keys17)) (c .synchronize .ensures _ _ _)
+
+returns-19 : tie.Need-returns-19
+unfolding armOf
+returns-19 c =
+    let key = c .before .before in
+    let start = key .before .before .before .before in
+    swym-step _ _ (start .pre .0) (start .pre .1) _ _ _ _ _ (made _ _ _ _ _) (rw (key .match .keys18)) (c .skip .ensures _ _ _ _)
+
+returns-20 : tie.Need-returns-20
+unfolding armOf
+returns-20 c =
+    let key = c .before .before .before .before in
+    let start = key .before .before .before .before in
+    get-step _ _ (start .pre .0) (start .pre .1) _ _ _ _ _ (made _ _ _ _ _) (rw (key .match .keys19)) (c .get-special .ensures _ _)
+
+returns-21 : tie.Need-returns-21
+unfolding armOf
+returns-21 c =
+    let key = c .before .before .before .before .before in
+    let start = key .before .before .before .before in
+    trip-step _ _ (start .pre .0) (start .pre .1) _ _ _ _ _ (made _ _ _ _ _) (rw (key .match .keys20)) (c .trip-arm .ensures)
+
+returns-22 : tie.Need-returns-22
+returns-22 c =
+    let else = c .before in
+    let start = else .before .before .before in
+    no-arm-step _ _ _ _ _ _ (start .pre .0) (start .pre .1) (no-arm _ (sym (else .before .is-branch .ensures) ∙ else .if1 .left) (c .match .rest))
 
 pub dispatch-spec : {M : Type 1} → statement M
-dispatch-spec = tie.close (tie.spec is-branch-requires branch-requires returns is-control-requires control-requires same-length returns-2 is-system-requires system-requires same-length-2 returns-3 returns-4)
+dispatch-spec = tie.close (tie.spec is-branch-requires branch-requires returns trap-arm-requires go-by-requires go-by-requires-2 push-go-requires push-go-requires-2 jump-requires jump-requires-2 push-jump-requires push-jump-requires-2 get-address-requires get-address-requires-2 put-register-requires put-value-requires pop-to-requires save-to-requires unsave-register-requires synchronize-requires skip-requires get-special-requires trip-arm-requires returns-2 returns-3 returns-4 same-length returns-5 same-length-2 returns-6 returns-7 returns-8 same-length-3 returns-9 same-length-4 returns-10 returns-11 returns-12 returns-13 returns-14 same-length-5 returns-15 same-length-6 returns-16 same-length-7 returns-17 returns-18 returns-19 returns-20 returns-21 returns-22)
