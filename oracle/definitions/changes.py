@@ -3,7 +3,7 @@ import re
 
 # The definitions; the table of opcodes late, for every point rests on it. The other files of specs/ state theorems.
 FILES = ["Control", "Frames", "Contexts", "System", "Trips", "Step", "Memory", "Plan", "Octa", "Fill", "NoMemory", "Lists", "Reader",
-         "Numbers", "Registers", "Rules", "Opcodes"]
+         "Numbers", "Registers", "Rules", "Opcodes", "LoadStore"]
 
 # Where a name that a change brings in is imported from.
 HOMES = {"leb": "lib.Dec", "ltb": "lib.Dec", "eqb": "lib.Dec", "&&": "mathlib.Core.Bool", "||": "mathlib.Core.Bool",
@@ -14,7 +14,8 @@ REGISTERS = "Rattle.model.specs.Registers"
 WORDS = {"leb": ["ltb", "eqb"], "ltb": ["leb", "eqb"], "eqb": ["leb", "ltb"], "&&": ["||"], "||": ["&&"], "min": ["max"],
          "max": ["min"], "not": [""], "true": ["false"], "false": ["true"], "suc": [""], "zero": ["(suc zero)"],
          "forward": ["backward"], "backward": ["forward"], "register": ["immediate"], "immediate": ["register"],
-         "bitAnd": ["bitOr"], "bitOr": ["bitAnd"]}
+         "bitAnd": ["bitOr"], "bitOr": ["bitAnd"], "signed": ["unsigned"], "unsigned": ["signed"], "byte": ["wyde"],
+         "wyde": ["byte"], "tetra": ["octabyte"], "octabyte": ["tetra"]}
 
 NUMBER = re.compile(r"0x[0-9A-Fa-f]+|\d+")
 TOKEN = re.compile(r"[^\s(){};,]+")

@@ -1,14 +1,15 @@
 //! One case on all sides. Every entry of a subject that takes the case must give the Rust's reply, state and
-//! window to the last byte; the octabytes that the Rust touches must be the needs, which the model tells.
+//! window to the last byte; the octabytes that the Rust touches must be the needs, which the model tells. At an added opcode
+//! the model stands in for the Rust (`reference`).
 
 use crate::case::{Call, Case, Instruction};
+use crate::compared;
 use crate::guards::WROTE_OUTSIDE;
-use crate::model;
 use crate::reference::{Answer, Reference};
 use crate::state::{IMAGE_LEN, State};
 use crate::subject::{Found, Subject};
 
-/// The Rust's answer, or in words how a subject differs from it.
+/// The reference's answer, or in words how a subject differs from it.
 pub fn compare(reference: &mut Reference, subjects: &[Box<dyn Subject>], case: &Case) -> Result<Answer, String> {
     let answer = reference.answer(case)?;
     for subject in subjects {
@@ -140,7 +141,7 @@ fn same_window(entry: &str, answer: &Answer, window: &[u8]) -> Result<(), String
 /// on with what was not there, so the needs are among the touched and one of them is missing.
 fn needs(case: &Case, answer: &Answer) -> Result<(), String> {
     let mut needs = match case.call {
-        Call::Step(i) if case.image_len == IMAGE_LEN => model::needs(case.base, i, &case.state, &case.window),
+        Call::Step(i) if case.image_len == IMAGE_LEN => compared::needs(case.base, i, &case.state, &case.window),
         Call::Context { .. } => return Ok(()),
         _ => Vec::new(),
     };

@@ -7,8 +7,27 @@ pub const BNB: u8 = 0x41;
 pub const BZ: u8 = 0x42;
 pub const BNZ: u8 = 0x4A;
 pub const PBEVB: u8 = 0x5F;
+/// Loads are LDB to LDOUI, stores STB to STOUI; of each pair the odd one takes Z in the place of $Z.
+pub const LDB: u8 = 0x80;
+pub const LDBU: u8 = 0x82;
+pub const LDW: u8 = 0x84;
+pub const LDWU: u8 = 0x86;
+pub const LDT: u8 = 0x88;
+pub const LDTU: u8 = 0x8A;
+pub const LDO: u8 = 0x8C;
+pub const LDOU: u8 = 0x8E;
+pub const LDOUI: u8 = 0x8F;
 pub const GO: u8 = 0x9E;
 pub const GOI: u8 = 0x9F;
+pub const STB: u8 = 0xA0;
+pub const STBU: u8 = 0xA2;
+pub const STW: u8 = 0xA4;
+pub const STWU: u8 = 0xA6;
+pub const STT: u8 = 0xA8;
+pub const STTU: u8 = 0xAA;
+pub const STO: u8 = 0xAC;
+pub const STOU: u8 = 0xAE;
+pub const STOUI: u8 = 0xAF;
 pub const PUSHGO: u8 = 0xBE;
 pub const PUSHGOI: u8 = 0xBF;
 pub const JMP: u8 = 0xF0;
@@ -27,3 +46,18 @@ pub const SYNC: u8 = 0xFC;
 pub const SWYM: u8 = 0xFD;
 pub const GET: u8 = 0xFE;
 pub const TRIP: u8 = 0xFF;
+
+/// Whether the opcode was added to those that the Rust has an arm for: a load or a store.
+pub fn is_added(op: u8) -> bool {
+    matches!(op, LDB..=LDOUI | STB..=STOUI)
+}
+
+/// The added opcodes.
+pub fn added() -> impl Iterator<Item = u8> {
+    (0..=u8::MAX).filter(|op| is_added(*op))
+}
+
+/// The stores that may raise V: signed ones of a byte, wyde or tetra.
+pub fn raises(op: u8) -> bool {
+    matches!(op, STB..STBU | STW..STWU | STT..STTU)
+}

@@ -1,13 +1,15 @@
-//! Points: drawn steps, lists, exceptions, context reads and the initial state, with all that the Rust leaves of each.
+//! Points: drawn steps, lists, exceptions, context reads and the initial state, with all that the Rust leaves of each, the
+//! model where the Rust has no arm (`reference`).
 //! They are short enough for a prover to compute: registers and octabytes in lines (`starts`), most windows of few octabytes.
 
 use crate::case::{Call, Case};
+use crate::chains::{link, point};
 use crate::compare::compare;
 use crate::model;
 use crate::opcodes::*;
 use crate::random::Random;
 use crate::reference::{Answer, Reference};
-use crate::rounds::{exception, link, single};
+use crate::rounds::{exception, single};
 use crate::situations::{self, SITUATIONS};
 use crate::starts::Start;
 use crate::state::{IMAGE_LEN, RG, RL, RO, RS, STACK_START, State};
@@ -20,13 +22,40 @@ pub const SHORT: usize = 64;
 const TRIES: u64 = 100_000;
 
 /// The opcodes that reach memory or claim a register, where most limits are.
-const LIMITED: [u8; 16] =
-    [GO, GOI, GETA, GETAB, GET, GET, PUSHGO, PUSHGOI, PUSHJ, PUSHJB, POP, POP, POP, SAVE, UNSAVE, BN];
+const LIMITED: [u8; 24] = [
+    GO,
+    GOI,
+    GETA,
+    GETAB,
+    GET,
+    GET,
+    PUSHGO,
+    PUSHGOI,
+    PUSHJ,
+    PUSHJB,
+    POP,
+    POP,
+    POP,
+    SAVE,
+    UNSAVE,
+    BN,
+    LDB,
+    LDW + 1,
+    LDTU,
+    LDO,
+    STB,
+    STW + 1,
+    STT,
+    STOU,
+];
 /// The opcodes of most single steps, in turn; every byte has its turn between them.
 const OPCODES: [u8; 36] = [
     PUSHJ, POP, SAVE, UNSAVE, PUT, TRAP, PUSHJB, PUTI, GET, POP, UNSAVE, PUSHGO, PUT, GETA, SAVE, TRAP, PUSHGOI, PUTI,
     GETAB, POP, SYNC, TRIP, TRAP, PUT, GO, GOI, UNSAVE, JMP, JMPB, BNB, PBEVB, PUT, PUSHJ, POP, TRAP, SWYM,
 ];
+
+/// Points in a turn.
+const TURN: u64 = 22;
 
 /// One point: what is done, from where, and what the Rust leaves.
 pub enum Point {
@@ -62,16 +91,19 @@ impl Drawer {
         compare(&mut self.reference, &[], case).map_err(|e| format!("{e}\n{case}"))
     }
 
-    /// The point of a number: singles, limits, exceptions, lists and contexts in turn.
+    /// The point of a number: singles, loads and stores, limits, exceptions, lists and contexts in turn.
     fn point(&mut self, number: u64) -> Result<Point, String> {
-        match number % 20 {
+        let (turn, place) = (number / TURN, number % TURN);
+        let nth = |first: u64, n: u64| (turn * n + place - first) as usize;
+        match place {
             _ if number == 0 => self.initial(),
-            0..=6 => self.single(OPCODES[(number / 20 * 7 + number % 20) as usize % OPCODES.len()]),
-            7..=9 => self.single((number / 20 * 3 + number % 20 - 7) as u8),
-            10..=13 => self.at_limit((number / 20 * 4 + number % 20 - 10) as usize % (SITUATIONS.len() - 1)),
+            0..=6 => self.single(OPCODES[nth(0, 7) % OPCODES.len()]),
+            7..=9 => self.single(nth(7, 3) as u8),
+            10..=13 => self.at_limit(nth(10, 4) % (SITUATIONS.len() - 1)),
             14 | 15 => self.raised(),
             16..=18 => self.list(),
-            _ => self.context(),
+            19 => self.context(),
+            _ => self.single(added().nth(nth(20, 2) % added().count()).expect("an added opcode")),
         }
     }
 
@@ -83,7 +115,7 @@ impl Drawer {
     /// A step with a window that fits, its registers and octabytes straightened; marginal registers are zero or not.
     fn straight(&mut self, op: u8) -> Case {
         let random = &mut self.random;
-        let reaches = matches!(op, PUSHGO | PUSHGOI | PUSHJ | PUSHJB | POP | SAVE | UNSAVE);
+        let reaches = is_added(op) || matches!(op, PUSHGO | PUSHGOI | PUSHJ | PUSHJB | POP | SAVE | UNSAVE);
         let most = if random.one_in(16) { LONGEST } else { 4 * SHORT };
         let mut case = single(random, op);
         while reaches && case.window.len() > most {
@@ -178,9 +210,10 @@ impl Drawer {
         start.window = vec![0; 8 * octabytes];
         start.state.special[RO] = start.base.wrapping_add(8 * random.below(4));
         start.state.special[RS] = start.state.special[RO];
-        let (mut state, mut parked, mut calls) = (start.state.clone(), 255, Vec::new());
+        point(random, &mut start.state);
+        let (mut parked, mut calls) = (255, Vec::new());
         for _ in 0..random.range(3, 8) {
-            calls.push(link(random, &mut state, &mut parked));
+            calls.push(link(random, &start.state, &mut parked));
         }
         self.followed(start, calls)
     }

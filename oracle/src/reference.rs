@@ -2,6 +2,9 @@
 //! for which neither dispatch file has an arm (found by entering them), or RESUME; 4 is `from_u8`'s word; 5 is
 //! a Z that names no special register; 6 is a touch outside the window; 7 to 20 are read off the one
 //! diagnostic that the Rust sends.
+//!
+//! The Rust has no arm for an added opcode (`opcodes::is_added`): from 1 and 2 on, the answer there is the model's, and the
+//! library is compared with the model alone.
 
 use std::cell::RefCell;
 use std::ops::Range;
@@ -14,10 +17,12 @@ use taken::mmix::{Host, MMix, SpecialReg, TrapCode};
 use taken::mmixal::Opcode;
 
 use crate::case::{Call, Case, Instruction};
-use crate::opcodes::{GET, RESUME, TRAP};
+use crate::model::{self, Model};
+use crate::opcodes::{GET, RESUME, TRAP, is_added};
 use crate::state::{IMAGE_LEN, RG, RL, RO, State, WINDOW_MAX, octabyte};
+use crate::subject::Subject;
 
-/// What the Rust leaves. The window is as before where the reply is 1 to 6.
+/// What the Rust leaves, or the model at an added opcode. The window is as before where the reply is 1 to 6.
 #[derive(Clone)]
 pub struct Answer {
     pub reply: u64,
@@ -80,6 +85,11 @@ impl Reference {
     pub fn answer(&mut self, case: &Case) -> Result<Answer, String> {
         if let Some(reply) = judged(case) {
             return Ok(self.unchanged(case, reply));
+        }
+        if let Call::Step(i) = case.call
+            && is_added(i.op)
+        {
+            return Ok(of_model(case, i));
         }
         self.lend(case.base, &case.window);
         let State { general, special, pc, halt, .. } = &case.state;
@@ -183,6 +193,14 @@ impl Reference {
     }
 }
 
+/// The model's answer to a step.
+fn of_model(case: &Case, i: Instruction) -> Answer {
+    let (mut state, mut window) = (case.state.clone(), case.window.clone());
+    let touched = model::needs(case.base, i, &state, &window);
+    let reply = Model.step_lent(case.base, i, &mut state, &mut window);
+    Answer { reply, state, window, touched, part: 0..0 }
+}
+
 /// Numbers 1 to 5.
 fn judged(case: &Case) -> Option<u64> {
     let bad_state = case.image_len != IMAGE_LEN || !case.state.admissible();
@@ -197,7 +215,7 @@ fn judged(case: &Case) -> Option<u64> {
                 Some(1)
             } else if bad_window {
                 Some(2)
-            } else if arms()[op as usize] == Arm::None || op == RESUME {
+            } else if !has_arm(op) {
                 Some(3)
             } else if op == TRAP && x == 0 && TrapCode::from_u8(y).is_some() {
                 Some(4)
@@ -270,6 +288,7 @@ fn arms() -> &'static [Arm; 256] {
             let control = enters(|m, op| m.enter_control(opcode(op), op, 1, 1, 1), op as u8);
             let system = enters(|m, op| m.enter_system(opcode(op), op, 1, 1, 1), op as u8);
             assert!(!(control && system), "two arms for {op:#x}");
+            assert!(!(is_added(op as u8) && (control || system)), "the Rust has an arm for {op:#x}");
             if control {
                 Arm::Control
             } else if system {
@@ -287,7 +306,7 @@ fn arms() -> &'static [Arm; 256] {
     })
 }
 
-/// Whether some arm of the two dispatch files takes the opcode, RESUME left out.
+/// Whether some arm of the two dispatch files takes the opcode, RESUME left out, or it was added.
 pub fn has_arm(op: u8) -> bool {
-    arms()[op as usize] != Arm::None && op != RESUME
+    is_added(op) || arms()[op as usize] != Arm::None && op != RESUME
 }

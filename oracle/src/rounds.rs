@@ -4,25 +4,25 @@
 use std::sync::LazyLock;
 
 use crate::case::{Call, Case, Instruction};
+use crate::chains::{CHAIN, chain};
 use crate::opcodes::*;
 use crate::random::Random;
 use crate::reference::{Answer, has_arm};
 use crate::state::*;
-use crate::states;
 use crate::windows::{self, Saved};
+use crate::{operands, states};
 
 /// Cases a round: refusals by state, by window and by opcode, single steps, exceptions, context reads, a chain.
 pub const ROUND: u64 = ILL_STATES + ILL_WINDOWS + NO_ARMS + SINGLES + EXCEPTIONS + CONTEXTS + CHAIN;
-const ILL_STATES: u64 = 6;
-const ILL_WINDOWS: u64 = 6;
+const ILL_STATES: u64 = 7;
+const ILL_WINDOWS: u64 = 7;
 const NO_ARMS: u64 = 5;
-const SINGLES: u64 = 14;
+const SINGLES: u64 = 21;
 const EXCEPTIONS: u64 = 2;
 const CONTEXTS: u64 = 2;
-const CHAIN: u64 = 10;
 
-/// The opcodes of single steps beside the branches, and how often each stands in a turn: the more ways to go, the
-/// more often.
+/// The opcodes of single steps beside branches, loads and stores, and how often each stands in a turn: the more ways
+/// to go, the more often.
 const AIMS: [(u8, usize); 20] = [
     (TRAP, 2),
     (GO, 1),
@@ -37,54 +37,30 @@ const AIMS: [(u8, usize); 20] = [
     (GETAB, 1),
     (PUT, 5),
     (PUTI, 4),
-    (POP, 7),
+    (POP, 9),
     (SAVE, 4),
-    (UNSAVE, 7),
+    (UNSAVE, 8),
     (SYNC, 2),
     (SWYM, 1),
     (GET, 3),
     (TRIP, 3),
 ];
 
-/// The opcodes of a chain, calls and returns before all.
-const LINKS: [(u8, usize); 20] = [
-    (PUSHJ, 5),
-    (PUSHJB, 1),
-    (PUSHGO, 1),
-    (PUSHGOI, 1),
-    (POP, 8),
-    (SAVE, 3),
-    (UNSAVE, 3),
-    (PUT, 2),
-    (PUTI, 3),
-    (GETA, 2),
-    (GETAB, 1),
-    (GET, 2),
-    (GO, 1),
-    (GOI, 1),
-    (TRIP, 1),
-    (SWYM, 1),
-    (SYNC, 1),
-    (JMP, 1),
-    (BZ, 1),
-    (BNZ, 1),
-];
-
-/// The lists drawn from: opcodes of single steps, of chains, and those without an arm.
+/// The lists drawn from: opcodes of single steps, and those without an arm.
 struct Opcodes {
     aims: Vec<u8>,
-    links: Vec<u8>,
     without: Vec<u8>,
 }
 
-static OPCODES: LazyLock<Opcodes> = LazyLock::new(|| {
-    let often = |weights: &[(u8, usize)]| weights.iter().flat_map(|(op, n)| vec![*op; *n]).collect::<Vec<u8>>();
-    Opcodes {
-        aims: (BN..=PBEVB).chain(often(&AIMS)).collect(),
-        links: often(&LINKS),
-        without: (0..=255).filter(|op| !has_arm(*op)).collect(),
-    }
+static OPCODES: LazyLock<Opcodes> = LazyLock::new(|| Opcodes {
+    aims: (BN..=PBEVB).chain(added()).chain(added().filter(|op| raises(*op))).chain(often(&AIMS)).collect(),
+    without: (0..=255).filter(|op| !has_arm(*op)).collect(),
 });
+
+/// Each opcode as often as its weight says.
+pub fn often(weights: &[(u8, usize)]) -> Vec<u8> {
+    weights.iter().flat_map(|(op, n)| vec![*op; *n]).collect()
+}
 
 /// rO just inside and just outside of what POP takes.
 const POP_LIMITS: [u64; 8] = [
@@ -134,6 +110,9 @@ pub fn round(seed: u64, number: u64, run: &mut dyn FnMut(&Case) -> Option<Answer
 
 /// One step with a state and window made for it.
 pub fn single(random: &mut Random, op: u8) -> Case {
+    if is_added(op) {
+        return operands::single(random, op);
+    }
     let mut state = states::admissible(random);
     let mut i = instruction(random, op, &mut state);
     let mut case = match op {
@@ -193,14 +172,9 @@ fn windowed(random: &mut Random, i: Instruction, state: &State, first: u64, octa
 }
 
 /// Operands at the limits that matter for an opcode; a register that it reads may be set for it.
-fn instruction(random: &mut Random, op: u8, state: &mut State) -> Instruction {
+pub fn instruction(random: &mut Random, op: u8, state: &mut State) -> Instruction {
     let (rg, rl) = (state.special[RG], state.special[RL]);
-    let near = |random: &mut Random| match random.below(3) {
-        0 => random.pick(&[rl.saturating_sub(1), rl, rl + 1, rg - 1, rg, rg + 1]).min(255) as u8,
-        1 => random.below(12) as u8,
-        _ => random.operand(),
-    };
-    let (mut x, mut y, mut z) = (near(random), random.operand(), random.operand());
+    let (mut x, mut y, mut z) = (states::near(random, state), random.operand(), random.operand());
     match op {
         TRAP => {
             x = if random.one_in(2) { 0 } else { x };
@@ -305,41 +279,4 @@ fn initialize(random: &mut Random) -> Case {
         _ => {}
     }
     case
-}
-
-/// Steps and exceptions one after the other on one window, each from what the one before left.
-fn chain(random: &mut Random, run: &mut dyn FnMut(&Case) -> Option<Answer>) -> Option<()> {
-    let mut state = states::admissible(random);
-    let octabytes = random.pick(&[64, 256, 512, 1024, 2048]);
-    let base = if random.one_in(4) { states::stack_offset(random) & !7 } else { STACK_START };
-    state.special[RO] = base.wrapping_add(8 * random.below(octabytes / 2));
-    state.special[RS] = state.special[RO];
-    let mut case = Case::new(Call::Initialize, state, base, vec![0; 8 * octabytes as usize]);
-    windows::fill(random, &mut case.window);
-    case.partly = states::partly(random);
-    let mut parked = 255;
-    for _ in 0..CHAIN {
-        case.call = link(random, &mut case.state, &mut parked);
-        let answer = run(&case)?;
-        case.state = answer.state;
-        case.window = answer.window;
-    }
-    Some(())
-}
-
-/// The next call of a chain. `parked` is the register that the last SAVE gave the address to.
-pub fn link(random: &mut Random, state: &mut State, parked: &mut u8) -> Call {
-    if random.one_in(12) {
-        return exception(random).call;
-    }
-    let op = if random.one_in(16) { random.byte() } else { random.pick(&OPCODES.links) };
-    let mut i = instruction(random, op, &mut state.clone());
-    match op {
-        PUSHGO | PUSHGOI | PUSHJ | PUSHJB if random.one_in(2) => i.x = random.below(6) as u8,
-        PUT => i.z = random.operand(),
-        SAVE => *parked = i.x,
-        UNSAVE if !random.one_in(6) => i.z = *parked,
-        _ => {}
-    }
-    Call::Step(i)
 }

@@ -2,6 +2,7 @@
 
 use crate::case::{Call, Case, Instruction};
 use crate::opcodes::*;
+use crate::operands::{self, V_ENABLED, around_limit};
 use crate::reference::Answer;
 use crate::state::*;
 
@@ -73,6 +74,69 @@ impl Met<'_> {
         touched.first() == Some(&0) && touched.last() == Some(&(u64::MAX - 7))
     }
 
+    fn loads(&self, reply: u64) -> bool {
+        (LDB..=LDOUI).contains(&self.i.op) && self.answer.reply == reply
+    }
+
+    fn stores(&self, reply: u64) -> bool {
+        (STB..=STOUI).contains(&self.i.op) && self.answer.reply == reply
+    }
+
+    /// Done, or 19 of a store: the operand was reached.
+    fn reached(&self) -> bool {
+        self.loads(0) || self.stores(0) || self.stores(19)
+    }
+
+    fn outside(&self) -> bool {
+        self.loads(6) || self.stores(6)
+    }
+
+    /// A of a load or store, and the distance of its octabyte from the window's base.
+    fn address(&self) -> u64 {
+        operands::address(&self.case.state, self.i)
+    }
+
+    fn distance(&self) -> u64 {
+        (self.address() & !7).wrapping_sub(self.case.base)
+    }
+
+    fn len(&self) -> u64 {
+        self.case.window.len() as u64
+    }
+
+    /// What a load left in $X.
+    fn loaded(&self) -> u64 {
+        self.answer.state.general[self.i.x as usize]
+    }
+
+    /// $X before the step is the k-th of those at the limit of a signed store of less than an octabyte.
+    fn at_limit(&self, k: usize) -> bool {
+        let value = self.case.state.general[self.i.x as usize];
+        raises(self.i.op) && self.reached() && value == around_limit(operands::limit(self.i.op))[k]
+    }
+
+    /// A store raised V, enabled or not.
+    fn raised(&self, reply: u64, enabled: bool) -> bool {
+        let value = self.case.state.general[self.i.x as usize] as i64 as i128;
+        let limit = operands::limit(self.i.op) as i128;
+        let fits = -limit <= value && value < limit;
+        let as_told = (self.before(RA) & V_ENABLED != 0) == enabled;
+        raises(self.i.op) && !fits && self.answer.reply == reply && as_told
+    }
+
+    fn marginal(&self, register: u8) -> bool {
+        self.before(RL) <= register as u64 && (register as u64) < self.before(RG)
+    }
+
+    /// X is Y, or X is Z where $Z counts.
+    fn x_is_y(&self) -> bool {
+        self.i.x == self.i.y
+    }
+
+    fn x_is_z(&self) -> bool {
+        self.i.x == self.i.z && self.i.op.is_multiple_of(2)
+    }
+
     /// A register was claimed, up to the top of the locals.
     fn claims(&self, x: u64) -> bool {
         self.is(&CLAIMS, 0) && self.before(RL) <= x && self.i.x as u64 == x && x < self.before(RG)
@@ -84,7 +148,7 @@ const CLAIMS: [u8; 5] = [GO, GOI, GETA, GETAB, GET];
 
 type Test = fn(&Met) -> bool;
 
-pub const SITUATIONS: [(&str, Test); 40] = [
+pub const SITUATIONS: [(&str, Test); 64] = [
     ("branch taken", |m| m.branch(true)),
     ("branch not taken", |m| m.branch(false)),
     ("claim of $rL", |m| m.claims(m.before(RL))),
@@ -126,6 +190,34 @@ pub const SITUATIONS: [(&str, Test); 40] = [
     ("UNSAVE, misaligned", |m| m.is(&[UNSAVE], 0) && m.after(RO) % 8 != 0),
     ("UNSAVE across the end of memory", |m| m.is(&[UNSAVE], 0) && m.across()),
     ("UNSAVE, rL = rG", |m| m.is(&[UNSAVE], 0) && m.after(RL) == m.after(RG)),
+    ("load, sign extended", |m| m.loads(0) && m.i.op & 2 == 0 && m.i.op < LDO && m.loaded() >> 63 == 1),
+    ("load, not extended though the operand's top bit is set", |m| {
+        m.loads(0) && m.i.op & 2 != 0 && m.i.op < LDO && m.loaded() >= operands::limit(m.i.op)
+    }),
+    ("load, X = Y", |m| m.loads(0) && m.x_is_y()),
+    ("load, X = Z", |m| m.loads(0) && m.x_is_z()),
+    ("load that claims, X among Y and Z", |m| m.loads(0) && m.marginal(m.i.x) && (m.x_is_y() || m.x_is_z())),
+    ("load, 6 before the claim", |m| m.loads(6) && m.marginal(m.i.x)),
+    ("load to $255", |m| m.loads(0) && m.i.x == 255),
+    ("store, X = Y", |m| m.stores(0) && m.x_is_y()),
+    ("store, X = Z", |m| m.stores(0) && m.x_is_z()),
+    ("store of a marginal register that is not zero", |m| {
+        m.stores(0) && m.marginal(m.i.x) && m.case.state.general[m.i.x as usize] != 0
+    }),
+    ("load or store, A wraps past 2^64", |m| m.reached() && m.address() < m.case.state.general[m.i.y as usize]),
+    ("load or store, first octabyte", |m| m.reached() && m.distance() == 0),
+    ("load or store, last byte of the window", |m| m.reached() && m.distance() + 8 == m.len() && m.address() % 8 == 7),
+    ("load or store, one octabyte before the window", |m| m.outside() && m.distance() == 8u64.wrapping_neg()),
+    ("load or store, one octabyte after the window", |m| m.outside() && m.distance() == m.len() && m.len() > 0),
+    ("load or store at 2^63 and above", |m| m.reached() && m.address() >= 1 << 63),
+    ("store, the largest that fits", |m| m.at_limit(0)),
+    ("store, one more than fits", |m| m.at_limit(1)),
+    ("store, the smallest that fits", |m| m.at_limit(2)),
+    ("store, one less than fits", |m| m.at_limit(3)),
+    ("store, V added to rA", |m| m.raised(0, false) && m.before(RA) & 0x40 == 0),
+    ("store, V taken", |m| m.raised(0, true)),
+    ("store, V taken with X = 255", |m| m.raised(0, true) && m.i.x == 255),
+    ("store, 19", |m| m.raised(19, true)),
     ("window of 65,536 bytes, done", |m| m.answer.reply == 0 && m.case.window.len() == WINDOW_MAX),
 ];
 

@@ -2,7 +2,8 @@
 //! about. The fields are the first nineteen of a record of the replay list (bin/replay_list.rs says which).
 
 use crate::case::{Call, Case, Instruction};
-use crate::opcodes::{POP, UNSAVE};
+use crate::opcodes::{POP, UNSAVE, is_added};
+use crate::operands::address;
 use crate::random::Random;
 use crate::state::{MARKS_MAX, RA, RA_MAX, RG, RL, RO, RS, State, octabyte};
 
@@ -105,7 +106,7 @@ impl Start {
     }
 }
 
-/// The addresses whose octabytes decide what POP and UNSAVE do.
+/// The addresses whose octabytes decide what POP, UNSAVE, loads and stores do.
 fn about(case: &Case) -> Vec<u64> {
     match case.call {
         Call::Step(Instruction { op: POP, .. }) => vec![case.state.special[RO].wrapping_sub(8)],
@@ -115,6 +116,7 @@ fn about(case: &Case) -> Vec<u64> {
             let rg = case.window.get(at).copied().unwrap_or(0);
             vec![packed, packed.wrapping_sub(8 * (269 - rg as u64))]
         }
+        Call::Step(i) if is_added(i.op) => vec![address(&case.state, i)],
         _ => Vec::new(),
     }
 }

@@ -50,6 +50,16 @@ pub fn admissible(random: &mut Random) -> State {
     state
 }
 
+/// A register's number at the thresholds, small, or any.
+pub fn near(random: &mut Random, state: &State) -> u8 {
+    let (rg, rl) = (state.special[RG], state.special[RL]);
+    match random.below(3) {
+        0 => random.pick(&[rl.saturating_sub(1), rl, rl + 1, rg - 1, rg, rg + 1]).min(255) as u8,
+        1 => random.below(12) as u8,
+        _ => random.operand(),
+    }
+}
+
 /// rO: in the stack, at its start, below it, misaligned, near 2^63 and near 2^64.
 pub fn stack_offset(random: &mut Random) -> u64 {
     let octabytes = 8 * random.below(600);

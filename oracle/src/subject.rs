@@ -2,10 +2,10 @@
 //! 1 to 20 are 01's numbers.
 
 use crate::case::Instruction;
+use crate::compared::Model;
 use crate::guards::{Guard, Guarded};
 #[cfg(feature = "library")]
 use crate::library::Library;
-use crate::model::Model;
 use crate::state::State;
 
 /// A state in parts; the marks are only read.

@@ -1,8 +1,10 @@
 //! Cases that are run in full and not drawn: all flags with all enables, vectors loaded and not; PUSH and POP
-//! with every X at the thresholds' limits.
+//! with every X at the thresholds' limits; loads and stores at every byte of the octabytes at a window's edges, and stores
+//! of values that just fit and just don't.
 
 use crate::case::{Call, Case, Instruction};
-use crate::opcodes::{POP, PUSHJ};
+use crate::opcodes::{POP, PUSHJ, STB, STO, STOUI, STT, STW, added};
+use crate::operands::{V_ENABLED, V_LOADED, around_limit, limit};
 use crate::reference::Answer;
 use crate::state::*;
 
@@ -48,6 +50,57 @@ pub fn frames(run: &mut dyn FnMut(&Case) -> Option<Answer>) -> Option<()> {
                     case.call = Call::Step(Instruction { op: POP, x: count, y: 0, z: 1 });
                     run(&case)?;
                 }
+            }
+        }
+    }
+    Some(())
+}
+
+/// A state with locals $0 to $7, the others from $8 to $31 marginal, all of them set.
+fn numbered() -> State {
+    let mut state = State::zero();
+    (0..256).for_each(|k| state.general[k] = 0x8182_8384_8586_8700 + k as u64);
+    (state.special[RG], state.special[RL], state.special[RJ]) = (32, 8, 0x1234);
+    (state.pc, state.marks) = (0x1000, MARKS_MAX);
+    state
+}
+
+/// Every load and store, at each byte of the octabyte before the window, its first, its last and the one after it: X a
+/// local, a marginal and a global register, alone and the same as Y or Z. Windows are low, above 2^63 and across 2^64.
+pub fn operands(run: &mut dyn FnMut(&Case) -> Option<Answer>) -> Option<()> {
+    const LEN: u64 = 24;
+    let edges = [8u64.wrapping_neg(), 0, LEN - 8, LEN];
+    let distances: Vec<u64> = edges.iter().flat_map(|edge| (0..8).map(|low| edge.wrapping_add(low))).collect();
+    let registers = [[1, 2, 3], [2, 2, 3], [3, 2, 3], [9, 2, 3], [9, 9, 3], [9, 2, 9], [255, 2, 3], [255, 255, 3]];
+    for base in [64, (1 << 63) + 64, 8u64.wrapping_neg()] {
+        for op in added() {
+            for [x, y, z] in registers {
+                for distance in &distances {
+                    let mut state = numbered();
+                    let second = if op % 2 == 1 { z as u64 } else { state.general[z as usize] };
+                    state.general[y as usize] = base.wrapping_add(*distance).wrapping_sub(second);
+                    let window = (0..LEN as u8).map(|k| 0x7D + k).collect();
+                    run(&Case::new(Call::Step(Instruction { op, x, y, z }), state, base, window))?;
+                }
+            }
+        }
+    }
+    Some(())
+}
+
+/// Every store of values around the limits of each size, V enabled or not, beside other bits of rA, its vector loaded or not.
+pub fn limits(run: &mut dyn FnMut(&Case) -> Option<Answer>) -> Option<()> {
+    let values: Vec<u64> = [STB, STW, STT, STO].iter().flat_map(|op| around_limit(limit(*op))).collect();
+    let enables = [0, V_ENABLED, 0xFF00, 0x3BFFF, V_ENABLED | 0x40, 0x40, 0x8080];
+    let loaded = [V_LOADED, MARKS_MAX & !V_LOADED];
+    for (op, value) in (STB..=STOUI).flat_map(|op| values.iter().map(move |value| (op, *value))) {
+        for (ra, marks) in enables.iter().flat_map(|ra| loaded.map(|marks| (*ra, marks))) {
+            for x in [1, 9, 255] {
+                let (mut state, base) = (numbered(), STACK_START);
+                (state.special[RA], state.marks, state.general[x as usize]) = (ra, marks, value);
+                (state.general[2], state.general[3]) = (base, value % 8);
+                let call = Call::Step(Instruction { op, x, y: 2, z: 3 });
+                run(&Case::new(call, state, base, vec![0x55; 16]))?;
             }
         }
     }

@@ -16,6 +16,8 @@ fn replies(op: u8) -> &'static [usize] {
     match op {
         BN..=PBEVB | GO | GOI | JMP | JMPB | GETA | GETAB | SWYM => &[0],
         PUSHGO | PUSHGOI | PUSHJ | PUSHJB => &[0, 6],
+        _ if raises(op) => &[0, 6, 19],
+        LDB..=LDOUI | STB..=STOUI => &[0, 6],
         TRAP => &[4, 20],
         PUT => &[0, 7, 8, 9, 10, 11],
         PUTI => &[0, 7, 8, 9, 10],
@@ -76,6 +78,11 @@ impl Tally {
 
     pub fn cases(&self) -> u64 {
         self.rows().flatten().sum()
+    }
+
+    /// The cases of opcodes for which the model stands in for the Rust.
+    pub fn added(&self) -> u64 {
+        added().flat_map(|op| &self.steps[op as usize]).sum()
     }
 
     /// The rows by name, each with the replies that it can have.

@@ -6,6 +6,7 @@ use std::os::fd::AsRawFd;
 
 use oracle::case::Instruction;
 use oracle::guards::{Guard, Guarded, WROTE_OUTSIDE};
+use oracle::opcodes::STB;
 use oracle::state::{IMAGE_LEN, State};
 use oracle::subject::{Found, Parts, Subject};
 
@@ -23,19 +24,17 @@ fn readable(address: *const u8) -> bool {
     written == 1
 }
 
-/// Writes one byte after the image, or before it; or tells whether the bytes there may be read.
+/// Writes one byte after the image or window, or before it; or tells whether the bytes there may be read.
+#[derive(Clone, Copy)]
 enum Probe {
     WriteAfter,
     WriteBefore,
     ReadAround,
 }
 
-impl Subject for Probe {
-    fn name(&self) -> &'static str {
-        "probe"
-    }
-    fn initialize(&self, image: &mut [u8]) -> u64 {
-        let (before, after) = (image.as_mut_ptr().wrapping_sub(1), image.as_mut_ptr().wrapping_add(image.len()));
+impl Probe {
+    fn around(self, buffer: &mut [u8]) -> u64 {
+        let (before, after) = (buffer.as_mut_ptr().wrapping_sub(1), buffer.as_mut_ptr().wrapping_add(buffer.len()));
         // SAFETY: none; the guarded places are such that these bytes may be written or are not.
         unsafe {
             match self {
@@ -46,8 +45,17 @@ impl Subject for Probe {
         }
         2 * readable(before) as u64 + readable(after) as u64
     }
-    fn step(&self, _: u64, _: Instruction, _: &mut [u8], _: &mut [u8]) -> u64 {
-        0
+}
+
+impl Subject for Probe {
+    fn name(&self) -> &'static str {
+        "probe"
+    }
+    fn initialize(&self, image: &mut [u8]) -> u64 {
+        self.around(image)
+    }
+    fn step(&self, _: u64, _: Instruction, _: &mut [u8], window: &mut [u8]) -> u64 {
+        self.around(window)
     }
     fn exceptions(&self, _: u8, _: Instruction, _: u64, _: u64, _: &mut [u8]) -> u64 {
         0
@@ -72,20 +80,25 @@ impl Subject for Probe {
     }
 }
 
-/// Two calls in turn: flush against the page after the buffer, then against the one before it.
-fn twice(probe: Probe) -> [u64; 2] {
+/// Two calls in turn: flush against the page after the buffer, then against the one before it. The buffer is an image, and
+/// a step's window, where loads and stores of its last bytes and its first go.
+fn twice(probe: Probe) -> [[u64; 2]; 2] {
     let guarded = Guarded::new(Box::new(probe), Guard::Pages);
-    let mut image = vec![0; IMAGE_LEN];
-    [guarded.initialize(&mut image), guarded.initialize(&mut image)]
+    let (mut image, mut window) = (vec![0; IMAGE_LEN], vec![0; 64]);
+    let i = Instruction { op: STB, x: 1, y: 2, z: 3 };
+    [
+        [guarded.initialize(&mut image), guarded.initialize(&mut image)],
+        [guarded.step(0, i, &mut image, &mut window), guarded.step(0, i, &mut image, &mut window)],
+    ]
 }
 
 #[test]
 fn pages_beside_a_buffer_cannot_be_touched() {
-    assert_eq!(twice(Probe::ReadAround), [2, 1]);
+    assert_eq!(twice(Probe::ReadAround), [[2, 1]; 2]);
 }
 
 #[test]
 fn canaries_see_a_byte_written() {
-    assert_eq!(twice(Probe::WriteAfter), [2, WROTE_OUTSIDE]);
-    assert_eq!(twice(Probe::WriteBefore), [WROTE_OUTSIDE, 1]);
+    assert_eq!(twice(Probe::WriteAfter), [[2, WROTE_OUTSIDE]; 2]);
+    assert_eq!(twice(Probe::WriteBefore), [[WROTE_OUTSIDE, 1]; 2]);
 }

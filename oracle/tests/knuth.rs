@@ -1,6 +1,6 @@
-//! Figures of Knuth's texts for the register stack and for SAVE, on the Rust and on the subjects. Each names its
-//! place in mmix-doc (MMIXware, "Definition of MMIX"), whose words are given as we know them; Fascicle 1 has the
-//! same rules in sections 1.3.1' and 1.4.1'.
+//! Figures of Knuth's texts for the register stack, for SAVE and for loads and stores, on the Rust, where it has the arms, and
+//! on the subjects. Each names its place in mmix-doc (MMIXware, "Definition of MMIX"), whose words are given as we know
+//! them; Fascicle 1 has the same rules in sections 1.3.1' and 1.4.1', and the figures of loads and stores.
 
 mod common;
 
@@ -22,7 +22,7 @@ fn done(case: &mut Case, op: u8, x: u8, y: u8, z: u8) {
     assert_eq!(step(case, op, x, y, z).reply, 0);
 }
 
-/// $x gets a value that a special register has: the loads of the whole machine are not here.
+/// $x gets a value that a special register has.
 fn set(case: &mut Case, x: u8, value: u64) {
     case.state.special[RD] = value;
     done(case, GET, x, 0, RD as u8);
@@ -174,4 +174,119 @@ fn save_stores_in_this_order() {
     let (now, then) = (&case.state, &before);
     assert_eq!((now.general, special(&case, RL), special(&case, RG)), (then.general, 3, 250));
     assert!(order.iter().chain(&[RA, RO]).all(|r| now.special[*r] == then.special[*r]));
+}
+
+/// Fascicle 1, "Loading and storing": M8[1000] = #0123456789abcdef, $2 = 1000.
+fn memory(third: u64) -> Case {
+    let mut case = routine(&[0, 0, 1000, third]);
+    (case.base, case.window) = (1000, 0x0123_4567_89AB_CDEF_u64.to_be_bytes().to_vec());
+    case
+}
+
+/// The same: what each load leaves in $1 with $3 = 2, and with $3 = 5 where the sign of a byte, wyde and tetra is set.
+#[test]
+fn loads_extend_the_sign_or_zeros() {
+    let loaded = |op: u8, third: u64| {
+        let mut case = memory(third);
+        let kept = case.window.clone();
+        done(&mut case, op, 1, 2, 3);
+        assert_eq!((case.state.pc, &case.window), (0x1004, &kept));
+        case.state.general[1]
+    };
+    let signed = [LDB, LDW, LDT, LDO];
+    let unsigned = [LDBU, LDWU, LDTU, LDOU];
+    let low = [0x45, 0x4567, 0x0123_4567, 0x0123_4567_89AB_CDEF];
+    assert_eq!(signed.map(|op| loaded(op, 2)), low);
+    assert_eq!(unsigned.map(|op| loaded(op, 2)), low);
+    let extended = [0xFFFF_FFFF_FFFF_FFAB, 0xFFFF_FFFF_FFFF_89AB, 0xFFFF_FFFF_89AB_CDEF, 0x0123_4567_89AB_CDEF];
+    assert_eq!(signed.map(|op| loaded(op, 5)), extended);
+    assert_eq!(unsigned.map(|op| loaded(op, 5)), [0xAB, 0x89AB, 0x89AB_CDEF, 0x0123_4567_89AB_CDEF]);
+}
+
+/// The immediate forms are at the next opcode.
+#[test]
+fn immediate_forms_take_z() {
+    let mut case = memory(0);
+    done(&mut case, LDB + 1, 1, 2, 5);
+    assert_eq!(case.state.general[1], 0xFFFF_FFFF_FFFF_FFAB);
+    done(&mut case, STOU + 1, 2, 2, 7);
+    assert_eq!(octabyte(&case.window), 1000);
+}
+
+/// −65536, which a tetra holds and a wyde does not.
+const WIDE: u64 = 0xFFFF_FFFF_FFFF_0000;
+
+/// A state whose $1 is −65536, $3 is 5, and rA has some bits set, V and its enable (by `ra`) among them or not.
+fn to_store(ra: u64, marks: u64) -> Case {
+    let mut case = memory(5);
+    (case.state.general[1], case.state.special[RA], case.state.marks) = (WIDE, ra, marks);
+    case.state.special[RJ] = 0x2222;
+    case.state.general[255] = 0x5555;
+    case
+}
+
+/// The same: M8[1000] after each store of $1 = −65536 at $2 + $3 = 1005. STB and STW overflow.
+#[test]
+fn stores_overflow_where_the_value_does_not_fit() {
+    let stored = |op: u8| {
+        let mut case = to_store(0x1_0001, 0);
+        done(&mut case, op, 1, 2, 3);
+        assert_eq!(case.state.pc, 0x1004);
+        (octabyte(&case.window), special(&case, RA))
+    };
+    let (byte, wyde, tetra) = (0x0123_4567_8900_CDEF, 0x0123_4567_0000_CDEF, 0x0123_4567_FFFF_0000);
+    assert_eq!([STB, STW].map(stored), [(byte, 0x1_0041), (wyde, 0x1_0041)]);
+    assert_eq!([STT, STO].map(stored), [(tetra, 0x1_0001), (WIDE, 0x1_0001)]);
+    let unsigned = [(byte, 0x1_0001), (wyde, 0x1_0001), (tetra, 0x1_0001), (WIDE, 0x1_0001)];
+    assert_eq!([STBU, STWU, STTU, STOU].map(stored), unsigned);
+}
+
+/// V enabled: the store is made, and the trip to 32 has A in rY, low bits too, and $1 in rZ. With the vector not loaded, 19.
+#[test]
+fn an_enabled_overflow_trips() {
+    for (marks, reply, pc, halt) in [(MARKS_MAX, 0, 32, 0), (MARKS_MAX & !4, 19, 0x1000, 1)] {
+        let mut case = to_store(0x4001, marks);
+        let mut expected = case.state.clone();
+        assert_eq!(step(&mut case, STB, 1, 2, 3).reply, reply);
+        assert_eq!(octabyte(&case.window), 0x0123_4567_8900_CDEF);
+        (expected.special[RB], expected.general[255]) = (0x5555, 0x2222);
+        (expected.special[RW], expected.special[RX]) = (0x1004, 0x8000_0000_A001_0203);
+        (expected.special[RY], expected.special[RZ]) = (1005, WIDE);
+        (expected.pc, expected.halt) = (pc, halt);
+        assert_eq!(case.state.difference(&expected), None);
+    }
+}
+
+/// $255 is stored as it was before the trip, which has it in rB and rZ.
+#[test]
+fn a_trip_of_255_stores_it_first() {
+    let mut case = to_store(0x4000, MARKS_MAX);
+    done(&mut case, STB, 255, 2, 3);
+    assert_eq!(octabyte(&case.window), 0x0123_4567_8955_CDEF);
+    assert_eq!([RB, RZ].map(|r| special(&case, r)), [0x5555; 2]);
+    assert_eq!(case.state.general[255], 0x2222);
+}
+
+/// Outside the window nothing is claimed; a load that is done claims after its operands are read.
+#[test]
+fn a_load_claims_last() {
+    let mut case = memory(0);
+    case.state.general[9] = 1008;
+    assert_eq!(step(&mut case, LDO, 9, 9, 3).reply, 6);
+    assert_eq!((special(&case, RL), case.state.general[9]), (4, 1008));
+    case.state.general[9] = 1004;
+    done(&mut case, LDW, 9, 9, 3);
+    assert_eq!((special(&case, RL), case.state.general[9]), (10, 0xFFFF_FFFF_FFFF_89AB));
+}
+
+/// The condition on a caller's frame bites: a store into it changes a local of the caller.
+#[test]
+fn a_store_into_the_frame_changes_a_local() {
+    let mut case = routine(&[10, 11, 12, 13]);
+    case.state.general[254] = STACK_START;
+    done(&mut case, PUSHJ, 2, 0, 5);
+    assert_eq!(locals(&case), [13]);
+    done(&mut case, STO + 1, 0, 254, 8);
+    done(&mut case, POP, 0, 0, 0);
+    assert_eq!(locals(&case), [10, 13]);
 }

@@ -1,11 +1,12 @@
 //! How long the Rust's arms take, and the subject's entries beside them: nanoseconds, the least of many repeats.
 //!
-//!     speed [TEXT]      only the points whose name holds TEXT
+//!     speed [TEXT]      only the points whose name holds TEXT, and BN
 //!
 //! The subject is the proved library with the feature `library`, else the model. Columns: the Rust's arm in place;
 //! the same instruction fetched from the Rust's memory and decoded; the subject's step on parts, on a lent state
 //! and on an image (there exceptions too). A point of two instructions has the sum of both. Behind the times stand
-//! the ratios, each with its target and whether it is met.
+//! the ratios, each with its target and whether it is met. The Rust has no arm for loads and stores: they are checked
+//! by the model, and set against a branch; a subject that has no such arm either has no times there.
 
 mod points;
 mod report;
@@ -14,10 +15,11 @@ use std::hint::black_box;
 use std::time::Instant;
 
 use oracle::case::Instruction;
+use oracle::model::Model;
 use oracle::opcodes::{PUT, PUTI, RESUME, TRAP};
 use oracle::state::{STACK_START, State};
 use oracle::subject::{Subject, chosen};
-use points::{Point, Work, points};
+use points::{BRANCH, Kind, Point, Work, points};
 use report::Row;
 use taken_plain::mmix::{Host, MMix};
 use taken_plain::mmixal::Opcode;
@@ -104,7 +106,7 @@ fn rust_arm(point: &Point) -> f64 {
 }
 
 fn rust_fetched(point: &Point) -> f64 {
-    let Work::Steps(code) = &point.work else { return f64::INFINITY };
+    let Work::Steps(code) = &point.work else { return Row::NO_TIME };
     let mut machine = machine(point);
     least(|| {
         for k in 0..code.len() as u64 {
@@ -116,7 +118,7 @@ fn rust_fetched(point: &Point) -> f64 {
 
 /// A point's steps, each by `step`, on a state and a window that stay from call to call.
 fn on_state(point: &Point, step: impl Fn(Instruction, &mut State, &mut [u8]) -> u64) -> f64 {
-    let Work::Steps(code) = &point.work else { return f64::INFINITY };
+    let Work::Steps(code) = &point.work else { return Row::NO_TIME };
     let (mut state, mut window) = (point.state.clone(), vec![0; WINDOW_LEN]);
     least(|| {
         for i in code {
@@ -143,8 +145,30 @@ fn on_image(subject: &impl Subject, point: &Point) -> f64 {
     }
 }
 
+/// Whether the subject does a point's steps.
+fn does(subject: &impl Subject, point: &Point) -> bool {
+    let Work::Steps(code) = &point.work else { return true };
+    let (mut state, mut window) = (point.state.clone(), vec![0; WINDOW_LEN]);
+    code.iter().all(|i| subject.step_lent(STACK_START, *i, &mut state, &mut window) == 0)
+}
+
+/// A load or store that the subject does leaves what the model says.
+fn check_by_model(subject: &impl Subject, point: &Point) {
+    let left = |subject: &dyn Subject| {
+        let (mut state, mut window) = (point.state.clone(), vec![0x9C; WINDOW_LEN]);
+        let Work::Steps(code) = &point.work else { unreachable!("a step") };
+        let replies: Vec<u64> =
+            code.iter().map(|i| subject.step_lent(STACK_START, *i, &mut state, &mut window)).collect();
+        (replies, state, window)
+    };
+    assert!(!does(subject, point) || left(subject) == left(&Model), "{}: differs", point.name);
+}
+
 /// After one round the Rust and the subject agree, and every instruction was done.
 fn check(subject: &impl Subject, point: &Point) {
+    if point.kind == Kind::Transfer {
+        return check_by_model(subject, point);
+    }
     let mut machine = machine(point);
     let (mut state, mut window) = (point.state.clone(), vec![0; WINDOW_LEN]);
     let Work::Steps(code) = &point.work else { return };
@@ -158,9 +182,13 @@ fn check(subject: &impl Subject, point: &Point) {
 
 /// A point's row, measured once.
 fn measured(subject: &impl Subject, point: &Point) -> Row {
+    if !does(subject, point) {
+        return Row::NONE;
+    }
+    let in_rust = point.kind != Kind::Transfer;
     Row {
-        arm: rust_arm(point),
-        fetched: rust_fetched(point),
+        arm: if in_rust { rust_arm(point) } else { Row::NO_TIME },
+        fetched: if in_rust { rust_fetched(point) } else { Row::NO_TIME },
         parts: on_state(point, |i, state, window| subject.step_parts(STACK_START, i, state.into(), window)),
         lent: on_state(point, |i, state, window| subject.step_lent(STACK_START, i, state, window)),
         image: on_image(subject, point),
@@ -176,7 +204,7 @@ fn copied() -> f64 {
 fn main() {
     let only = std::env::args().nth(1).unwrap_or_default();
     let subject = chosen();
-    let points: Vec<Point> = points().into_iter().filter(|p| p.name.contains(&only)).collect();
+    let points: Vec<Point> = points().into_iter().filter(|p| p.name.contains(&only) || p.name == BRANCH).collect();
     points.iter().for_each(|point| check(&subject, point));
 
     let mut copy = f64::INFINITY;

@@ -19,6 +19,8 @@ pub enum Kind {
     Memory {
         times: u64,
     },
+    /// A load or store, for which the Rust has no arm: set against the branch `BRANCH`.
+    Transfer,
 }
 
 pub struct Point {
@@ -65,11 +67,26 @@ fn exceptions(name: &str, enables: u64, flags: u8) -> Point {
     Point { name: name.to_string(), kind: Kind::Exception, state, work: Work::Exceptions(flags) }
 }
 
+/// A load or store in place: A is $5 + $1, the last byte of an octabyte.
+fn transfer(name: &str, op: u8) -> Point {
+    let mut state = start(32, 10);
+    (state.general[5], state.general[1]) = (STACK_START + 64, 7);
+    Point { kind: Kind::Transfer, ..steps(name, state, &[[op, 3, 5, 1]]) }
+}
+
+/// The name of the branch that loads and stores are set against.
+pub const BRANCH: &str = "BN";
+
 pub fn points() -> Vec<Point> {
     let plain = || start(32, 10);
     let mut points = vec![
         steps("branch taken", plain(), &[[BNZ, 1, 0, 5]]),
         steps("branch not taken", plain(), &[[BZ, 1, 0, 5]]),
+        steps(BRANCH, plain(), &[[BN, 1, 0, 5]]),
+        transfer("LDO", LDO),
+        transfer("LDB", LDB),
+        transfer("STO", STO),
+        transfer("STB", STB),
         steps("JMP", plain(), &[[JMP, 0, 0, 5]]),
         steps("GETA", plain(), &[[GETA, 3, 0, 5]]),
         steps("GO", plain(), &[[GOI, 3, 1, 5]]),

@@ -1,6 +1,6 @@
 //! The table of times, and the ratios beside their targets.
 
-use crate::points::{Kind, Point};
+use crate::points::{BRANCH, Kind, Point};
 
 /// The least times of a point; infinite where the point has no such call.
 #[derive(Clone, Copy)]
@@ -13,7 +13,7 @@ pub struct Row {
 }
 
 impl Row {
-    const NO_TIME: f64 = f64::INFINITY;
+    pub const NO_TIME: f64 = f64::INFINITY;
     pub const NONE: Self = Self::of([Self::NO_TIME; 5]);
 
     const fn of([arm, fetched, parts, lent, image]: [f64; 5]) -> Self {
@@ -52,8 +52,9 @@ fn at_least(bound: f64, what: &'static str, ratio: f64) -> Target {
     Target { what, ratio, bound, at_most: false }
 }
 
-/// What each kind of point is held to; a copy of the image is set against one instruction.
-fn targets(point: &Point, row: &Row, copy: f64) -> Vec<Target> {
+/// What each kind of point is held to; a copy of the image is set against one instruction, and a branch's time against a
+/// load or store.
+fn targets(point: &Point, row: &Row, copy: f64, branch: f64) -> Vec<Target> {
     let copies = copy * point.instructions() as f64;
     match point.kind {
         Kind::Simple => vec![
@@ -64,6 +65,7 @@ fn targets(point: &Point, row: &Row, copy: f64) -> Vec<Target> {
         ],
         Kind::Exception => vec![at_most(14.0, "image / memcpy", row.image / copies)],
         Kind::Memory { times } => vec![at_least(times as f64, "arm / parts", row.arm / row.parts)],
+        Kind::Transfer => vec![at_most(2.5, "parts / BN", row.parts / branch)],
     }
 }
 
@@ -74,8 +76,9 @@ pub fn print(points: &[Point], rows: &[Row], copy: f64) {
         println!("{:<28}{}", point.name, columns.concat());
     }
     println!();
+    let branch = points.iter().position(|point| point.name == BRANCH).map_or(f64::NAN, |k| rows[k].parts);
     for (row, point) in rows.iter().zip(points) {
-        for target in targets(point, row, copy) {
+        for target in targets(point, row, copy, branch) {
             let Target { what, ratio, bound, at_most } = target;
             let (sense, verdict) = (if at_most { "at most" } else { "at least" }, target.met());
             let verdict = if verdict { "met" } else { "NOT MET" };

@@ -1,4 +1,5 @@
-//! Answers of the Rust as points over the definitions of crate model, for antt to compute.
+//! Answers of the Rust, and of the harness's model where the Rust has no arm (loads and stores), as points over the
+//! definitions of crate model, for antt to compute.
 //!
 //!     definitions DIR [CASES] [SEED]              write the crate DIR/crates/definitions
 //!     definitions DIR [CASES] [SEED] --wrong K    the same with the reply of case K changed, which must be refused
@@ -11,6 +12,7 @@ use std::process::ExitCode;
 use std::{env, fs};
 
 use oracle::case::{Call, Instruction};
+use oracle::opcodes::is_added;
 use oracle::points::{Point, SHORT};
 use oracle::situations::{self, SITUATIONS};
 use oracle::state::{State, octabyte};
@@ -18,9 +20,6 @@ use oracle::state::{State, octabyte};
 const CASES_SPEC: &str = include_str!("../../definitions/Cases.antt.in");
 /// Cases in one file.
 const PART: usize = 50;
-/// The definitions' files, whose names antt is told to open.
-const OPENED: &str =
-    "Fill Octa Registers Memory Plan Opcodes Said Control Frames Contexts System Trips Lists Step Reader Parts";
 const OWN: &str = "counted, numbers, bytesUp, leaves, ends, reads, agrees";
 
 // ---- as antt text
@@ -108,6 +107,26 @@ fn line(point: &Point) -> String {
     }
 }
 
+/// The definitions' files that `Cases` rests on, each with its text, found by their `use` lines.
+fn definitions(folder: &str) -> std::io::Result<Vec<(String, String)>> {
+    let named = |text: &str| -> Vec<String> {
+        let file = |line: &str| {
+            let path = line.strip_prefix("use Rattle.model.specs.").or(line.strip_prefix("use Rattle.model."))?;
+            Some(path.strip_prefix("specs.")?.split('.').next()?.to_string())
+        };
+        text.lines().filter_map(file).filter(|file| file != "declared").collect()
+    };
+    let (mut waiting, mut found) = (named(CASES_SPEC), Vec::<(String, String)>::new());
+    while let Some(file) = waiting.pop() {
+        if found.iter().all(|(known, _)| *known != file) {
+            let text = fs::read_to_string(format!("{folder}/crates/model/specs/{file}.antt"))?;
+            waiting.extend(named(&text));
+            found.push((file, text));
+        }
+    }
+    Ok(found)
+}
+
 /// The names that a definition's file has for antt to open.
 fn opened(text: &str) -> Vec<&str> {
     text.lines().filter_map(|line| line.trim().strip_prefix("unfoldable pub ")?.split(" : ").next()).collect()
@@ -136,7 +155,7 @@ fn proof(models: &[(String, String)], part: usize, cases: &[String]) -> String {
 }
 
 fn spec(part: usize, points: &[Point], cases: &[String]) -> String {
-    let mut text = format!("-- Part {part} of the Rust's answers.\n");
+    let mut text = format!("-- Part {part} of the answers.\n");
     text += "use mathlib.Core.List.{List, [], _∷_}\nuse Rattle.model.specs.Step.{step, exception}\n";
     text += "use Rattle.definitions.specs.Cases.{Case, single, list, context, initial, run, state, window}\n";
     for (case, point) in cases.iter().zip(points) {
@@ -146,10 +165,7 @@ fn spec(part: usize, points: &[Point], cases: &[String]) -> String {
 }
 
 fn write(folder: &str, points: &[Point]) -> std::io::Result<()> {
-    let models: std::io::Result<Vec<(String, String)>> = (OPENED.split(' '))
-        .map(|file| Ok((file.to_string(), fs::read_to_string(format!("{folder}/crates/model/specs/{file}.antt"))?)))
-        .collect();
-    let (models, home) = (models?, format!("{folder}/crates/definitions"));
+    let (models, home) = (definitions(folder)?, format!("{folder}/crates/definitions"));
     let _ = fs::remove_dir_all(&home);
     for part in ["src", "specs", "proofs"] {
         fs::create_dir_all(format!("{home}/{part}"))?;
@@ -157,7 +173,7 @@ fn write(folder: &str, points: &[Point]) -> std::io::Result<()> {
     fs::write(format!("{folder}/crates.txt"), "model:\ndefinitions: model\n")?;
     fs::write(
         format!("{home}/src/lib.rt"),
-        "//! Answers of the Rust, computed over the definitions of crate model.\n",
+        "//! Answers of the Rust and of the harness's model, computed over the definitions of crate model.\n",
     )?;
     fs::write(format!("{home}/specs/Cases.antt"), CASES_SPEC)?;
     let mut parts = String::new();
@@ -167,16 +183,17 @@ fn write(folder: &str, points: &[Point]) -> std::io::Result<()> {
         fs::write(format!("{home}/proofs/Part{k}.antt"), proof(&models, k, &cases))?;
         parts += &format!("pub mod Part{k}\n");
     }
-    fs::write(format!("{home}/specs/Lib.antt"), format!("-- The Rust's answers.\npub mod Cases\n{parts}"))?;
+    fs::write(format!("{home}/specs/Lib.antt"), format!("-- The answers.\npub mod Cases\n{parts}"))?;
     fs::write(format!("{home}/proofs/Lib.antt"), format!("-- Each part computed.\n{parts}"))
 }
 
 fn summary(points: &mut [Point]) -> String {
-    let (mut kinds, mut items, mut replies, mut long) = ([0; 4], 0, [0; 21], 0);
+    let (mut kinds, mut items, mut transfers, mut replies, mut long) = ([0; 4], 0, 0, [0; 21], 0);
     let mut counts = [0; SITUATIONS.len()];
     for point in points {
         if let Point::Single { case, answer, .. } = point {
             situations::count(case, answer, &mut counts);
+            transfers += matches!(case.call, Call::Step(i) if is_added(i.op)) as u64;
         }
         let (kind, bytes) = match point {
             Point::Single { case, .. } => (0, case.window.len()),
@@ -194,7 +211,7 @@ fn summary(points: &mut [Point]) -> String {
     let [singles, lists, contexts, initials] = kinds;
     let (met, all) = (counts.iter().filter(|n| **n > 0).count(), SITUATIONS.len());
     format!(
-        "{singles} single steps with their needs, in {met} of {all} situations at limits; {items} steps and exceptions in \
+        "{singles} single steps with their needs, {transfers} loads and stores among them, in {met} of {all} situations at limits; {items} steps and exceptions in \
          {lists} lists; {contexts} contexts; {initials} initial state; {long} windows above {} bytes; replies 0 to 20: \
          {replies:?}",
         4 * SHORT

@@ -1,4 +1,5 @@
-//! Compare with the Rust on many cases: the library where it is linked, and the model.
+//! Compare with the Rust on many cases: the library where it is linked, and the model. For loads and stores the Rust has
+//! no arm: there the library is compared with the model alone.
 //!
 //!     differential [--cases N] [--seed S] [--threads T] [--guards pages|heap]
 //!     differential --replay LINE [--guards pages|heap]
@@ -116,6 +117,8 @@ impl Runner<'_> {
         if part == 0 && options.cases >= SWEPT_FROM {
             sweep::exceptions(&mut |case| self.run(case))?;
             sweep::frames(&mut |case| self.run(case))?;
+            sweep::operands(&mut |case| self.run(case))?;
+            sweep::limits(&mut |case| self.run(case))?;
         }
         Some(())
     }
@@ -164,8 +167,9 @@ fn differential(options: &Options) -> bool {
     found.iter().for_each(|difference| println!("DIFFERS: {difference}"));
     let names: Vec<&str> = chosen(options.guard).iter().map(|subject| subject.name()).collect();
     println!(
-        "{} cases, seed {}, Rust against {}, {:.1} s: {}",
+        "{} cases, {} of them loads and stores by the model, seed {}, Rust against {}, {:.1} s: {}",
         total.cases(),
+        total.added(),
         options.seed,
         names.join(" and "),
         began.elapsed().as_secs_f64(),

@@ -3,8 +3,9 @@
 //!     mutants [--cases N] [--jobs J] [--only TEXT]
 //!
 //! The faults are listed in mutants.txt. For each, the Rust of MMIX_RUST_SRC is copied under target/, one text
-//! in it replaced, `differential` built from it and run on N cases (200,000 unless told); it must differ. The
-//! exit status is 1 if a fault is not found or can't be made.
+//! in it replaced, `differential` built from it and run on N cases (200,000 unless told); it must differ. Where
+//! the Rust has no arm, the fault is in a copy of the harness's model, compared with the model as it is. With no
+//! fault nothing may differ. TEXT is in the fault's name or file. The exit status is 1 if a fault is not found or can't be made.
 
 use std::path::{Path, PathBuf};
 use std::process::{Command, ExitCode};
@@ -17,6 +18,13 @@ struct Fault {
     file: String,
     old: String,
     new: String,
+}
+
+impl Fault {
+    /// Whether the fault is in the model, and not in the Rust.
+    fn in_model(&self) -> bool {
+        self.file.starts_with("model/")
+    }
 }
 
 /// The faults of the list: blocks of four lines, `fault:`, `file:`, `old:`, `new:`.
@@ -60,36 +68,61 @@ struct Places {
     work: PathBuf,
 }
 
-/// Make the fault, build, run. What `differential` said where it differs; an error where it doesn't.
-fn try_fault(places: &Places, job: usize, fault: &Fault, cases: &str) -> Result<String, String> {
-    let copied = places.work.join(format!("rust-{job}"));
-    copy(&places.rust.join("src"), &copied.join("src")).map_err(|e| format!("copying the Rust: {e}"))?;
-    let file = copied.join("src").join(&fault.file);
-    let text = fs::read_to_string(&file).map_err(|e| format!("{}: {e}", file.display()))?;
-    let times = text.matches(&fault.old).count();
-    if times != 1 {
-        return Err(format!("the text occurs {times} times in {}", fault.file));
+impl Places {
+    /// A copy of the Rust or of the model with the fault in it.
+    fn faulted(&self, job: usize, fault: &Fault) -> Result<PathBuf, String> {
+        let (from, copied) = match fault.in_model() {
+            true => (self.oracle.join("src/model"), self.work.join(format!("model-{job}"))),
+            false => (self.rust.join("src"), self.work.join(format!("rust-{job}"))),
+        };
+        let folder = copied.join(if fault.in_model() { "model" } else { "src" });
+        copy(&from, &folder).map_err(|e| format!("copying {}: {e}", from.display()))?;
+        let file = if fault.in_model() { copied.join(&fault.file) } else { folder.join(&fault.file) };
+        let text = fs::read_to_string(&file).map_err(|e| format!("{}: {e}", file.display()))?;
+        let times = text.matches(&fault.old).count();
+        if times != 1 {
+            return Err(format!("the text occurs {times} times in {}", fault.file));
+        }
+        fs::write(&file, text.replace(&fault.old, &fault.new)).map_err(|e| e.to_string())?;
+        Ok(if fault.in_model() { folder } else { copied })
     }
-    fs::write(&file, text.replace(&fault.old, &fault.new)).map_err(|e| e.to_string())?;
 
-    let target = places.work.join(format!("build-{job}"));
-    let built = Command::new(env!("CARGO"))
-        .args(["build", "--quiet", "--offline", "--profile", "fault", "--package", "oracle", "--bin", "differential"])
-        .arg("--manifest-path")
-        .arg(places.oracle.join("Cargo.toml"))
-        .args(if cfg!(feature = "library") { &["--features", "library"][..] } else { &[] })
-        .env("MMIX_RUST_SRC", &copied)
-        .env("CARGO_TARGET_DIR", &target)
-        .output()
-        .map_err(|e| format!("cargo: {e}"))?;
-    if !built.status.success() {
-        return Err(format!("does not build: {}", String::from_utf8_lossy(&built.stderr)));
+    /// Build with a fault, or with none, and run. What `differential` said where it differs; an error where it doesn't.
+    fn differs(&self, job: usize, fault: Option<&Fault>, cases: &str) -> Result<String, String> {
+        let target = self.work.join(format!("build-{job}"));
+        let (mut build, mut library) = (Command::new(env!("CARGO")), cfg!(feature = "library"));
+        build.env("CARGO_TARGET_DIR", &target).env("MMIX_RUST_SRC", &self.rust).env_remove("MMIX_MODEL_SRC");
+        if let Some(fault) = fault {
+            let name = if fault.in_model() { "MMIX_MODEL_SRC" } else { "MMIX_RUST_SRC" };
+            build.env(name, self.faulted(job, fault)?);
+            library &= !fault.in_model();
+        }
+        let built = build
+            .args([
+                "build",
+                "--quiet",
+                "--offline",
+                "--profile",
+                "fault",
+                "--package",
+                "oracle",
+                "--bin",
+                "differential",
+            ])
+            .arg("--manifest-path")
+            .arg(self.oracle.join("Cargo.toml"))
+            .args(if library { &["--features", "library"][..] } else { &[] })
+            .output()
+            .map_err(|e| format!("cargo: {e}"))?;
+        if !built.status.success() {
+            return Err(format!("does not build: {}", String::from_utf8_lossy(&built.stderr)));
+        }
+        let ran = Command::new(target.join("fault/differential"))
+            .args(["--threads", "1", "--cases", cases])
+            .output()
+            .map_err(|e| format!("differential: {e}"))?;
+        found(&String::from_utf8_lossy(&ran.stdout), &String::from_utf8_lossy(&ran.stderr))
     }
-    let ran = Command::new(target.join("fault/differential"))
-        .args(["--threads", "1", "--cases", cases])
-        .output()
-        .map_err(|e| format!("differential: {e}"))?;
-    found(&String::from_utf8_lossy(&ran.stdout), &String::from_utf8_lossy(&ran.stderr))
 }
 
 /// What a run of `differential` said of a fault: the case that differs, or the panic that it led to.
@@ -123,8 +156,13 @@ fn run() -> Result<bool, String> {
     let rust = env::var_os("MMIX_RUST_SRC").map_or_else(|| oracle.join("../../shared/docs/src"), PathBuf::from);
     let work = oracle.join("../target/faults");
     let list = fs::read_to_string(oracle.join("mutants.txt")).map_err(|e| format!("mutants.txt: {e}"))?;
-    let faults: Vec<Fault> = listed(&list)?.into_iter().filter(|f| f.name.contains(&only)).collect();
+    let chosen = |f: &Fault| f.name.contains(&only) || f.file.contains(&only);
+    let faults: Vec<Fault> = listed(&list)?.into_iter().filter(chosen).collect();
     let places = Places { oracle, rust, work };
+
+    if let Ok(said) = places.differs(0, None, &cases) {
+        return Err(format!("differs without a fault: {said}"));
+    }
 
     let began = Instant::now();
     let (next, lost) = (AtomicUsize::new(0), AtomicUsize::new(0));
@@ -133,7 +171,7 @@ fn run() -> Result<bool, String> {
             let (places, faults, cases, next, lost) = (&places, &faults, &cases, &next, &lost);
             scope.spawn(move || {
                 while let Some(fault) = faults.get(next.fetch_add(1, Ordering::Relaxed)) {
-                    match try_fault(places, job, fault, cases) {
+                    match places.differs(job, Some(fault), cases) {
                         Ok(said) => println!("found      {}: {said}", fault.name),
                         Err(why) => {
                             lost.fetch_add(1, Ordering::Relaxed);

@@ -1,7 +1,7 @@
 //! The steps apart from the stack, and exceptions.
 
 use super::memory::Window;
-use super::{Outcome, stack};
+use super::{Changes, Outcome, loads, stack};
 use crate::case::Instruction;
 use crate::opcodes::*;
 use crate::state::*;
@@ -52,6 +52,8 @@ pub fn step(state: &State, i: Instruction, window: &Window) -> Outcome {
             let pc = if taken { target(state, yz, 16, backward) } else { state.pc.wrapping_add(4) };
             Outcome::done(state.clone().go_to(pc))
         }
+        LDB..=LDOUI => loads::load(state, i, window),
+        STB..=STOUI => loads::store(state, i, window),
         GO | GOI => {
             let mut after = state.clone();
             after.write_register(x, state.pc.wrapping_add(4));

@@ -1,7 +1,9 @@
 //! Document 01 as a program, written from its sentences and not from the Rust. This file has the entries and
-//! what they judge; `memory` the window, `stack` frames and contexts, `arms` the other steps.
+//! what they judge; `memory` the window, `stack` frames and contexts, `loads` loads and stores (Fascicle 1), `arms` the
+//! other steps.
 
 mod arms;
+mod loads;
 mod memory;
 mod stack;
 
@@ -49,8 +51,16 @@ impl Outcome {
     }
 }
 
-impl State {
+/// What steps do to a state.
+trait Changes {
     /// Write $X: a marginal register is claimed first.
+    fn write_register(&mut self, x: u8, value: u64);
+    fn go_to(self, pc: u64) -> Self;
+    /// Any step not said to go elsewhere goes to @ + 4.
+    fn go_on(self) -> Self;
+}
+
+impl Changes for State {
     fn write_register(&mut self, x: u8, value: u64) {
         let (rl, rg, at) = (self.special[RL], self.special[RG], x as u64);
         if rl <= at && at < rg {
@@ -65,7 +75,6 @@ impl State {
         self
     }
 
-    /// Any step not said to go elsewhere goes to @ + 4.
     fn go_on(self) -> Self {
         let pc = self.pc.wrapping_add(4);
         self.go_to(pc)

@@ -1,7 +1,7 @@
 //! Frames and saved contexts: PUSH, POP, SAVE, UNSAVE and what the context reader finds.
 
-use super::Outcome;
 use super::memory::{Window, octabyte_of, run};
+use super::{Changes, Outcome};
 use crate::state::*;
 
 /// The twelve specials of a saved context, in order.
