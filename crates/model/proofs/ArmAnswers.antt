@@ -4,27 +4,29 @@
 use mathlib.Core.Path.{_≡_, refl, ap, _∙_}
 use mathlib.Core.Logic.{_⊎_, inl, inr}
 use mathlib.Core.Bool.{Bool, true, false, cond, _&&_, _||_}
-use mathlib.Core.List.{List, []}
+use mathlib.Core.List.{List, [], _∷_}
 use Prim.Native.Nat.{ℕ, zero, suc, _+_, _-_, _*_, _%_, _^_, _≤_, _<_, max}
 use native.Mathlib.Omega.{arith}
 use lib.Dec.{leb, ltb, eqb}
-use lib.ListN.{length}
+use lib.ListN.{length, getD}
 use lib.Count.{leadingZeros, leading-le}
 use borrow.Author.Tests.{leb-true, ltb-false, eqb-true, eqb-false}
 use Rattle.model.specs.Fill.{tab}
 use Rattle.model.specs.Registers.{rG, rL, rA, rJ, sp, reg, admissible, goes, following, next, halted, withSpecial, setRegister, putLocals, putGlobals}
 use Rattle.model.specs.Memory.{Windows, Shapes, shapesOf, ruled, inside, both}
 use Rattle.model.specs.Plan.{Plan, answer, read, Outcome, perform, worst, clear, looks, puts, named}
-use Rattle.model.specs.Opcodes.{Arm, Way, forward, backward, Operand, register, immediate, branch, jump, getAddress, go, pushJump, pushGo, pop, put, get, save, unsave, sync, swym, trip, trap, none, armOf}
+use Rattle.model.specs.Opcodes.{Width, Sign, signed, unsigned, Arm, Way, forward, backward, Operand, register, immediate, branch, jump, getAddress, go, pushJump, pushGo, pop, put, get, save, unsave, sync, swym, trip, trap, load, store, none, armOf}
 use Rattle.model.specs.NoMemory.{say, Said, tell}
 use Rattle.model.specs.Control.{targetOf, near, far, yzOf, xyzOf, sumOf, operandOf, holds}
 use Rattle.model.specs.Frames.{hole, framed, pushed, pushFrame, popped, popTo, popRule, noFrame, misplaced, popFrame}
 use Rattle.model.specs.Contexts.{extent, saved, savedState, saveContext, unsaved, contextRest, contextCount, contextAt, unsaveContext}
 use Rattle.model.specs.System.{isPrivileged, isIllegal, putRefusal, putState, putSpecial, got, syncOf}
 use Rattle.model.specs.Trips.{wordOf, tripped, trapped, isLoaded, tripRule, tripTo, trapOf, enabled, withAdded, raised}
+use Rattle.model.specs.LoadStore.{fits, loadFrom, flagV, storeSays, storeTo}
 use Rattle.model.specs.Step.{isNamed, refusalOf, unruledBy, judged, refusing, planOf, guarded, fromThree, stepPlan, exceptionOf}
 use Rattle.model.specs.Numbers.{Early, Lost, Halting}
 use Rattle.model.specs.declared.State.{State}
+use Rattle.model.proofs.LoadStore.{operand-small, extended-small}
 use Rattle.model.proofs.Bools.{and-left, and-right, or-left, or-right, eqb-swap, on}
 
 unfoldable pub Answers : {S : Type 0} → (List ℕ → Type 0) → (ℕ → S → List ℕ → Type 0) → Plan S → Type 0
@@ -47,11 +49,23 @@ pub record Meets (s : State) (W : ℕ → Type 0) (Read : List ℕ → Type 0) (
   pub pops : (x t h : ℕ) (ls : List ℕ) → W t → Read ls → R 0 (goes (popped s x h ls) t) []
   pub saves : (x t : ℕ) → sp s rG ≤ x → W t → R 0 (goes (savedState s x) t) (tab 0 (extent s) (saved s))
   pub unsaves : (o g a l : ℕ) (vs : List ℕ) (t : ℕ) → W t → W o → 32 ≤ g → g ≤ 255 → a ≤ 0x3FFFF → l ≤ g → Read vs → R 0 (goes (unsaved s o g a l vs) t) []
+  pub stores : (v a : ℕ) → W a → R 0 (goes s a) (v ∷ [])
 
--- of an instruction op x y z whose operands are u and v: the trip, the trip that finds no vector, the trap
-pub record MeetsTrip (s : State) (W : ℕ → Type 0) (R : ℕ → State → List ℕ → Type 0) (n u v : ℕ) : Type 0 where
-  pub trips : (a : ℕ) → W a → R 0 (goes (tripped s n u v) a) []
-  pub trips-not : R 19 (halted (tripped s n u v)) []
+-- of an instruction of word n whose operands are u and v: the trip, the trip that finds no vector. What is stored is said elsewhere
+pub record MeetsTrip (s : State) (W : ℕ → Type 0) (R : ℕ → State → Type 0) (n u v : ℕ) : Type 0 where
+  pub trips : (a : ℕ) → W a → R 0 (goes (tripped s n u v) a)
+  pub trips-not : R 19 (halted (tripped s n u v))
+
+-- of one that raises the flags f: what is added to rA, then the trip
+pub record MeetsRaise (s : State) (W : ℕ → Type 0) (R : ℕ → State → Type 0) (f n u v : ℕ) : Type 0 where
+  pub adds : (a : ℕ) → W a → R 0 (goes (withAdded s f) a)
+  pub takes : MeetsTrip (withAdded s f) W R n u v
+
+-- of an instruction op x y z of arm a: TRIP, TRAP, a store that raises V
+pub record MeetsInterrupt (s : State) (W : ℕ → Type 0) (R : ℕ → State → List ℕ → Type 0) (a : Arm) (op x y z : ℕ) : Type 0 where
+  pub trips : a ≡ trip → MeetsTrip s W (λ r t. R r t []) (wordOf op x y z) (reg s y) (reg s z)
+  pub traps : a ≡ trap → R 20 (halted (trapped s (wordOf op x y z) (reg s y) (reg s z))) []
+  pub stores : (d : Width) (o : Operand) → a ≡ store d signed o → (v : ℕ) → MeetsRaise s W (λ r t. R r t (v ∷ [])) flagV (wordOf op x y z) (sumOf s o y z) (reg s x)
 
 small : (n : ℕ) → n % 2 ^ 64 < 2 ^ 64
 small n = omega arith
@@ -97,14 +111,23 @@ put-range s x v e = pick (putRefusal s x v) (eqb-false _ _ e) (put-bound s x v)
 
 -- ---- the arms
 
-module _ (s : State) (W : ℕ → Type 0) (R : ℕ → State → List ℕ → Type 0) where
-  abbrev Tells : Said → Type 0
-  Tells d = R (d .reply) (d .state) []
+abbrev Tells : (ℕ → State → Type 0) → Said → Type 0
+Tells R d = R (d .reply) (d .state)
 
+module _ (s : State) (W : ℕ → Type 0) (R : ℕ → State → Type 0) (word : (n : ℕ) → n < 2 ^ 64 → W n) where
   -- a trip through vector k, for TRIP and for exceptions
-  pub trip-meets : (k n u v : ℕ) → W (16 * k) → MeetsTrip s W R n u v → Tells (tripTo s k n u v)
+  trip-meets : (k n u v : ℕ) → k ≤ 9 → MeetsTrip s W R n u v → Tells R (tripTo s k n u v)
   unfolding tripTo tripRule
-  trip-meets k n u v b m = on {A = Said} Tells (isLoaded s k) (λ e. m .trips (16 * k) b) (λ e. m .trips-not)
+  trip-meets k n u v b m = on {A = Said} (Tells R) (isLoaded s k) (λ e. m .trips (16 * k) (word _ (omega arith))) (λ e. m .trips-not)
+
+-- what is added to rA, then the trip or @ + 4
+pub raised-meets : (s : State) (W : ℕ → Type 0) (R : ℕ → State → Type 0) → ((n : ℕ) → n < 2 ^ 64 → W n)
+    → (f n u v : ℕ) → MeetsRaise s W R f n u v → Tells R (raised s f n u v)
+unfolding raised
+raised-meets s W R word f n u v m =
+    on {A = Said} (Tells R) (eqb (enabled s f) 0) (λ g. m .adds _ (word _ (small _)))
+    (λ g. let l : leadingZeros 8 (enabled s f) ≤ 8 = leading-le 8 (enabled s f) in
+    trip-meets (withAdded s f) W R word (leadingZeros 8 (enabled s f) + 1) n u v (omega arith) (m .takes))
 
 module _ (s : State) (W : ℕ → Type 0) (Read : List ℕ → Type 0) (R : ℕ → State → List ℕ → Type 0) (m : Meets s W Read R) where
   onward : (t : State) → W (following t)
@@ -126,17 +149,17 @@ module _ (s : State) (W : ℕ → Type 0) (Read : List ℕ → Type 0) (R : ℕ 
       last el eg true ea = rw (eqb-true x rA ea) (m .status v _ (put-status s v (rw (eqb-true x rA ea) at p)) (onward (withSpecial s rA v)))
       last el eg false ea = m .other x v _ (eqb-swap x rG eg) (eqb-swap x rL el) (eqb-swap x rA ea) w (onward (withSpecial s x v))
 
-  put-meets : (x v : ℕ) → W v → Tells s W R (putSpecial s x v)
+  put-meets : (x v : ℕ) → W v → Tells (λ r t. R r t []) (putSpecial s x v)
   unfolding putSpecial
   put-meets x v w =
-      on {A = Said} (Tells s W R) (eqb (putRefusal s x v) 0) (λ e. putState-meets x v w (eqb-true _ _ e))
+      on {A = Said} (Tells (λ r t. R r t [])) (eqb (putRefusal s x v) 0) (λ e. putState-meets x v w (eqb-true _ _ e))
       (λ e. m .halts (putRefusal s x v) (put-range s x v e))
 
-  sync-meets : (n : ℕ) → Tells s W R (syncOf s n)
+  sync-meets : (n : ℕ) → Tells (λ r t. R r t []) (syncOf s n)
   unfolding syncOf
   sync-meets n =
-      on {A = Said} (Tells s W R) (ltb 7 n) (λ e. m .halts 18 (omega arith, omega arith))
-      (λ e. on {A = Said} (Tells s W R) (leb 4 n) (λ e. m .halts 17 (omega arith, omega arith)) (λ e. m .moves _ (onward s)))
+      on {A = Said} (Tells (λ r t. R r t [])) (ltb 7 n) (λ e. m .halts 18 (omega arith, omega arith))
+      (λ e. on {A = Said} (Tells (λ r t. R r t [])) (leb 4 n) (λ e. m .halts 17 (omega arith, omega arith)) (λ e. m .moves _ (onward s)))
 
   pop-meets : (x t : ℕ) → W t → Answers Read R (popFrame s x t)
   unfolding popFrame popRule popTo tell Answers
@@ -171,30 +194,47 @@ module _ {S : Type 0} (bad : S) (found : ℕ → ℕ → ℕ → ℕ → List �
   context-meets = (refl, λ v j. count-meets _ _)
 
 module _ (s : State) (W : ℕ → Type 0) (Read : List ℕ → Type 0) (R : ℕ → State → List ℕ → Type 0) (m : Meets s W Read R) where
-  -- the sixteen arms
-  pub plan-meets : (a : Arm) (op x y z : ℕ) → W z → MeetsTrip s W R (wordOf op x y z) (reg s y) (reg s z) → R 20 (halted (trapped s (wordOf op x y z) (reg s y) (reg s z))) []
-      → Answers Read R (planOf s a op x y z)
+  load-meets : (d : Width) (g : Sign) (x a : ℕ) → Answers Read R (loadFrom s d g x a)
+  unfolding loadFrom Answers
+  load-meets d g x a = (refl, λ v j. m .writes x _ _ (m .word _ (extended-small d g _ (operand-small d a (getD v 0 0)))) (onward s W Read R m (setRegister s x _)))
+
+  says-meets : (d : Width) (g : Sign) (x a n v : ℕ) → (g ≡ signed → MeetsRaise s W (λ r t. R r t (v ∷ [])) flagV n a (reg s x))
+      → Tells (λ r t. R r t (v ∷ [])) (storeSays s d g x a n)
+  unfolding storeSays fits
+  says-meets d signed x a n v h =
+      on {A = Said} (Tells (λ r t. R r t (v ∷ []))) (fits d signed (reg s x)) (λ e. m .stores v _ (onward s W Read R m s))
+      (λ e. raised-meets s W (λ r t. R r t (v ∷ [])) (m .word) flagV n a (reg s x) (h refl))
+  says-meets d unsigned x a n v h = m .stores v _ (onward s W Read R m s)
+
+  store-meets : (d : Width) (g : Sign) (x a n : ℕ) → (g ≡ signed → (v : ℕ) → MeetsRaise s W (λ r t. R r t (v ∷ [])) flagV n a (reg s x)) → Answers Read R (storeTo s d g x a n)
+  unfolding storeTo Answers
+  store-meets d g x a n h = (refl, λ v j. says-meets d g x a n _ (λ e. h e _))
+
+  -- the eighteen arms
+  pub plan-meets : (a : Arm) (op x y z : ℕ) → W z → MeetsInterrupt s W R a op x y z → Answers Read R (planOf s a op x y z)
   unfolding planOf tell Answers pushFrame trapOf got unsaveContext
-  plan-meets (branch c d) op x y z wz mt mr =
+  plan-meets (branch c d) op x y z wz mi =
       on (λ (t : State). R 0 t []) (holds c (reg s x)) (λ e. m .moves (near s d y z) (m .word _ (target-small (s .pc) d 65536 (yzOf y z))))
       (λ e. m .moves (following s) (onward s W Read R m s))
-  plan-meets (jump d) op x y z wz mt mr = m .moves (far s d x y z) (m .word _ (target-small (s .pc) d 16777216 (xyzOf x y z)))
-  plan-meets (getAddress d) op x y z wz mt mr =
+  plan-meets (jump d) op x y z wz mi = m .moves (far s d x y z) (m .word _ (target-small (s .pc) d 16777216 (xyzOf x y z)))
+  plan-meets (getAddress d) op x y z wz mi =
       m .writes x (near s d y z) _ (m .word _ (target-small (s .pc) d 65536 (yzOf y z))) (onward s W Read R m (setRegister s x (near s d y z)))
-  plan-meets (go o) op x y z wz mt mr = m .writes x (following s) (sumOf s o y z) (onward s W Read R m s) (m .word _ (small (reg s y + operandOf s o z)))
-  plan-meets (pushJump d) op x y z wz mt mr = m .pushes x (near s d y z) (m .word _ (target-small (s .pc) d 65536 (yzOf y z)))
-  plan-meets (pushGo o) op x y z wz mt mr = m .pushes x (sumOf s o y z) (m .word _ (small (reg s y + operandOf s o z)))
-  plan-meets pop op x y z wz mt mr = pop-meets s W Read R m x _ (m .word _ (small (sp s rJ + 4 * yzOf y z)))
-  plan-meets (put o) op x y z wz mt mr = put-meets s W Read R m x (operandOf s o z) (operand-is s W Read R m o z wz)
-  plan-meets get op x y z wz mt mr = m .writes x (sp s z) _ (m .special-is z) (onward s W Read R m (setRegister s x (sp s z)))
-  plan-meets save op x y z wz mt mr = save-meets s W Read R m x
-  plan-meets unsave op x y z wz mt mr =
+  plan-meets (go o) op x y z wz mi = m .writes x (following s) (sumOf s o y z) (onward s W Read R m s) (m .word _ (small (reg s y + operandOf s o z)))
+  plan-meets (pushJump d) op x y z wz mi = m .pushes x (near s d y z) (m .word _ (target-small (s .pc) d 65536 (yzOf y z)))
+  plan-meets (pushGo o) op x y z wz mi = m .pushes x (sumOf s o y z) (m .word _ (small (reg s y + operandOf s o z)))
+  plan-meets pop op x y z wz mi = pop-meets s W Read R m x _ (m .word _ (small (sp s rJ + 4 * yzOf y z)))
+  plan-meets (put o) op x y z wz mi = put-meets s W Read R m x (operandOf s o z) (operand-is s W Read R m o z wz)
+  plan-meets get op x y z wz mi = m .writes x (sp s z) _ (m .special-is z) (onward s W Read R m (setRegister s x (sp s z)))
+  plan-meets save op x y z wz mi = save-meets s W Read R m x
+  plan-meets unsave op x y z wz mi =
       context-meets (halted s) _ (reg s z) Read R (λ n a b. m .halts n (omega arith, omega arith)) (λ o g a l vs c. m .unsaves o g a l vs _ (onward s W Read R m (unsaved s o g a l vs)) (m .word o c))
-  plan-meets sync op x y z wz mt mr = sync-meets s W Read R m (xyzOf x y z)
-  plan-meets swym op x y z wz mt mr = m .moves (following s) (onward s W Read R m s)
-  plan-meets trip op x y z wz mt mr = trip-meets s W R 0 (wordOf op x y z) (reg s y) (reg s z) (m .word _ (omega arith)) mt
-  plan-meets trap op x y z wz mt mr = mr
-  plan-meets none op x y z wz mt mr = m .refuses 3 (omega arith, omega arith)
+  plan-meets sync op x y z wz mi = sync-meets s W Read R m (xyzOf x y z)
+  plan-meets swym op x y z wz mi = m .moves (following s) (onward s W Read R m s)
+  plan-meets trip op x y z wz mi = trip-meets s W (λ r t. R r t []) (m .word) 0 (wordOf op x y z) (reg s y) (reg s z) (omega arith) (mi .trips refl)
+  plan-meets trap op x y z wz mi = mi .traps refl
+  plan-meets (load d g o) op x y z wz mi = load-meets d g x (sumOf s o y z)
+  plan-meets (store d g o) op x y z wz mi = store-meets d g x (sumOf s o y z) (wordOf op x y z) (λ e. mi .stores d o (ap (λ (h : Sign). store d h o) e))
+  plan-meets none op x y z wz mi = m .refuses 3 (omega arith, omega arith)
 
 refusal-most : (a : Arm) (x y z : ℕ) → refusalOf a x y z ≤ 5
 unfolding refusalOf
@@ -214,6 +254,8 @@ refusal-most unsave x y z = omega arith
 refusal-most sync x y z = omega arith
 refusal-most swym x y z = omega arith
 refusal-most trip x y z = omega arith
+refusal-most (load d g o) x y z = omega arith
+refusal-most (store d g o) x y z = omega arith
 
 pub judged-most : (s : State) (w : Shapes) (a : Arm) (x y z : ℕ) → judged s w a x y z ≤ 5
 unfolding judged unruledBy
@@ -262,18 +304,12 @@ step-meets s w Read R refuses op x y z met =
         go true e = refl
         go false e = absurd (omega arith)
 
--- an exception: 1, or what is added to rA and then the trip or @ + 4
-pub exception-meets : (s : State) (W : ℕ → Type 0) (R : ℕ → State → List ℕ → Type 0) (f op x y z u v : ℕ) → ((n : ℕ) → n < 2 ^ 64 → W n) → R 1 s []
-    → (admissible s ≡ true → ((a : ℕ) → W a → R 0 (goes (withAdded s f) a) []) × MeetsTrip (withAdded s f) W R (wordOf op x y z) u v)
-    → R (exceptionOf s f op x y z u v .reply) (exceptionOf s f op x y z u v .state) []
-unfolding exceptionOf raised
+-- an exception: 1, or what is raised
+pub exception-meets : (s : State) (W : ℕ → Type 0) (R : ℕ → State → Type 0) (f op x y z u v : ℕ) → ((n : ℕ) → n < 2 ^ 64 → W n) → R 1 s
+    → (admissible s ≡ true → MeetsRaise s W R f (wordOf op x y z) u v) → Tells R (exceptionOf s f op x y z u v)
+unfolding exceptionOf
 exception-meets s W R f op x y z u v word refused met =
-    on {A = Said} (λ d. R (d .reply) (d .state) []) (admissible s)
-    (λ e. on {A = Said} (λ d. R (d .reply) (d .state) []) (eqb (enabled s f) 0)
-    (λ g. met e .0 _ (word _ (small _)))
-    (λ g. let l : leadingZeros 8 (enabled s f) ≤ 8 = leading-le 8 (enabled s f) in
-    trip-meets (withAdded s f) W R (leadingZeros 8 (enabled s f) + 1) (wordOf op x y z) u v (word _ (omega arith)) (met e .1)))
-    (λ e. refused)
+    on {A = Said} (Tells R) (admissible s) (λ e. raised-meets s W R word f (wordOf op x y z) u v (met e)) (λ e. refused)
 
 -- ---- what a plan comes to
 

@@ -1,4 +1,4 @@
--- Theorems 6, 10 and 11: the points, 01's and more, and the examples of the departures, carried through the definitions by one result that antt
+-- Theorems 6, 10, 11 and 12: the points, 01's and more, those of loads and stores, and the examples of the departures, carried through the definitions by one result that antt
 -- computes.
 use mathlib.Core.Path.{refl}
 use lib.Count.{leadingZeros}
@@ -7,24 +7,26 @@ use Rattle.model.specs.Octa.{octa, part, written, valueOf, bytesOf}
 use Rattle.model.specs.Registers.{admissible, fresh, goes, halted, withSpecial, cleared, claimLocal, stored, setRegister, putLocals, putGlobals, spilled}
 use Rattle.model.specs.Memory.{shapeOf, ruled, offset, has, octaBytes, writeOcta, one}
 use Rattle.model.specs.Plan.{worst, named, look, looks, puts, perform, mapPlan}
-use Rattle.model.specs.Opcodes.{conditionOf, armOf}
+use Rattle.model.specs.Opcodes.{widthOf, signOf, conditionOf, armOf}
 use Rattle.model.specs.NoMemory.{tell}
 use Rattle.model.specs.Control.{targetOf, holds}
 use Rattle.model.specs.Frames.{hole, framed, slid, slide, pushedRule, pushed, pushFrame, countOf, lastOutput, restored, unslide, popped, popTo, popRule, framedRule, noFrame, misplaced, popFrame}
 use Rattle.model.specs.Contexts.{savedSpecial, saved, savedUnspilled, savedState, saveContext, unsavedGeneral, unsavedSpecial, unsavedUnspilled, unsaved, contextRest, contextCount, contextAt, unsaveContext}
 use Rattle.model.specs.System.{putRefusal, putState, putSpecial, got, gotRule, syncOf}
 use Rattle.model.specs.Trips.{interrupted, tripRule, tripTo, trapRule, trapOf, leftmost, added, exactUnderflow, addedRule, withAdded, raised}
+use Rattle.model.specs.LoadStore.{bytesIn, unitAt, operandIn, merged, extended, fits, loadFrom, storeSays, storeTo}
 use Rattle.model.specs.Reader.{partAt, readContext}
 use Rattle.model.specs.Lists.{stepOn, runs}
 use Rattle.model.specs.Step.{refusalOf, unruledBy, judged, refusing, planOf, guarded, fromThree, stepPlan, stepOf, exceptionOf, itemPlan, mmix}
-use Rattle.model.specs.Rules.{readRule, pushRule, belowTop, poppedRule, popHoleRule, popAnyRule, unsavedGeneralRule, unsavedSpecialRule, unsavedRule, unsaveRestRule, unsaveCountRule, unsaveRule, ruleOf, stepRule, withAddedRule, raisedRule, exceptionRule, counted}
+use Rattle.model.specs.Rules.{readRule, pushRule, belowTop, poppedRule, popHoleRule, popAnyRule, unsavedGeneralRule, unsavedSpecialRule, unsavedRule, unsaveRestRule, unsaveCountRule, unsaveRule, loadRule, storeState, storeRule, ruleOf, stepRule, withAddedRule, raisedRule, exceptionRule, counted}
 use Rattle.model.specs.Bench.{start, shows, met, allMet, points, PointsMet}
 use Rattle.model.specs.Points.{ruledShapes, numbered, freshIs, readerPoints, morePoints, MorePointsMet}
+use Rattle.model.specs.LoadStorePoints.{loadStorePoints, LoadStorePointsMet}
 use Rattle.model.specs.DepartureExamples.{shown, allShown, shownException, allShownExceptions, examples, exceptionExamples, cutExamples, countExample, ExamplesShown}
 
-computed : PointsMet × MorePointsMet × ExamplesShown
-unfolding leadingZeros over indexed within tab octa part written valueOf bytesOf admissible fresh goes halted withSpecial cleared claimLocal stored setRegister putLocals putGlobals spilled shapeOf ruled offset has octaBytes writeOcta one worst named look looks puts perform conditionOf armOf tell targetOf holds hole framed slid slide pushedRule pushed pushFrame countOf lastOutput restored unslide popped popTo popRule noFrame misplaced popFrame savedSpecial saved savedUnspilled savedState saveContext unsavedGeneral unsavedSpecial unsavedUnspilled unsaved contextRest contextCount contextAt unsaveContext putRefusal putState putSpecial got syncOf interrupted tripRule tripTo trapOf added withAdded raised stepOn runs refusalOf unruledBy judged refusing planOf guarded fromThree stepPlan exceptionOf itemPlan mmix start shows met allMet points framedRule gotRule trapRule leftmost exactUnderflow addedRule mapPlan stepOf readRule pushRule belowTop poppedRule popHoleRule popAnyRule unsavedGeneralRule unsavedSpecialRule unsavedRule unsaveRestRule unsaveCountRule unsaveRule ruleOf stepRule withAddedRule raisedRule exceptionRule ruledShapes numbered freshIs readerPoints partAt readContext morePoints shown allShown shownException allShownExceptions examples exceptionExamples cutExamples countExample counted
-computed = (refl, (refl, refl, refl, refl, refl), (refl, refl, refl, refl))
+computed : PointsMet × MorePointsMet × ExamplesShown × LoadStorePointsMet
+unfolding leadingZeros over indexed within tab octa part written valueOf bytesOf admissible fresh goes halted withSpecial cleared claimLocal stored setRegister putLocals putGlobals spilled shapeOf ruled offset has octaBytes writeOcta one worst named look looks puts perform conditionOf armOf tell targetOf holds hole framed slid slide pushedRule pushed pushFrame countOf lastOutput restored unslide popped popTo popRule noFrame misplaced popFrame savedSpecial saved savedUnspilled savedState saveContext unsavedGeneral unsavedSpecial unsavedUnspilled unsaved contextRest contextCount contextAt unsaveContext putRefusal putState putSpecial got syncOf interrupted tripRule tripTo trapOf added withAdded raised stepOn runs refusalOf unruledBy judged refusing planOf guarded fromThree stepPlan exceptionOf itemPlan mmix start shows met allMet points framedRule gotRule trapRule leftmost exactUnderflow addedRule mapPlan stepOf readRule pushRule belowTop poppedRule popHoleRule popAnyRule unsavedGeneralRule unsavedSpecialRule unsavedRule unsaveRestRule unsaveCountRule unsaveRule ruleOf stepRule withAddedRule raisedRule exceptionRule ruledShapes numbered freshIs readerPoints partAt readContext morePoints shown allShown shownException allShownExceptions examples exceptionExamples cutExamples countExample counted widthOf signOf bytesIn unitAt operandIn merged extended fits loadFrom storeSays storeTo loadRule storeState storeRule loadStorePoints
+computed = (refl, (refl, refl, refl, refl, refl), (refl, refl, refl, refl), refl)
 
 pub points-met : PointsMet
 points-met = computed .0
@@ -34,3 +36,6 @@ more-points-met = computed .1
 
 pub examples-shown : ExamplesShown
 examples-shown = computed .2
+
+pub load-store-points-met : LoadStorePointsMet
+load-store-points-met = computed .3

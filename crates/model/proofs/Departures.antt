@@ -1,26 +1,20 @@
 -- The departures one by one, and the theorem: step and rule are equal outside the condition that each departure names. The whole step is in RuleStep.
-use mathlib.Core.Path.{_≡_, refl, sym, ap, _∙_}
+use mathlib.Core.Path.{_≡_, refl, sym, _∙_}
 use mathlib.Core.Logic.{_≢_}
-use mathlib.Core.Bool.{Bool, true, false, cond}
 use mathlib.Core.List.{List}
-use Prim.Native.Nat.{ℕ, zero, suc, _+_, _-_, _*_, _/_, _%_, _^_, _≤_, _<_, min}
+use Prim.Native.Nat.{ℕ, _+_, _-_, _%_, _^_, _<_}
 use native.Mathlib.Omega.{arith}
-use lib.Dec.{eqb}
-use lib.Bits.{bitAnd, and-step, and-le-r}
-use lib.Count.{leadingZeros}
 use lib.ListN.{set}
 use lib.Seq.{set-getD, getD-set-other}
-use Rattle.model.specs.Registers.{withParts, rC, rO, rS, rI, rU, rK, sp, Words, MarginalZero, admissible, goes, next, halted, withSpecial, spilled}
-use Rattle.model.specs.Opcodes.{register, immediate, Arm, branch, jump, getAddress, go, pushJump, pushGo, pop, put, get, save, unsave, sync, swym, trip, trap, none}
-use Rattle.model.specs.NoMemory.{Said, say}
-use Rattle.model.specs.Trips.{wordOf, isLoaded, trapped, trapRule, trapOf, enables, enabled, leftmost, added, exactUnderflow, addedRule, withAdded, raised}
-use Rattle.model.specs.Step.{exceptionOf}
-use Rattle.model.specs.Rules.{withAddedRule, raisedRule, exceptionRule, counted}
-use Rattle.model.specs.Departures.{ReadsAlike, OutsideException, Departures}
+use Rattle.model.specs.Registers.{withParts, rC, rO, rS, rI, rU, rK, sp, Words, MarginalZero, goes, halted, withSpecial, spilled}
+use Rattle.model.specs.Opcodes.{register, immediate, Arm, branch, jump, getAddress, go, pushJump, pushGo, pop, put, get, save, unsave, sync, swym, trip, trap, load, store, none}
+use Rattle.model.specs.Trips.{trapped, trapRule, trapOf}
+use Rattle.model.specs.Rules.{counted}
+use Rattle.model.specs.Departures.{ReadsAlike, Departures}
 use Rattle.model.specs.declared.State.{State}
-use Rattle.model.proofs.Bools.{on-both}
 use Rattle.model.proofs.Rules.{read-zero, frame-reads, frame-same, got-same, unsave-same}
-use Rattle.model.proofs.RuleStep.{pop-framed, trip-same, step-same, spilled-same, rule-settled}
+use Rattle.model.proofs.RaisedRule.{added-same, trip-same, exception-same}
+use Rattle.model.proofs.RuleStep.{pop-framed, step-same, spilled-same, rule-settled}
 
 -- ---- rS moves with rO
 
@@ -50,52 +44,11 @@ all-read s sync x y z m = tt
 all-read s swym x y z m = tt
 all-read s trip x y z m = (read-zero s y m, read-zero s z m)
 all-read s trap x y z m = (read-zero s y m, read-zero s z m)
+all-read s (load d g register) x y z m = (read-zero s y m, read-zero s z m)
+all-read s (load d g immediate) x y z m = read-zero s y m
+all-read s (store d g register) x y z m = (read-zero s x m, read-zero s y m, read-zero s z m)
+all-read s (store d g immediate) x y z m = (read-zero s x m, read-zero s y m)
 all-read s none x y z m = tt
-
--- ---- exceptions
-
--- all bits but those of e, and a's share of them: the bits above the lowest, and the lowest
-but-half : (n e : ℕ) → e < 2 ^ suc n → (2 ^ suc n - 1 - e) / 2 ≡ 2 ^ n - 1 - e / 2
-but-half n e h = omega arith
-
-but-bit : (n e : ℕ) → e < 2 ^ suc n → (2 ^ suc n - 1 - e) % 2 ≡ 1 - e % 2
-but-bit n e h = omega arith
-
-and-but-step : (n a e : ℕ) → e < 2 ^ suc n → bitAnd a (2 ^ suc n - 1 - e) ≡ bitAnd (a / 2) (2 ^ n - 1 - e / 2) * 2 + min (a % 2) (1 - e % 2)
-and-but-step n a e h = and-step a (2 ^ suc n - 1 - e) ∙ rw (but-half n e h, but-bit n e h)
-
--- the bits of a that are not in e are those that are not in both: bit by bit
-and-but : (n a e : ℕ) → e < 2 ^ n → bitAnd a (2 ^ n - 1 - e) ≡ bitAnd a (2 ^ n - 1 - bitAnd a e)
-and-but zero a e h = ap (bitAnd a) (omega arith)
-and-but (suc n) a e h =
-    let c : bitAnd a e ≤ e = and-le-r a e in
-    let s : bitAnd a e ≡ bitAnd (a / 2) (e / 2) * 2 + min (a % 2) (e % 2) = and-step a e in
-    let q : bitAnd a e / 2 ≡ bitAnd (a / 2) (e / 2) = omega arith in
-    let r : bitAnd (a / 2) (2 ^ n - 1 - e / 2) ≡ bitAnd (a / 2) (2 ^ n - 1 - bitAnd a e / 2) = and-but n (a / 2) (e / 2) (omega arith) ∙ rw q in
-    and-but-step n a e h ∙ omega arith ∙ sym (and-but-step n a (bitAnd a e) (omega arith))
-
-added-same : (s : State) (f : ℕ) → enabled s f ≡ leftmost (enabled s f) → exactUnderflow s f ≡ false → added s f ≡ addedRule s f
-unfolding added addedRule
-added-same s f e n = rw (n, ← e) (and-but 8 (f % 256) (enables s) (omega arith))
-
-with-added : (s : State) (f : ℕ) → OutsideException s f → withAdded s f ≡ withAddedRule s f
-unfolding withAdded withAddedRule
-with-added s f h = rw (added-same s f (h .one-enabled) (h .inexact))
-
-exception-same : (s : State) (f op x y z u v : ℕ) → OutsideException s f → exceptionOf s f op x y z u v ≡ exceptionRule s f op x y z u v
-unfolding exceptionOf exceptionRule raised raisedRule
-exception-same s f op x y z u v h =
-    rw (← with-added s f h) (on-both (λ (a b : Said). a ≡ b) (admissible s)
-    (λ p. taken (eqb (enabled s f) 0) (λ e. trip-same (withAdded s f) (leadingZeros 8 (enabled s f) + 1) (wordOf op x y z) u v (loaded e)))
-    (λ p. refl))
-  where
-    loaded : eqb (enabled s f) 0 ≡ false → isLoaded (withAdded s f) (leadingZeros 8 (enabled s f) + 1) ≡ true
-    loaded e = unfold withAdded withSpecial in h .loaded e
-
-    taken : (b : Bool) {t : Said} {r : State} → (b ≡ false → t ≡ say 0 r)
-        → cond b (say 0 (next (withAdded s f))) t ≡ say 0 (cond b (next (withAdded s f)) r)
-    taken true k = refl
-    taken false k = k refl
 
 -- ---- traps
 

@@ -1,10 +1,15 @@
 -- Theorem 2: what every step and every exception keeps.
-use mathlib.Core.Path.{_≡_}
+use mathlib.Core.Path.{_≡_, refl}
 use mathlib.Core.Bool.{true}
-use Rattle.model.specs.Registers.{Sized, admissible, MarginalZero}
+use Prim.Native.Nat.{ℕ}
+use Rattle.model.specs.Registers.{Sized, admissible, MarginalZero, goes, halted, withSpecial, stored, cleared, isMarginal, claimLocal, setRegister, putLocals, putGlobals, spilled}
 use Rattle.model.specs.Memory.{both}
+use Rattle.model.specs.Frames.{slide, pushedRule, pushed, unslide, popped}
+use Rattle.model.specs.Contexts.{savedUnspilled, savedState, unsavedUnspilled, unsaved}
+use Rattle.model.specs.Trips.{interrupted, withAdded}
 use Rattle.model.specs.Invariants.{ItemsKeep}
 use Rattle.model.specs.declared.State.{State}
+use Rattle.model.proofs.Bools.{on}
 use Rattle.model.proofs.ItemInvariant.{Keeps, item-keeps, item-always}
 use Rattle.model.proofs.MarginalKept.{Calm, calm-keeps}
 use Rattle.model.proofs.WordsKept.{item-words, item-bytes}
@@ -28,6 +33,26 @@ good-keeps = record {
   adds = added-good;
 }
 
+-- no builder touches the marks
+marks-keep : (m : ℕ) → Keeps (λ t. t .marks ≡ m)
+unfolding goes halted setRegister stored claimLocal putLocals putGlobals withSpecial cleared pushed pushedRule slide popped unslide savedState savedUnspilled unsaved unsavedUnspilled spilled interrupted withAdded
+marks-keep m = record {
+  at-pc = λ s a e. e;
+  at-halt = λ s e. e;
+  write = λ s x v e. on (λ (t : State). t .marks ≡ m) (isMarginal s x) (λ f. e) (λ f. e);
+  locals = λ s v e. e;
+  globals = λ s v a b c e. e;
+  status = λ s v a e. e;
+  other = λ s k v a b c e. e;
+  pushes = λ s h e. e;
+  pops = λ s x h ls e. e;
+  saves = λ s x a e. e;
+  unsaves = λ s o g a l vs b c d f e. e;
+  trips = λ s word u v e. e;
+  traps = λ s word u v e. e;
+  adds = λ s f e. e;
+}
+
 good : (s : State) → Sized s → admissible s ≡ true → Good s
 good s n e = record { size = n; admits = adm s e }
 
@@ -37,6 +62,8 @@ items-keep = record {
   admitted = λ w s i n e. item-always (λ t. admissible t ≡ true) w s i e (item-keeps (λ t. admissible t ≡ true) Good good-keeps (λ t g. adm-of t (g .admits)) s (both .shape w) i (good s n) e);
   marginal = λ w s i n m. item-always MarginalZero w s i m
       (item-keeps MarginalZero Calm calm-keeps (λ t c. record { zero-at = c .zero-at }) s (both .shape w) i (λ e. record { good = good s n e; zero-at = m .zero-at }) m);
+  marks = λ w s i. item-always (λ t. t .marks ≡ s .marks) w s i refl
+      (item-keeps (λ t. t .marks ≡ s .marks) (λ t. t .marks ≡ s .marks) (marks-keep (s .marks)) (λ t e. e) s (both .shape w) i (λ e. refl) refl);
   words = item-words;
   bytes = item-bytes;
 }

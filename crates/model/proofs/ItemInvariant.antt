@@ -7,17 +7,18 @@ use lib.Dec.{eqb}
 use Rattle.model.specs.Registers.{rG, rL, rA, sp, admissible, goes, halted, withSpecial, setRegister, putLocals, putGlobals}
 use Rattle.model.specs.Memory.{Windows, Shapes, both}
 use Rattle.model.specs.Plan.{Plan, answer, read}
-use Rattle.model.specs.Opcodes.{armOf}
+use Rattle.model.specs.Opcodes.{Arm, armOf}
 use Rattle.model.specs.NoMemory.{tell}
 use Rattle.model.specs.Frames.{hole, pushed, popped}
 use Rattle.model.specs.Contexts.{savedState, unsaved}
 use Rattle.model.specs.Trips.{tripped, trapped, withAdded}
+use Rattle.model.specs.LoadStore.{flagV}
 use Rattle.model.specs.Lists.{stepOn}
 use Rattle.model.specs.Step.{planOf, stepPlan, Item, step, exception, itemPlan, mmix}
 use Rattle.model.specs.declared.State.{State}
 use Rattle.model.proofs.Memory.{one-lawful}
 use Rattle.model.proofs.Plan.{Always, perform-always}
-use Rattle.model.proofs.ArmAnswers.{Answers, Meets, MeetsTrip, plan-meets, step-meets, exception-meets}
+use Rattle.model.proofs.ArmAnswers.{Answers, Meets, MeetsTrip, MeetsRaise, MeetsInterrupt, plan-meets, step-meets, exception-meets}
 
 pub record Keeps (P : State → Type 0) : Type 0 where
   pub at-pc : (s : State) (a : ℕ) → P s → P (goes s a)
@@ -66,10 +67,24 @@ module _ (P : State → Type 0) (k : Keeps P) where
     pops = λ x t i ls w r. k .at-pc _ t (k .pops s x i ls h);
     saves = λ x t b w. k .at-pc _ t (k .saves s x b h);
     unsaves = λ o g a l vs t u w b c d e r. k .at-pc _ t (k .unsaves s o g a l vs b c d e h);
+    stores = λ v a w. k .at-pc s a h;
   }
 
-  meets-trip : (s : State) (n u v : ℕ) → P s → MeetsTrip s Any (λ r t vs. P t) n u v
+  meets-trip : (s : State) (n u v : ℕ) → P s → MeetsTrip s Any (λ r t. P t) n u v
   meets-trip s n u v h = record { trips = λ a w. k .at-pc _ a (k .trips s n u v h); trips-not = k .at-halt _ (k .trips s n u v h) }
+
+  meets-raise : (s : State) (f n u v : ℕ) → P s → MeetsRaise s Any (λ r t. P t) f n u v
+  meets-raise s f n u v h = record { adds = λ a w. k .at-pc _ a (k .adds s f h); takes = meets-trip (withAdded s f) n u v (k .adds s f h) }
+
+  meets-interrupt : (s : State) (m : Arm) (op x y z : ℕ) → P s → MeetsInterrupt s Any (λ r t vs. P t) m op x y z
+  meets-interrupt s m op x y z h = record {
+    trips = λ e. meets-trip s _ _ _ h;
+    traps = λ e. k .at-halt _ (k .traps s _ _ _ h);
+    stores = λ d o e v. meets-raise s flagV _ _ _ h;
+  }
+
+raise-map : (P Q : State → Type 0) → ((t : State) → Q t → P t) → (s : State) (f n u v : ℕ) → MeetsRaise s Any (λ r t. Q t) f n u v → MeetsRaise s Any (λ r t. P t) f n u v
+raise-map P Q g s f n u v m = record { adds = λ a w. g _ (m .adds a w); takes = record { trips = λ a w. g _ (m .takes .trips a w); trips-not = g _ (m .takes .trips-not) } }
 
 -- what Q gives, where Q is kept and an admissible state has it, every state keeps: one that is not admissible is refused by 1
 pub item-keeps : (P Q : State → Type 0) → Keeps Q → ((t : State) → Q t → P t)
@@ -77,13 +92,9 @@ pub item-keeps : (P Q : State → Type 0) → Keeps Q → ((t : State) → Q t �
 unfolding itemPlan tell Always
 item-keeps P Q k f s w (step op x y z) q h =
     answers-always P (stepPlan s w op x y z) (step-meets s w Any (λ r t vs. P t) (λ n a. h) op x y z (λ e. answers-map P Q f (planOf s (armOf op) op x y z)
-    (plan-meets s Any Any (λ r t vs. Q t) (meets Q k s (q e)) (armOf op) op x y z tt (meets-trip Q k s _ _ _ (q e)) (k .at-halt _ (k .traps s _ _ _ (q e))))))
+    (plan-meets s Any Any (λ r t vs. Q t) (meets Q k s (q e)) (armOf op) op x y z tt (meets-interrupt Q k s (armOf op) op x y z (q e)))))
 item-keeps P Q k f s w (exception g op x y z u v) q h =
-    exception-meets s Any (λ r t vs. P t) g op x y z u v (λ n b. tt) h
-    (λ e. (
-      λ a b. f _ (k .at-pc _ a (k .adds s g (q e))),
-      record { trips = λ a b. f _ (k .at-pc _ a (k .trips _ _ u v (k .adds s g (q e)))); trips-not = f _ (k .at-halt _ (k .trips _ _ u v (k .adds s g (q e)))) },
-    ))
+    exception-meets s Any (λ r t. P t) g op x y z u v (λ n b. tt) h (λ e. raise-map P Q f s g _ u v (meets-raise Q k s g _ u v (q e)))
 
 pub item-always : (P : State → Type 0) (w : Windows) (s : State) (i : Item) → P s → Always P (itemPlan s (both .shape w) i) → P (stepOn both mmix s w i .state)
 unfolding stepOn mmix

@@ -1,6 +1,6 @@
 -- Theorem 1: which replies there are, and what each leaves.
 use mathlib.Core.Path.{_≡_, refl, _∙_}
-use mathlib.Core.Logic.{_⊎_, inl, inr, _≢_}
+use mathlib.Core.Logic.{_⊎_, inl, inr, ⊎-elim, _≢_}
 use mathlib.Core.Bool.{Bool, true, false}
 use mathlib.Core.List.{List, []}
 use Prim.Native.Nat.{ℕ, _≤_, _<_}
@@ -10,20 +10,24 @@ use lib.ListN.{length, set, length-set}
 use lib.Seq.{getD-set-same, getD-set-other}
 use borrow.Author.Tests.{eqb-true, eqb-false}
 use Rattle.model.specs.Registers.{rB, rJ, rBB, rA, rW, rX, rY, rZ, rWW, rXX, rYY, rZZ, sp, reg, following, Sized, goes, halted, withSpecial, cleared, claimLocal, stored, setRegister, putLocals, putGlobals, isMarginal, spilled}
-use Rattle.model.specs.Memory.{Windows, shapesOf, ruled, both}
-use Rattle.model.specs.Plan.{puts}
-use Rattle.model.specs.Opcodes.{armOf}
+use Rattle.model.specs.Memory.{Windows, shapesOf, ruled, putOcta, both, one}
+use Rattle.model.specs.Plan.{Plan, Outcome, perform, worst, clear, named, look, looks, puts}
+use Rattle.model.specs.Opcodes.{Width, Sign, signed, Operand, Arm, trip, store, armOf}
 use Rattle.model.specs.Frames.{slide, pushedRule, pushed, unslide, popped}
 use Rattle.model.specs.Contexts.{contextAt, savedUnspilled, savedState, unsavedUnspilled, unsaved}
+use Rattle.model.specs.NoMemory.{Said, tell}
+use Rattle.model.specs.Control.{sumOf}
 use Rattle.model.specs.Trips.{interrupted, tripped, trapped, wordOf, withAdded}
-use Rattle.model.specs.Step.{stepPlan, stepOf, exceptionOf}
+use Rattle.model.specs.LoadStore.{merged, fits, flagV, storeSays, storeTo}
+use Rattle.model.specs.Step.{judged, refusing, planOf, stepPlan, stepOf, exceptionOf}
 use Rattle.model.specs.Reader.{Part, emptyPart, partAt, readContext}
-use Rattle.model.specs.Leaves.{Interrupted, Tripped, Trapped, StepLeaves, ExceptionLeaves, ReaderLeaves, RepliesLeave}
+use Rattle.model.specs.Leaves.{Interrupted, Tripped, Trapped, StoreLeaves, StepLeaves, ExceptionLeaves, ReaderLeaves, RepliesLeave}
 use Rattle.model.specs.Numbers.{Early, Lost, Halting}
 use Rattle.model.specs.declared.State.{State}
 use Rattle.model.proofs.Bools.{on}
 use Rattle.model.proofs.ItemInvariant.{Any}
-use Rattle.model.proofs.ArmAnswers.{Meets, MeetsTrip, plan-meets, step-meets, exception-meets, context-meets, perform-meets}
+use Rattle.model.proofs.ArmAnswers.{Meets, MeetsInterrupt, plan-meets, judged-most, step-judged, step-meets, raised-meets, exception-meets, context-meets, worst-six, perform-meets}
+use Rattle.model.proofs.LoadStore.{store-made}
 
 -- ---- the trip and trap registers
 
@@ -66,12 +70,18 @@ traps s word u v n = interrupts s rBB rWW rXX rYY rZZ word u v n (omega arith) (
 
 -- ---- a step: the same of an answer
 
+-- a signed store
+record IsStore (m : Arm) : Type 0 where
+  width : Width
+  last : Operand
+  is-it : m ≡ store width signed last
+
 record Answered (s : State) (op x y z : ℕ) (r : ℕ) (t : State) (vs : List ℕ) : Type 0 where
   most : r ≤ 20
   early : Early r → (t ≡ s) × (vs ≡ [])
   lost : Lost r → (t ≡ s) × (vs ≡ [])
   halting : Halting r → (t ≡ halted s) × (vs ≡ [])
-  nineteen : r ≡ 19 → Tripped s t (wordOf op x y z) (reg s y) (reg s z) × (vs ≡ [])
+  nineteen : r ≡ 19 → ((armOf op ≡ trip) × Tripped s t (wordOf op x y z) (reg s y) (reg s z) × (vs ≡ [])) ⊎ IsStore (armOf op)
   twenty : r ≡ 20 → Trapped s t (wordOf op x y z) (reg s y) (reg s z) × (vs ≡ [])
   done : r ≡ 0 → t .halt ≡ s .halt
 
@@ -109,13 +119,14 @@ module _ (s : State) (op x y z : ℕ) where
     done = λ p. absurd (omega arith);
   }
 
-  as-tripped : (t : State) → Tripped s t (wordOf op x y z) (reg s y) (reg s z) → Answered s op x y z 19 t []
-  as-tripped t h = record {
+  -- 19, of TRIP and of a store
+  as-nineteen : (t : State) (vs : List ℕ) → ((armOf op ≡ trip) × Tripped s t (wordOf op x y z) (reg s y) (reg s z) × (vs ≡ [])) ⊎ IsStore (armOf op) → Answered s op x y z 19 t vs
+  as-nineteen t vs h = record {
     most = omega arith;
     early = λ p. absurd (omega arith);
     lost = λ p. absurd (omega arith);
     halting = λ p. absurd (omega arith);
-    nineteen = λ p. (h, refl);
+    nineteen = λ p. h;
     twenty = λ p. absurd (omega arith);
     done = λ p. absurd (omega arith);
   }
@@ -154,75 +165,139 @@ answered s op x y z = record {
   pops = λ k t h ls w r. as-done s op x y z _ [] refl;
   saves = λ k t b w. as-done s op x y z _ _ refl;
   unsaves = λ o g a l vs t u w b c d e r. as-done s op x y z _ [] refl;
+  stores = λ v a w. as-done s op x y z _ _ refl;
 }
 
-answered-trip : (s : State) (op x y z : ℕ) → Sized s → MeetsTrip s Any (Answered s op x y z) (wordOf op x y z) (reg s y) (reg s z)
-unfolding goes interrupted
-answered-trip s op x y z n = record {
-  trips = λ a w. as-done s op x y z _ [] refl;
-  trips-not = as-tripped s op x y z _ (trips s (wordOf op x y z) (reg s y) (reg s z) n);
+answered-interrupt : (s : State) (op x y z : ℕ) → Sized s → MeetsInterrupt s Any (Answered s op x y z) (armOf op) op x y z
+unfolding goes interrupted withAdded withSpecial
+answered-interrupt s op x y z n = record {
+  trips = λ e. record {
+    trips = λ a w. as-done s op x y z _ [] refl;
+    trips-not = as-nineteen s op x y z _ [] (inl (e, trips s (wordOf op x y z) (reg s y) (reg s z) n, refl));
+  };
+  traps = λ e. as-trapped s op x y z _ (traps s (wordOf op x y z) (reg s y) (reg s z) n);
+  stores = λ d o e v. record {
+    adds = λ a w. as-done s op x y z _ _ refl;
+    takes = record { trips = λ a w. as-done s op x y z _ _ refl; trips-not = as-nineteen s op x y z _ _ (inr (record { width = d; last = o; is-it = e })) };
+  };
 }
 
 stored-none : (w : Windows) (a : ℕ) (vs : List ℕ) → vs ≡ [] → puts both w a vs ≡ w
 stored-none w a vs e = rw e (unfold puts in refl)
 
+-- 19 of a store is left to be shown
+Leaves : (w : Windows) (s : State) (op x y z : ℕ) (o : Outcome State Windows) → Type 0
+Leaves w s op x y z o = (IsStore (armOf op) → o .reply ≡ 19 → StoreLeaves w s op x y z o) → StepLeaves w s op x y z o
+
 leaves-of : (w : Windows) (s : State) (op x y z : ℕ) (r : ℕ) (t : State) (a : ℕ) (vs : List ℕ) → Answered s op x y z r t vs
-    → StepLeaves w s op x y z (record { reply = r; state = t; memory = puts both w a vs })
-leaves-of w s op x y z r t a vs h = record {
+    → Leaves w s op x y z (record { reply = r; state = t; memory = puts both w a vs })
+unfolding Leaves
+leaves-of w s op x y z r t a vs h st = record {
   most = h .most;
   early = λ p. (h .early p .0, stored-none w a vs (h .early p .1));
   lost = λ p. (h .lost p .0, stored-none w a vs (h .lost p .1));
   halting = λ p. (h .halting p .0, stored-none w a vs (h .halting p .1));
-  nineteen = λ p. (h .nineteen p .0, stored-none w a vs (h .nineteen p .1));
+  nineteen = λ p. ⊎-elim (λ k. inl (record { arm-is = k .0; registers = k .1; window = stored-none w a vs (k .2) })) (λ k. inr (st k p)) (h .nineteen p);
   twenty = λ p. (h .twenty p .0, stored-none w a vs (h .twenty p .1));
   done = h .done;
 }
 
-step-leaves : (w : Windows) (s : State) (op x y z : ℕ) → Sized s → StepLeaves w s op x y z (stepOf w s op x y z)
-unfolding stepOf
-step-leaves w s op x y z n =
-    perform-meets w s Any (Answered s op x y z) (StepLeaves w s op x y z)
-    (record {
-      most = omega arith;
-      early = λ p. (refl, refl);
-      lost = λ p. (refl, refl);
-      halting = λ p. absurd (omega arith);
-      nineteen = λ p. absurd (omega arith);
-      twenty = λ p. absurd (omega arith);
-      done = λ p. absurd (omega arith);
-    })
-    (leaves-of w s op x y z) (λ a k. tt) (stepPlan s (shapesOf w) op x y z)
-    (step-meets s (shapesOf w) Any (Answered s op x y z) (as-refused s op x y z) op x y z
-    (λ e. plan-meets s Any Any (Answered s op x y z) (answered s op x y z) (armOf op) op x y z tt (answered-trip s op x y z n)
-    (as-trapped s op x y z _ (traps s (wordOf op x y z) (reg s y) (reg s z) n))))
-
--- ---- an exception
-
-record Raised (s : State) (f n u v : ℕ) (r : ℕ) (t : State) (vs : List ℕ) : Type 0 where
-  among : (r ≡ 0) ⊎ ((r ≡ 1) ⊎ (r ≡ 19))
-  inadmissible : r ≡ 1 → t ≡ s
-  not-loaded : r ≡ 19 → Tripped (withAdded s f) t n u v
-  done : r ≡ 0 → t .halt ≡ s .halt
+-- ---- 19 of a store
 
 added-sized : (s : State) (f : ℕ) → Sized s → Sized (withAdded s f)
 unfolding withAdded withSpecial
 added-sized s f n = record { generals = n .generals; specials = length-set (s .special) rA _ ∙ n .specials }
 
+module _ (w : Windows) (s : State) (d : Width) (g : Sign) (x a n : ℕ) where
+  abbrev left : State
+  left = halted (tripped (withAdded s flagV) n a (reg s x))
+
+  says-nineteen : storeSays s d g x a n .reply ≡ 19 → storeSays s d g x a n .state ≡ left
+  unfolding storeSays
+  says-nineteen =
+      on {A = Said} (λ q. q .reply ≡ 19 → q .state ≡ left) (fits d g (reg s x)) (λ e p. absurd (omega arith))
+      (λ e. raised-meets s Any (λ r t. r ≡ 19 → t ≡ left) (λ k b. tt) flagV n a (reg s x)
+      (record { adds = λ b k p. absurd (omega arith); takes = record { trips = λ b k p. absurd (omega arith); trips-not = λ p. refl } }))
+
+  Made : Outcome State Windows → Type 0
+  Made o = o .reply ≡ 19 → (o .state ≡ left) × (o .memory ≡ putOcta w a (merged d a (look both w a) (reg s x)))
+
+  six : (r : ℕ) → Lost r → Made (record { reply = r; state = s; memory = w })
+  unfolding Made
+  six r e p = absurd (omega arith)
+
+  store-nineteen : Made (perform both (refusing (shapesOf w)) s (storeTo s d g x a n) w)
+  unfolding Made perform storeTo looks puts named one
+  store-nineteen =
+      on Made (clear (refusing (shapesOf w)) a 1)
+      (λ e. on Made (clear (refusing (shapesOf w)) a 1) (λ f p. (says-nineteen p, refl)) (λ f. six _ (worst-six (shapesOf w) 1 a f)))
+      (λ e. rw (worst-six (shapesOf w) 1 a e) (six 6 refl))
+
+store-leaves : (w : Windows) (s : State) (op x y z : ℕ) → Sized s → (k : IsStore (armOf op)) → stepOf w s op x y z .reply ≡ 19 → StoreLeaves w s op x y z (stepOf w s op x y z)
+store-leaves w s op x y z n k p =
+    let h : (stepOf w s op x y z .state ≡ left w s d signed x a (wordOf op x y z)) × (stepOf w s op x y z .memory ≡ putOcta w a (merged d a (look both w a) (reg s x))) = unfold Made in made p in
+    record {
+      width = d;
+      last = k .last;
+      arm-is = k .is-it;
+      registers = rw (h .0) (trips (withAdded s flagV) (wordOf op x y z) a (reg s x) (added-sized s flagV n));
+      window = h .1;
+    }
+  where
+    d : Width
+    d = k .width
+
+    a : ℕ
+    a = sumOf s (k .last) y z
+
+    made : Made w s d signed x a (wordOf op x y z) (stepOf w s op x y z)
+    made = unfold stepOf in (rw (step-judged s (shapesOf w) op x y z)
+        (on (λ (q : Plan State). Made w s d signed x a (wordOf op x y z) (perform both (refusing (shapesOf w)) s q w)) (eqb (judged s (shapesOf w) (armOf op) x y z) 0)
+        (λ e. rw (k .is-it) (unfold planOf in store-nineteen w s d signed x a (wordOf op x y z)))
+        (λ e. unfold Made tell perform worst in (λ q. let b : judged s (shapesOf w) (armOf op) x y z ≤ 5 = judged-most s (shapesOf w) (armOf op) x y z in absurd (omega arith)))))
+
+step-leaves : (w : Windows) (s : State) (op x y z : ℕ) → Sized s → StepLeaves w s op x y z (stepOf w s op x y z)
+step-leaves w s op x y z n = unfold Leaves in (leaves (store-leaves w s op x y z n))
+  where
+    leaves : Leaves w s op x y z (stepOf w s op x y z)
+    leaves = unfold stepOf in (
+        perform-meets w s Any (Answered s op x y z) (Leaves w s op x y z)
+        (unfold Leaves in (λ st. record {
+          most = omega arith;
+          early = λ p. (refl, refl);
+          lost = λ p. (refl, refl);
+          halting = λ p. absurd (omega arith);
+          nineteen = λ p. absurd (omega arith);
+          twenty = λ p. absurd (omega arith);
+          done = λ p. absurd (omega arith);
+        }))
+        (leaves-of w s op x y z) (λ a k. tt) (stepPlan s (shapesOf w) op x y z)
+        (step-meets s (shapesOf w) Any (Answered s op x y z) (as-refused s op x y z) op x y z
+        (λ e. plan-meets s Any Any (Answered s op x y z) (answered s op x y z) (armOf op) op x y z tt (answered-interrupt s op x y z n))))
+
+-- ---- an exception
+
+record Raised (s : State) (f n u v : ℕ) (r : ℕ) (t : State) : Type 0 where
+  among : (r ≡ 0) ⊎ ((r ≡ 1) ⊎ (r ≡ 19))
+  inadmissible : r ≡ 1 → t ≡ s
+  not-loaded : r ≡ 19 → Tripped (withAdded s f) t n u v
+  done : r ≡ 0 → t .halt ≡ s .halt
+
 exception-leaves : (s : State) (f op x y z u v : ℕ) → Sized s → ExceptionLeaves s f op x y z u v (exceptionOf s f op x y z u v)
 exception-leaves s f op x y z u v n =
-    let h : Raised s f (wordOf op x y z) u v (exceptionOf s f op x y z u v .reply) (exceptionOf s f op x y z u v .state) [] = met in
+    let h : Raised s f (wordOf op x y z) u v (exceptionOf s f op x y z u v .reply) (exceptionOf s f op x y z u v .state) = met in
     record { among = h .among; inadmissible = h .inadmissible; not-loaded = h .not-loaded; done = h .done }
   where
-    as-zero : (t : State) → t .halt ≡ s .halt → Raised s f (wordOf op x y z) u v 0 t []
+    as-zero : (t : State) → t .halt ≡ s .halt → Raised s f (wordOf op x y z) u v 0 t
     as-zero t e = record { among = inl refl; inadmissible = λ p. absurd (omega arith); not-loaded = λ p. absurd (omega arith); done = λ p. e }
 
-    met : Raised s f (wordOf op x y z) u v (exceptionOf s f op x y z u v .reply) (exceptionOf s f op x y z u v .state) []
+    met : Raised s f (wordOf op x y z) u v (exceptionOf s f op x y z u v .reply) (exceptionOf s f op x y z u v .state)
     met = unfold goes withAdded withSpecial in (
         exception-meets s Any (Raised s f (wordOf op x y z) u v) f op x y z u v (λ k b. tt)
         (record { among = inr (inl refl); inadmissible = λ p. refl; not-loaded = λ p. absurd (omega arith); done = λ p. absurd (omega arith) })
-        (λ e. (
-          λ a w. as-zero _ refl,
-          record {
+        (λ e. record {
+          adds = λ a w. as-zero _ refl;
+          takes = record {
             trips = λ a w. as-zero _ (unfold interrupted goes withAdded withSpecial in refl);
             trips-not = record {
               among = inr (inr refl);
@@ -230,8 +305,8 @@ exception-leaves s f op x y z u v n =
               not-loaded = λ p. trips (withAdded s f) (wordOf op x y z) u v (added-sized s f n);
               done = λ p. absurd (omega arith);
             };
-          },
-        )))
+          };
+        }))
 
 -- ---- the reader
 
@@ -267,4 +342,4 @@ reader-leaves w p =
     (λ e. record { among = inr (inl refl); refused = λ n. refl; unchanged = refl })
 
 pub replies-leave : RepliesLeave
-replies-leave = record { by-step = step-leaves; by-exception = exception-leaves; by-reader = reader-leaves }
+replies-leave = record { by-step = step-leaves; by-exception = exception-leaves; by-reader = reader-leaves; by-store = store-made }

@@ -9,6 +9,7 @@ pub mod Runs
 pub mod Lists
 pub mod Numbers
 pub mod AdmissibleKept
+pub mod LoadStore
 pub mod ArmAnswers
 pub mod ItemInvariant
 pub mod MarginalKept
@@ -22,6 +23,7 @@ pub mod StepNeeds
 pub mod Locality
 pub mod Bench
 pub mod Rules
+pub mod RaisedRule
 pub mod RuleStep
 pub mod Departures
 pub mod Order

@@ -1,30 +1,34 @@
 -- Outside the departures the rule of each arm is its plan, and so Knuth's step is the step. Rules has the laws of each rule.
 use mathlib.Core.Path.{_≡_, refl, sym, ap, _∙_}
 use mathlib.Core.Bool.{Bool, true, false, cond}
-use mathlib.Core.List.{[]}
+use mathlib.Core.List.{[], _∷_}
 use Prim.Native.Nat.{ℕ, _+_, _-_, _*_, _%_, _^_, _≤_}
 use native.Mathlib.Omega.{arith}
 use lib.Dec.{leb, eqb}
-use lib.ListN.{set}
+use lib.Count.{leadingZeros}
+use lib.ListN.{getD, set}
 use lib.Seq.{set-getD}
 use borrow.Author.Tests.{leb-true, le-ltb, lt-leb}
 use Rattle.model.specs.Fill.{tab}
 use Rattle.model.specs.Octa.{octa}
 use Rattle.model.specs.Registers.{withParts, rJ, rO, rS, rG, sp, reg, admissible, next, withSpecial, spilled}
 use Rattle.model.specs.Memory.{Windows, shapesOf, both}
-use Rattle.model.specs.Plan.{Plan, answer, Outcome, perform, mapPlan, mapOutcome}
-use Rattle.model.specs.Opcodes.{Operand, register, immediate, Arm, branch, jump, getAddress, go, pushJump, pushGo, pop, put, get, save, unsave, sync, swym, trip, trap, none, armOf}
-use Rattle.model.specs.NoMemory.{say, tell}
-use Rattle.model.specs.Control.{near, yzOf, xyzOf, sumOf, operandOf}
+use Rattle.model.specs.Plan.{Plan, answer, read, Outcome, perform, mapPlan, mapOutcome}
+use Rattle.model.specs.Opcodes.{Width, Sign, Operand, register, immediate, Arm, branch, jump, getAddress, go, pushJump, pushGo, pop, put, get, save, unsave, sync, swym, trip, trap, load, store, none, armOf}
+use Rattle.model.specs.NoMemory.{Said, say, tell}
+use Rattle.model.specs.Control.{near, yzOf, xyzOf, sumOf, operandOf, isNegative}
 use Rattle.model.specs.Frames.{popRule, noFrame, misplaced, popFrame}
 use Rattle.model.specs.Contexts.{extent, saved, savedState, saveContext}
 use Rattle.model.specs.System.{putRefusal, putState, putSpecial, syncOf}
-use Rattle.model.specs.Trips.{wordOf, isLoaded, tripRule, tripTo}
+use Rattle.model.specs.Trips.{wordOf, isLoaded, enabled}
+use Rattle.model.specs.LoadStore.{merged, fits, loadFrom, flagV, storeSays, storeTo}
 use Rattle.model.specs.Step.{refusalOf, unruledBy, refusing, planOf, guarded, fromThree, stepPlan, stepOf}
-use Rattle.model.specs.Rules.{operandRule, sumRule, After, goesOn, interrupts, unsaveRestRule, unsaveCountRule, unsaveRule, ruleOf, stepRule, settled, settledRule}
+use Rattle.model.specs.Rules.{operandRule, sumRule, After, goesOn, interrupts, unsaveRestRule, unsaveCountRule, unsaveRule, loadRule, storeState, storeRule, ruleOf, stepRule, settled, settledRule}
 use Rattle.model.specs.Departures.{ReadsZero, ReadsAlike, contextTaken, Outside, AtTop}
 use Rattle.model.specs.declared.State.{State}
+use Rattle.model.proofs.Bools.{on-both}
 use Rattle.model.proofs.Plan.{perform-map, perform-left}
+use Rattle.model.proofs.RaisedRule.{trip-same, raised-same, outside-overflow}
 use Rattle.model.proofs.Rules.{got-same, pop-plans, push-plans, unsave-same}
 
 -- ---- each arm
@@ -63,15 +67,24 @@ sync-done : (s : State) (n : ℕ) → leb n 3 ≡ true → syncOf s n ≡ say 0 
 unfolding syncOf
 sync-done s n e = let h : n ≤ 3 = leb-true _ _ e in rw (le-ltb 7 n (omega arith), lt-leb 4 n (omega arith))
 
-pub trip-same : (s : State) (k word u v : ℕ) → isLoaded s k ≡ true → tripTo s k word u v ≡ say 0 (tripRule s k word u v)
-unfolding tripTo
-trip-same s k word u v e = rw e
-
 unsave-arm : (w : Windows) (s : State) (op x y z : ℕ) → x ≡ 0 → y ≡ 0 → ReadsZero s z → octa (reg s z) ≡ reg s z → contextTaken w (reg s z) ≡ true
     → ArmSame w s unsave op x y z
 unfolding ArmSame ruleOf planOf refusalOf fromThree mapPlan settled unsaveRule unsaveCountRule unsaveRestRule
 unsave-arm w s op x y z a b r o e =
     rw (a, b, ← r) (perform-map both goesOn (refusing (shapesOf w)) s (unsaveRule s (reg s z)) w ∙ ap (λ (q : Outcome State Windows). mapOutcome goesOn q) (sym (unsave-same w s (reg s z) o e)))
+
+load-plans : (s : State) (d : Width) (g : Sign) (x a : ℕ) → isNegative a ≡ false → mapPlan (λ t. t) (loadRule s d g x a) ≡ mapPlan goesOn (loadFrom s d g x a)
+unfolding loadRule loadFrom mapPlan
+load-plans s d g x a e = rw e
+
+store-plans : (s : State) (d : Width) (g : Sign) (x a word : ℕ) → isNegative a ≡ false
+    → (fits d g (reg s x) ≡ false → eqb (enabled s flagV) 0 ≡ false → isLoaded s (leadingZeros 8 (enabled s flagV) + 1) ≡ true)
+    → mapPlan (λ t. t) (storeRule s d g (reg s x) a word) ≡ mapPlan goesOn (storeTo s d g x a word)
+unfolding storeRule storeTo mapPlan
+store-plans s d g x a word e h = rw e (ap (λ (q : Said). read 6 a 1 (λ v. answer (q .reply) (goesOn (q .state)) a (merged d a (getD v 0 0) (reg s x) ∷ []))) (sym says))
+  where
+    says : storeSays s d g x a word ≡ say 0 (storeState s d g (reg s x) a word)
+    says = unfold storeSays storeState in (on-both (λ (q : Said) (t : State). q ≡ say 0 t) (fits d g (reg s x)) (λ f. refl) (λ f. raised-same s flagV word a (reg s x) (outside-overflow s (h f))))
 
 arm-same : (w : Windows) (s : State) (a : Arm) (op x y z : ℕ) → Outside w s a x y z → ArmSame w s a op x y z
 unfolding ruleOf planOf refusalOf fromThree mapPlan settled tell ReadsAlike
@@ -92,6 +105,12 @@ arm-same w s sync op x y z h = by-plans w s sync op x y z (rw (sync-done s (xyzO
 arm-same w s swym op x y z h = by-plans w s swym op x y z refl
 arm-same w s trip op x y z h = by-plans w s trip op x y z (rw (trip-same s 0 (wordOf op x y z) (reg s y) (reg s z) (h .trip-loaded refl), h .reads .0, h .reads .1))
 arm-same w s trap op x y z h = absurd (h .no-trap refl)
+arm-same w s (load d g register) op x y z h = by-plans w s (load d g register) op x y z (rw (sum-same s register y z (h .reads .0) (h .reads .1)) (load-plans s d g x (sumOf s register y z) (h .load-low d g register refl)))
+arm-same w s (load d g immediate) op x y z h = by-plans w s (load d g immediate) op x y z (rw (sum-same s immediate y z (h .reads) refl) (load-plans s d g x (sumOf s immediate y z) (h .load-low d g immediate refl)))
+arm-same w s (store d g register) op x y z h = by-plans w s (store d g register) op x y z
+    (rw (sum-same s register y z (h .reads .1) (h .reads .2), ← h .reads .0) (store-plans s d g x (sumOf s register y z) (wordOf op x y z) (h .store-low d g register refl) (h .store-loaded d g register refl)))
+arm-same w s (store d g immediate) op x y z h = by-plans w s (store d g immediate) op x y z
+    (rw (sum-same s immediate y z (h .reads .1) refl, ← h .reads .0) (store-plans s d g x (sumOf s immediate y z) (wordOf op x y z) (h .store-low d g immediate refl) (h .store-loaded d g immediate refl)))
 arm-same w s none op x y z h = by-plans w s none op x y z refl
 
 -- ---- the step
@@ -142,6 +161,8 @@ settled-top sync t h = refl
 settled-top swym t h = refl
 settled-top trip t h = refl
 settled-top trap t h = refl
+settled-top (load d g o) t h = refl
+settled-top (store d g o) t h = refl
 settled-top none t h = refl
 
 pub rule-settled : (w : Windows) (s : State) (op x y z : ℕ) → AtTop (stepRule w s op x y z .state) → settledRule w s op x y z ≡ stepRule w s op x y z

@@ -1,19 +1,21 @@
 -- Theorem 4: the needs of every arm, by equations; bytes that an arm does not use.
 use mathlib.Core.Path.{_≡_, refl, sym, ap, _∙_}
 use mathlib.Core.Bool.{Bool, true, false, cond, _&&_}
-use mathlib.Core.List.{List, [], append-nil}
-use Prim.Native.Nat.{ℕ, _+_, _-_, _/_, _%_, _^_}
+use mathlib.Core.List.{List, [], _∷_, _++_, append-nil}
+use Prim.Native.Nat.{ℕ, _+_, _-_, _/_, _%_, _^_, max}
 use native.Mathlib.Omega.{arith}
 use lib.Dec.{leb, ltb, eqb}
 use Rattle.model.specs.Fill.{tab}
 use Rattle.model.specs.Registers.{rO, rG, rL, sp, reg, admissible, goes, next, halted}
-use Rattle.model.specs.Memory.{Windows, shapesOf, ruled, both, one}
-use Rattle.model.specs.Plan.{Plan, answer, read, Outcome, perform, ups, worst, clear, look, looks, needs}
-use Rattle.model.specs.Opcodes.{Arm, forward, backward, register, immediate, branch, jump, getAddress, go, pushJump, pushGo, pop, put, get, save, unsave, sync, swym, trip, trap, none, armOf}
+use Rattle.model.specs.Memory.{Windows, shapesOf, ruled, inside, both, one}
+use Rattle.model.specs.Plan.{Plan, answer, read, Outcome, perform, ups, worst, clear, missing, look, looks, needs}
+use Rattle.model.specs.Opcodes.{Width, Sign, Arm, forward, backward, register, immediate, branch, jump, getAddress, go, pushJump, pushGo, pop, put, get, save, unsave, sync, swym, trip, trap, load, store, none, armOf}
 use Rattle.model.specs.NoMemory.{Said, say, refuse, tell}
 use Rattle.model.specs.Control.{near, sumOf}
 use Rattle.model.specs.Frames.{hole, framed, pushed, pushFrame, popTo, popRule, noFrame, misplaced, popFrame}
 use Rattle.model.specs.Contexts.{extent, saved, savedState, saveContext, below, unsaved, contextRest, contextCount, contextAt, unsaveContext}
+use Rattle.model.specs.Trips.{wordOf}
+use Rattle.model.specs.LoadStore.{loadFrom, storeTo}
 use Rattle.model.specs.Lists.{needsOf}
 use Rattle.model.specs.Step.{refusalOf, unruledBy, judged, refusing, planOf, guarded, fromThree, stepPlan, stepOf, stepNeeds, exceptionOf, itemPlan, mmix}
 use Rattle.model.specs.StepNeeds.{run, popNeeds, unsaveNeedsRest, unsaveNeedsCount, unsaveNeeds, armNeeds, NeedsAre, BytesUnused}
@@ -78,6 +80,25 @@ module _ (w : Windows) where
   unfolding unsaveContext contextAt unsaveNeeds needs looks
   unsave-needs s p = rw (← count-needs s p (look both w p / 2 ^ 56) (look both w p % 2 ^ 56))
 
+  -- one octabyte
+  run-one : (a : ℕ) (rest : List ℕ) → run w a 1 rest ≡ cond (inside (shapesOf w) a) (a ∷ rest) (a ∷ [])
+  unfolding worst missing ups refusing
+  run-one a rest = go (inside (shapesOf w) a)
+    where
+      go : (b : Bool) → cond (eqb (max (cond b 0 6) 0) 0) (a ∷ rest) (cond (eqb (cond b 0 6) 0) [] (a ∷ []) ++ []) ≡ cond b (a ∷ rest) (a ∷ [])
+      go true = refl
+      go false = refl
+
+  load-needs : (s : State) (d : Width) (g : Sign) (x a : ℕ) → by (loadFrom s d g x a) ≡ a ∷ []
+  unfolding loadFrom needs worst ups
+  load-needs s d g x a = run-one a [] ∙ on (λ (l : List ℕ). l ≡ a ∷ []) (inside (shapesOf w) a) (λ e. refl) (λ e. refl)
+
+  store-needs : (s : State) (d : Width) (g : Sign) (x a n : ℕ) → by (storeTo s d g x a n) ≡ cond (inside (shapesOf w) a) (a ∷ a ∷ []) (a ∷ [])
+  unfolding storeTo needs ups
+  store-needs s d g x a n =
+      run-one a _ ∙ on-both (λ (k l : List ℕ). k ≡ l) (inside (shapesOf w) a)
+      (λ e. ap (λ (l : List ℕ). a ∷ l) (run-one a [] ∙ rw e)) (λ e. refl)
+
   arm-needs : (s : State) (a : Arm) (op x y z : ℕ) → by (planOf s a op x y z) ≡ armNeeds w s a x y z
   unfolding planOf armNeeds
   arm-needs s (branch c d) op x y z = tell-none _
@@ -95,6 +116,8 @@ module _ (w : Windows) where
   arm-needs s swym op x y z = tell-none _
   arm-needs s trip op x y z = tell-none _
   arm-needs s trap op x y z = tell-none _
+  arm-needs s (load d g o) op x y z = load-needs s d g x (sumOf s o y z)
+  arm-needs s (store d g o) op x y z = store-needs s d g x (sumOf s o y z) (wordOf op x y z)
   arm-needs s none op x y z = tell-none _
 
 step-needs : (w : Windows) (s : State) (op x y z : ℕ)

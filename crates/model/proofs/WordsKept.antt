@@ -17,11 +17,13 @@ use Rattle.model.specs.Octa.{part, written, valueOf, bytesOf}
 use Rattle.model.specs.Registers.{rB, rJ, rBB, rO, rS, rG, rL, rA, rR, rP, rW, rX, rY, rZ, rWW, rXX, rYY, rZZ, sp, reg, following, Words, goes, halted, withSpecial, cleared, claimLocal, isMarginal, stored, setRegister, putLocals, putGlobals, spilled}
 use Rattle.model.specs.Memory.{Windows, shapesOf, offset, octaBytes, writeOcta, both, one}
 use Rattle.model.specs.Plan.{Plan, answer, read, Outcome, perform, clear, look, looks, puts}
-use Rattle.model.specs.Opcodes.{armOf}
+use Rattle.model.specs.Opcodes.{Arm, armOf}
+use Rattle.model.specs.Control.{sumOf}
 use Rattle.model.specs.NoMemory.{tell}
 use Rattle.model.specs.Frames.{hole, slid, slide, pushedRule, pushed, countOf, lastOutput, restored, unslide, popped}
 use Rattle.model.specs.Contexts.{extent, contextAddress, savedUnspilled, savedState, unsavedGeneral, unsavedSpecial, unsavedUnspilled, unsaved}
 use Rattle.model.specs.Trips.{wordOf, interrupted, added, withAdded}
+use Rattle.model.specs.LoadStore.{flagV}
 use Rattle.model.specs.Lists.{stepOn}
 use Rattle.model.specs.Step.{stepPlan, exceptionOf, Item, step, exception, itemPlan, mmix}
 use Rattle.model.specs.Invariants.{InstructionFits, Fits, Bytes}
@@ -29,7 +31,7 @@ use Rattle.model.specs.declared.State.{State}
 use Rattle.model.proofs.Bools.{on, and-right}
 use Rattle.model.proofs.Fill.{length-over, over-in, over-below, over-above, lt-or-le}
 use Rattle.model.proofs.AdmissibleKept.{added-byte}
-use Rattle.model.proofs.ArmAnswers.{Answers, Meets, MeetsTrip, plan-meets, step-meets, exception-meets, perform-meets}
+use Rattle.model.proofs.ArmAnswers.{Answers, Meets, MeetsTrip, MeetsRaise, MeetsInterrupt, plan-meets, step-meets, exception-meets, perform-meets}
 
 -- ---- lists of numbers below a bound
 
@@ -264,13 +266,26 @@ meets-words s h = record {
   pops = λ x t i ls w r. goes-words _ t w (popped-words s x i ls r h);
   saves = λ x t b w. goes-words _ t w (saved-words s x h);
   unsaves = λ o g a l vs t u w b c d e r. goes-words _ t u (unsaved-words s o g a l vs w c d e r h);
+  stores = λ v a w. goes-words s a w h;
 }
 
-meets-trip : (s : State) (n u v : ℕ) → Word n → Word u → Word v → Words s → MeetsTrip s Word (λ r t vs. Words t) n u v
+meets-trip : (s : State) (n u v : ℕ) → Word n → Word u → Word v → Words s → MeetsTrip s Word (λ r t. Words t) n u v
 meets-trip s n u v p q r h = record {
   trips = λ a w. goes-words _ a w (interrupted-words s rB rW rX rY rZ n u v p q r h);
   trips-not = halted-words _ (interrupted-words s rB rW rX rY rZ n u v p q r h);
 }
+
+meets-raise : (s : State) (f n u v : ℕ) → Word n → Word u → Word v → Words s → MeetsRaise s Word (λ r t. Words t) f n u v
+meets-raise s f n u v p q r h = record { adds = λ a c. goes-words _ a c (added-words s f h); takes = meets-trip (withAdded s f) n u v p q r (added-words s f h) }
+
+meets-interrupt : (s : State) (m : Arm) (op x y z : ℕ) → InstructionFits op x y z → Words s → MeetsInterrupt s Word (λ r t vs. Words t) m op x y z
+meets-interrupt s m op x y z f h =
+    let n : Word (wordOf op x y z) = word-small op x y z f in
+    record {
+      trips = λ e. meets-trip s (wordOf op x y z) (reg s y) (reg s z) n (h .general-word y) (h .general-word z) h;
+      traps = λ e. halted-words _ (interrupted-words s rBB rWW rXX rYY rZZ (wordOf op x y z) (reg s y) (reg s z) n (h .general-word y) (h .general-word z) h);
+      stores = λ d o e v. meets-raise s flagV (wordOf op x y z) (sumOf s o y z) (reg s x) n (omega arith) (h .general-word x) h;
+    }
 
 pub item-words : (w : Windows) (s : State) (i : Item) → Fits i → Bytes w → Words s → Words (stepOn both mmix s w i .state)
 unfolding stepOn mmix itemPlan Fits one
@@ -278,10 +293,8 @@ item-words w s (step op x y z) f b h =
     perform-meets w s (Below (2 ^ 64)) (λ r t vs. Words t) (λ o. Words (o .state)) h (λ r t a vs k. k) (λ a n. looks-words n w a b) (stepPlan s (shapesOf w) op x y z)
     (step-meets s (shapesOf w) (Below (2 ^ 64)) (λ r t vs. Words t) (λ n c. h) op x y z
     (λ e. let z-word : Word z = let c : z < 256 = f .z-byte in omega arith in
-    plan-meets s Word (Below (2 ^ 64)) (λ r t vs. Words t) (meets-words s h) (armOf op) op x y z z-word
-    (meets-trip s (wordOf op x y z) (reg s y) (reg s z) (word-small op x y z f) (h .general-word y) (h .general-word z) h)
-    (halted-words _ (interrupted-words s rBB rWW rXX rYY rZZ (wordOf op x y z) (reg s y) (reg s z) (word-small op x y z f) (h .general-word y) (h .general-word z) h))))
+    plan-meets s Word (Below (2 ^ 64)) (λ r t vs. Words t) (meets-words s h) (armOf op) op x y z z-word (meets-interrupt s (armOf op) op x y z f h)))
 item-words w s (exception g op x y z u v) f b h =
     perform-meets w s (Below (2 ^ 64)) (λ r t vs. Words t) (λ o. Words (o .state)) h (λ r t a vs k. k) (λ a n. looks-words n w a b) (tell (exceptionOf s g op x y z u v))
-    (unfold tell Answers in (exception-meets s Word (λ r t vs. Words t) g op x y z u v (λ n c. c) h
-    (λ e. (λ a c. goes-words _ a c (added-words s g h), meets-trip (withAdded s g) (wordOf op x y z) u v (word-small op x y z (f .0)) (f .1) (f .2) (added-words s g h)))))
+    (unfold tell Answers in (exception-meets s Word (λ r t. Words t) g op x y z u v (λ n c. c) h
+    (λ e. meets-raise s g (wordOf op x y z) u v (word-small op x y z (f .0)) (f .1) (f .2) h)))

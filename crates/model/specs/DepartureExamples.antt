@@ -5,7 +5,7 @@ use mathlib.Core.Bool.{Bool, true, false, _&&_}
 use mathlib.Core.List.{List, [], _∷_, _++_}
 use lib.Dec.{eqb}
 use lib.ListN.{replicate}
-use Rattle.model.specs.Registers.{rJ, rO, rS, rT, rK, rG, rL, rA, rW, rX, rWW, rXX, stackStart, sp, fresh, goes, halted, withSpecial, stored, rC, rI, rU}
+use Rattle.model.specs.Registers.{rB, rJ, rO, rS, rT, rK, rG, rL, rA, rW, rX, rY, rZ, rWW, rXX, stackStart, sp, fresh, goes, halted, withSpecial, stored, rC, rI, rU}
 use Rattle.model.specs.Memory.{Windows, putOcta}
 use Rattle.model.specs.Plan.{Outcome}
 use Rattle.model.specs.NoMemory.{Said}
@@ -211,8 +211,30 @@ tripExamples =
     ∷ plain start nowhere 0 1 0 0 20 (halted (trapRegisters start 0x010000)) (goesOn (handled 0x010000))
     ∷ plain start nowhere 0 0 0 0 4 start (goesOn (handled 0)) ∷ []
 
+-- loads and stores: LDO and STO at 2^63; STO of a marginal $0 = 1; STB of 128 with V enabled and no vector loaded
+abbrev kernel : State
+kernel = stored start 255 (2 ^ 63)
+
+abbrev overflowing : State
+overflowing = stored (stored (withSpecial fresh rA 0x4000) 254 0x80) 255 stackStart
+
+abbrev overflown : State
+overflown = withSpecial (withSpecial (tripRegisters (withSpecial (stored overflowing 255 0) rB stackStart) 0xA1FEFF00) rY stackStart) rZ 0x80
+
+abbrev loadStoreExamples : List Example
+loadStoreExamples =
+    plain kernel (zeros (2 ^ 63) 8) 0x8D 255 255 0 0 (goes (stored kernel 255 0) 4) interrupts
+    ∷ plain kernel (zeros (2 ^ 63) 8) 0xAD 254 255 0 0 (goes kernel 4) interrupts
+    ∷ example (stored (stored start 0 1) 255 stackStart) (zeros stackStart 8) 0xAD 0 255 0 0
+    (goes (stored (stored start 0 1) 255 stackStart) 4) (holding (zeros stackStart 8) 0 1)
+    (goesOn (goes (stored (stored start 0 1) 255 stackStart) 4)) (zeros stackStart 8)
+    ∷ example overflowing (zeros stackStart 8) 0xA1 254 255 0 19 (halted overflown) (holding (zeros stackStart 8) 0 (2 ^ 63))
+    (goesOn (goes overflown 0x20)) (holding (zeros stackStart 8) 0 (2 ^ 63)) ∷ []
+
 unfoldable pub examples : List Example
-examples = spillExample ∷ getExample ∷ thresholdExample ∷ (popExamples ++ (marginalExamples ++ (unsaveExamples ++ (byteExamples ++ (interruptExamples ++ tripExamples)))))
+examples =
+    spillExample ∷ getExample ∷ thresholdExample
+    ∷ (popExamples ++ (marginalExamples ++ (unsaveExamples ++ (byteExamples ++ (interruptExamples ++ (tripExamples ++ loadStoreExamples))))))
 
 -- flags of which none is enabled, rA before, and rA after here and there
 abbrev adding : ℕ → ℕ → ℕ → ℕ → ExampleException

@@ -11,13 +11,14 @@ use Rattle.model.specs.Octa.{octa}
 use Rattle.model.specs.Registers.{rC, rO, rS, rI, rU, rG, rL, rK, sp, reg, Sized, Words, MarginalZero, isMarginal, spilled}
 use Rattle.model.specs.Memory.{Windows, shapesOf, inside, both}
 use Rattle.model.specs.Plan.{look, mapOutcome, perform}
-use Rattle.model.specs.Opcodes.{Operand, register, immediate, Arm, branch, jump, getAddress, go, pushJump, pushGo, pop, put, get, save, unsave, sync, swym, trip, trap, none, armOf}
+use Rattle.model.specs.Opcodes.{Operand, register, immediate, Width, Sign, Arm, branch, jump, getAddress, go, pushJump, pushGo, pop, put, get, save, unsave, sync, swym, trip, trap, load, store, none, armOf}
 use Rattle.model.specs.NoMemory.{say}
-use Rattle.model.specs.Control.{xyzOf, operandOf}
+use Rattle.model.specs.Control.{xyzOf, sumOf, operandOf, isNegative}
 use Rattle.model.specs.Frames.{hole, framed, framedRule, noFrame, misplaced, popRule, popFrame}
 use Rattle.model.specs.Contexts.{below, unsaveContext, countBelow}
 use Rattle.model.specs.System.{putRefusal, got, gotRule}
 use Rattle.model.specs.Trips.{isLoaded, tripRule, tripTo, trapRule, trapOf, enabled, leftmost, added, exactUnderflow, addedRule}
+use Rattle.model.specs.LoadStore.{fits, flagV}
 use Rattle.model.specs.Step.{refusing, stepOf, exceptionOf}
 use Rattle.model.specs.Rules.{readRule, After, goesOn, interrupts, unsaveRule, stepRule, settledRule, exceptionRule, counted}
 use Rattle.model.specs.declared.State.{State}
@@ -49,6 +50,10 @@ ReadsAlike s sync x y z = Unit {0}
 ReadsAlike s swym x y z = Unit {0}
 ReadsAlike s trip x y z = ReadsZero s y × ReadsZero s z
 ReadsAlike s trap x y z = ReadsZero s y × ReadsZero s z
+ReadsAlike s (load d g register) x y z = ReadsZero s y × ReadsZero s z
+ReadsAlike s (load d g immediate) x y z = ReadsZero s y
+ReadsAlike s (store d g register) x y z = ReadsZero s x × ReadsZero s y × ReadsZero s z
+ReadsAlike s (store d g immediate) x y z = ReadsZero s x × ReadsZero s y
 ReadsAlike s none x y z = Unit {0}
 
 -- the context whose packed octabyte is at p passes what UNSAVE asks of the octabytes that it finds: 14, 15 and 16 are not met
@@ -90,6 +95,12 @@ pub record Outside (w : Windows) (s : State) (a : Arm) (x y z : ℕ) : Type 0 wh
   pub trip-loaded : a ≡ trip → isLoaded s 0 ≡ true
   -- no TRAP
   pub no-trap : a ≢ trap
+  -- a load's or a store's address is not the kernel's
+  pub load-low : (d : Width) (g : Sign) (o : Operand) → a ≡ load d g o → isNegative (sumOf s o y z) ≡ false
+  pub store-low : (d : Width) (g : Sign) (o : Operand) → a ≡ store d g o → isNegative (sumOf s o y z) ≡ false
+  -- the vector of a store that raises V, where that is enabled, is loaded
+  pub store-loaded : (d : Width) (g : Sign) (o : Operand) → a ≡ store d g o → fits d g (reg s x) ≡ false → eqb (enabled s flagV) 0 ≡ false
+      → isLoaded s (leadingZeros 8 (enabled s flagV) + 1) ≡ true
 
 -- The same of an exception
 pub record OutsideException (s : State) (f : ℕ) : Type 0 where

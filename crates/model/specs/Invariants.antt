@@ -30,4 +30,6 @@ pub record ItemsKeep : Type 0 where
   -- "once all zero, they stay zero through every step and every exception"
   pub marginal : (w : Windows) (s : State) (i : Item) → Sized s → MarginalZero s → MarginalZero (stepOn both mmix s w i .state)
   pub words : (w : Windows) (s : State) (i : Item) → Fits i → Bytes w → Words s → Words (stepOn both mmix s w i .state)
+  -- "no store sets a mark", and nothing else does
+  pub marks : (w : Windows) (s : State) (i : Item) → stepOn both mmix s w i .state .marks ≡ s .marks
   pub bytes : (w : Windows) (s : State) (i : Item) → Bytes w → Bytes (stepOn both mmix s w i .memory)

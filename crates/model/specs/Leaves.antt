@@ -1,12 +1,15 @@
 -- Theorem 1. Which replies there are, and what each leaves: 01, 'Replies', column 'left'.
-use Prim.Native.Nat.{ℕ, _≤_}
+use Prim.Native.Nat.{ℕ, _*_, _/_, _%_, _≤_}
 use mathlib.Core.Path.{_≡_}
 use mathlib.Core.Logic.{_⊎_, _≢_}
-use Rattle.model.specs.Memory.{Windows}
-use Rattle.model.specs.Plan.{Outcome}
+use Rattle.model.specs.Memory.{Windows, putOcta, both}
+use Rattle.model.specs.Plan.{Outcome, look}
 use Rattle.model.specs.Registers.{rB, rJ, rBB, rW, rX, rY, rZ, rWW, rXX, rYY, rZZ, sp, reg, following, Sized, halted}
+use Rattle.model.specs.Opcodes.{Operand, Width, signed, trip, store, armOf}
 use Rattle.model.specs.NoMemory.{Said}
+use Rattle.model.specs.Control.{sumOf}
 use Rattle.model.specs.Trips.{wordOf, withAdded}
+use Rattle.model.specs.LoadStore.{valuesOf, unitAt, operandIn, merged, flagV}
 use Rattle.model.specs.Step.{stepOf, exceptionOf}
 use Rattle.model.specs.Reader.{Part, emptyPart, readContext}
 use Rattle.model.specs.Numbers.{Early, Lost, Halting}
@@ -32,6 +35,26 @@ Tripped s t word u v = Interrupted s t rB rW rX rY rZ word u v
 abbrev pub Trapped : State → State → ℕ → ℕ → ℕ → Type 0
 Trapped s t word u v = Interrupted s t rBB rWW rXX rYY rZZ word u v
 
+-- 19 of TRIP leaves the window
+pub record TripLeaves (w : Windows) (s : State) (op x y z : ℕ) (o : Outcome State Windows) : Type 0 where
+  pub arm-is : armOf op ≡ trip
+  pub registers : Tripped s (o .state) (wordOf op x y z) (reg s y) (reg s z)
+  pub window : o .memory ≡ w
+
+-- 19 of a store "leaves the store made": rY is its address, rZ $x
+pub record StoreLeaves (w : Windows) (s : State) (op x y z : ℕ) (o : Outcome State Windows) : Type 0 where
+  pub width : Width
+  pub last : Operand
+  pub arm-is : armOf op ≡ store width signed last
+  pub registers : Tripped (withAdded s flagV) (o .state) (wordOf op x y z) (sumOf s last y z) (reg s x)
+  pub window : o .memory ≡ putOcta w (sumOf s last y z) (merged width (sumOf s last y z) (look both w (sumOf s last y z)) (reg s x))
+
+-- a store of u at a makes of an octabyte v one that differs in the operand's bytes alone: those left of it, those right of it, the operand
+pub record StoreMade (d : Width) (a v u : ℕ) : Type 0 where
+  pub left : merged d a v u / (unitAt d a * valuesOf d) ≡ v / (unitAt d a * valuesOf d)
+  pub right : merged d a v u % unitAt d a ≡ v % unitAt d a
+  pub operand : operandIn d a (merged d a v u) ≡ u % valuesOf d
+
 -- what a step leaves
 pub record StepLeaves (w : Windows) (s : State) (op x y z : ℕ) (o : Outcome State Windows) : Type 0 where
   pub most : o .reply ≤ 20
@@ -40,7 +63,7 @@ pub record StepLeaves (w : Windows) (s : State) (op x y z : ℕ) (o : Outcome St
   pub lost : Lost (o .reply) → (o .state ≡ s) × (o .memory ≡ w)
   -- 7 to 18
   pub halting : Halting (o .reply) → (o .state ≡ halted s) × (o .memory ≡ w)
-  pub nineteen : o .reply ≡ 19 → Tripped s (o .state) (wordOf op x y z) (reg s y) (reg s z) × (o .memory ≡ w)
+  pub nineteen : o .reply ≡ 19 → TripLeaves w s op x y z o ⊎ StoreLeaves w s op x y z o
   pub twenty : o .reply ≡ 20 → Trapped s (o .state) (wordOf op x y z) (reg s y) (reg s z) × (o .memory ≡ w)
   pub done : o .reply ≡ 0 → o .state .halt ≡ s .halt
 
@@ -61,3 +84,4 @@ pub record RepliesLeave : Type 0 where
   pub by-step : (w : Windows) (s : State) (op x y z : ℕ) → Sized s → StepLeaves w s op x y z (stepOf w s op x y z)
   pub by-exception : (s : State) (f op x y z u v : ℕ) → Sized s → ExceptionLeaves s f op x y z u v (exceptionOf s f op x y z u v)
   pub by-reader : (w : Windows) (p : ℕ) → ReaderLeaves w (readContext w p)
+  pub by-store : (d : Width) (a v u : ℕ) → StoreMade d a v u

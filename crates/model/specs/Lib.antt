@@ -11,6 +11,7 @@ pub mod Frames
 pub mod Contexts
 pub mod System
 pub mod Trips
+pub mod LoadStore
 pub mod Lists
 pub mod Step
 pub mod Reader
@@ -26,6 +27,7 @@ pub mod StepNeeds
 pub mod Demand
 pub mod Bench
 pub mod Points
+pub mod LoadStorePoints
 pub mod Roundtrip
 pub mod Departures
 pub mod DepartureExamples

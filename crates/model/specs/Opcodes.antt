@@ -1,6 +1,6 @@
 -- An opcode, decoded once: which arm of control.rs or system.rs it is.
 use Prim.Native.Nat.{ℕ, _/_, _%_}
-use mathlib.Core.Bool.{cond, _&&_}
+use mathlib.Core.Bool.{Bool, cond, _&&_}
 use mathlib.Core.List.{List, [], _∷_}
 use lib.Dec.{leb, eqb}
 use lib.ListN.{getD}
@@ -25,6 +25,17 @@ pub data Operand : Type 0 where
   register : Operand
   immediate : Operand
 
+-- the size of an operand in memory
+pub data Width : Type 0 where
+  byte : Width
+  wyde : Width
+  tetra : Width
+  octabyte : Width
+
+pub data Sign : Type 0 where
+  signed : Sign
+  unsigned : Sign
+
 pub data Arm : Type 0 where
   branch : Condition → Way → Arm
   jump : Way → Arm
@@ -41,6 +52,8 @@ pub data Arm : Type 0 where
   swym : Arm
   trip : Arm
   trap : Arm
+  load : Width → Sign → Operand → Arm
+  store : Width → Sign → Operand → Arm
   none : Arm
 
 -- ---- opcode bytes (mmixal.rs), each once
@@ -112,6 +125,19 @@ firstBranch = 0x40
 abbrev pub lastBranch : ℕ
 lastBranch = 0x5F
 
+-- LDB, LDBU, LDW, LDWU, LDT, LDTU, LDO, LDOU, each with $Z and then with Z: from LDB to LDOUI; the stores from STB to STOUI in the same order
+abbrev pub firstLoad : ℕ
+firstLoad = 0x80
+
+abbrev pub lastLoad : ℕ
+lastLoad = 0x8F
+
+abbrev pub firstStore : ℕ
+firstStore = 0xA0
+
+abbrev pub lastStore : ℕ
+lastStore = 0xAF
+
 -- BN, BZ, BP, BOD, BNN, BNZ, BNP, BEV
 abbrev conditions : List Condition
 conditions = negative ∷ isZero ∷ positive ∷ odd ∷ nonNegative ∷ nonZero ∷ nonPositive ∷ even ∷ []
@@ -119,6 +145,20 @@ conditions = negative ∷ isZero ∷ positive ∷ odd ∷ nonNegative ∷ nonZer
 -- even opcodes go forward, odd ones backward
 abbrev pub wayOf : ℕ → Way
 wayOf op = cond (eqb (op % 2) 0) forward backward
+
+-- even opcodes take $Z, odd ones Z
+abbrev pub lastOf : ℕ → Operand
+lastOf op = cond (eqb (op % 2) 0) register immediate
+
+abbrev widths : List Width
+widths = byte ∷ wyde ∷ tetra ∷ octabyte ∷ []
+
+-- "size by bits 2 and 3 of the opcode, unsigned by bit 1"
+unfoldable pub widthOf : ℕ → Width
+widthOf op = getD widths (op / 4 % 4) octabyte
+
+unfoldable pub signOf : ℕ → Sign
+signOf op = cond (eqb (op / 2 % 2) 0) signed unsigned
 
 pub record Entry : Type 0 where
   pub opcode : ℕ
@@ -148,6 +188,14 @@ find op (e ∷ es) = cond (eqb op (e .opcode)) (e .arm) (find op es)
 unfoldable pub conditionOf : ℕ → Condition
 conditionOf op = getD conditions (op / 2 % 8) even
 
+-- op is one of a to b
+abbrev pub among : ℕ → ℕ → ℕ → Bool
+among a b op = leb a op && leb op b
+
 -- 0x40 to 0x4F are the branches, each forward and then backward; "P-branches act as their plain kin": 0x50 to 0x5F in the same order
 unfoldable pub armOf : ℕ → Arm
-armOf op = cond (leb firstBranch op && leb op lastBranch) (branch (conditionOf op) (wayOf op)) (find op arms)
+armOf op =
+    cond (among firstBranch lastBranch op) (branch (conditionOf op) (wayOf op))
+    (cond (among firstLoad lastLoad op) (load (widthOf op) (signOf op) (lastOf op))
+    (cond (among firstStore lastStore op) (store (widthOf op) (signOf op) (lastOf op))
+    (find op arms)))

@@ -3,7 +3,7 @@
 -- Knuth: Fascicle 1, 1.3.1'; mmix-doc; mmix-sim for the letter, as we know them.
 use Prim.Native.Nat.{ℕ, _+_, _-_, _*_, _/_, _%_, _^_, min}
 use mathlib.Core.Bool.{cond, _&&_}
-use mathlib.Core.List.{List, []}
+use mathlib.Core.List.{List, [], _∷_}
 use lib.Dec.{leb, ltb, eqb}
 use lib.Count.{leadingZeros}
 use lib.ListN.{getD}
@@ -12,13 +12,14 @@ use Rattle.model.specs.Octa.{octa}
 use Rattle.model.specs.Registers.{withParts, rJ, rC, rO, rI, rU, rG, rL, sp, reg, following, admissible, goes, next, withSpecial, isMarginal, setRegister, spilled}
 use Rattle.model.specs.Memory.{Windows, shapesOf, both}
 use Rattle.model.specs.Plan.{Plan, answer, read, Outcome, mapPlan, perform}
-use Rattle.model.specs.Opcodes.{Operand, register, immediate, Arm, branch, jump, getAddress, go, pushJump, pushGo, pop, put, get, save, unsave, sync, swym, trip, trap, none, armOf}
+use Rattle.model.specs.Opcodes.{Operand, register, immediate, Width, Sign, Arm, branch, jump, getAddress, go, pushJump, pushGo, pop, put, get, save, unsave, sync, swym, trip, trap, load, store, none, armOf}
 use Rattle.model.specs.NoMemory.{Said, say, tell}
-use Rattle.model.specs.Control.{near, far, yzOf, xyzOf, holds}
+use Rattle.model.specs.Control.{near, far, yzOf, xyzOf, isNegative, holds}
 use Rattle.model.specs.Frames.{hole, framedRule, pushedRule, unslide}
 use Rattle.model.specs.Contexts.{extent, saved, savedState, below, unsavedSpecial, packedAt, octasOf, countBelow}
 use Rattle.model.specs.System.{putRefusal, putState, gotRule}
 use Rattle.model.specs.Trips.{wordOf, tripRule, trapRule, enabled, addedRule, flagged}
+use Rattle.model.specs.LoadStore.{merged, fits, loadFrom, flagV}
 use Rattle.model.specs.Step.{refusing, guarded}
 use Rattle.model.specs.declared.State.{State}
 
@@ -93,6 +94,28 @@ unsaveCountRule s q g a = read 6 (below q (countBelow g)) 1 (λ v. unsaveRestRul
 unfoldable pub unsaveRule : State → ℕ → Plan State
 unsaveRule s p = read 6 (octa p) 1 (λ v. unsaveCountRule s (octa p) (getD v 0 0 / 2 ^ 56) (getD v 0 0 % 2 ^ 18))
 
+-- ---- flags: "every exception but the taken one is added", and the trip is taken whatever is at the vector
+
+unfoldable pub withAddedRule : State → ℕ → State
+withAddedRule s f = flagged s (addedRule s f)
+
+unfoldable pub raisedRule : State → ℕ → ℕ → ℕ → ℕ → State
+raisedRule s f word u v =
+    cond (eqb (enabled s f) 0) (next (withAddedRule s f))
+    (tripRule (withAddedRule s f) (leadingZeros 8 (enabled s f) + 1) word u v)
+
+-- ---- loads and stores: an address of 2^63 or more is the kernel's, an interrupt
+
+unfoldable pub loadRule : State → Width → Sign → ℕ → ℕ → Plan After
+loadRule s d g x a = cond (isNegative a) interrupt (going (loadFrom s d g x a))
+
+unfoldable pub storeState : State → Width → Sign → ℕ → ℕ → ℕ → State
+storeState s d g u a word = cond (fits d g u) (next s) (raisedRule s flagV word a u)
+
+unfoldable pub storeRule : State → Width → Sign → ℕ → ℕ → ℕ → Plan After
+storeRule s d g u a word =
+    cond (isNegative a) interrupt (going (read 6 a 1 (λ v. answer 0 (storeState s d g u a word) a (merged d a (getD v 0 0) u ∷ []))))
+
 -- ---- the rule of each arm
 
 unfoldable pub ruleOf : State → Arm → ℕ → ℕ → ℕ → ℕ → Plan After
@@ -118,6 +141,8 @@ ruleOf s sync op x y z = cond (leb (xyzOf x y z) 3) (done (next s)) interrupt
 ruleOf s swym op x y z = done (next s)
 ruleOf s trip op x y z = done (tripRule s 0 (wordOf op x y z) (readRule s y) (readRule s z))
 ruleOf s trap op x y z = done (trapRule s (wordOf op x y z) (readRule s y) (readRule s z))
+ruleOf s (load d g o) op x y z = loadRule s d g x (sumRule s o y z)
+ruleOf s (store d g o) op x y z = storeRule s d g (readRule s x) (sumRule s o y z) (wordOf op x y z)
 -- not an instruction of this machine
 ruleOf s none op x y z = going (tell (say 3 s))
 
@@ -146,21 +171,15 @@ settled sync t = t
 settled swym t = t
 settled trip t = t
 settled trap t = t
+settled (load d g o) t = t
+settled (store d g o) t = t
 settled none t = t
 
 unfoldable pub settledRule : Windows → State → ℕ → ℕ → ℕ → ℕ → Outcome After Windows
 settledRule w s op x y z =
     perform both (refusing (shapesOf w)) (goesOn s) (guarded (goesOn s) s (shapesOf w) (mapPlan (settled (armOf op)) (ruleOf s (armOf op) op x y z))) w
 
--- ---- exceptions: "every exception but the taken one is added", and the trip is taken whatever is at the vector
-
-unfoldable pub withAddedRule : State → ℕ → State
-withAddedRule s f = flagged s (addedRule s f)
-
-unfoldable pub raisedRule : State → ℕ → ℕ → ℕ → ℕ → State
-raisedRule s f word u v =
-    cond (eqb (enabled s f) 0) (next (withAddedRule s f))
-    (tripRule (withAddedRule s f) (leadingZeros 8 (enabled s f) + 1) word u v)
+-- ---- exceptions
 
 -- KNUTH'S exception; "this entry judges 1"
 unfoldable pub exceptionRule : State → ℕ → ℕ → ℕ → ℕ → ℕ → ℕ → ℕ → Said

@@ -7,13 +7,14 @@ use Rattle.model.specs.Memory.{Windows, Shapes, shapesOf, ruled, inside,
 use Rattle.model.specs.Plan.{Plan, answer, Outcome, perform, needs}
 use Rattle.model.specs.Lists.{Machine}
 use Rattle.model.specs.Registers.{rJ, sp, reg, admissible, goes, following, next, setRegister}
-use Rattle.model.specs.Opcodes.{Arm, branch, jump, getAddress, go, pushJump, pushGo, pop, put, get, save, unsave, sync, swym, trip, trap, none, armOf}
+use Rattle.model.specs.Opcodes.{Arm, branch, jump, getAddress, go, pushJump, pushGo, pop, put, get, save, unsave, sync, swym, trip, trap, load, store, none, armOf}
 use Rattle.model.specs.NoMemory.{Said, say, tell}
 use Rattle.model.specs.Control.{near, far, yzOf, xyzOf, sumOf, operandOf, holds}
 use Rattle.model.specs.Frames.{hole, pushFrame, popFrame}
 use Rattle.model.specs.Contexts.{saveContext, unsaveContext}
 use Rattle.model.specs.System.{putSpecial, got, syncOf}
 use Rattle.model.specs.Trips.{wordOf, tripTo, trapOf, raised}
+use Rattle.model.specs.LoadStore.{loadFrom, storeTo}
 use Rattle.model.specs.declared.State.{State}
 
 -- ---- judging
@@ -22,7 +23,7 @@ use Rattle.model.specs.declared.State.{State}
 abbrev pub isNamed : ℕ → Bool
 isNamed y = leb y 10 || (leb 0x80 y && leb y 0x82)
 
--- 3: "opcode with no arm in the two dispatch files, or RESUME (0xF9)". 4: "TRAP with X = 0 and a Y that `from_u8` names".
+-- 3: "opcode with no arm in the two dispatch files, or RESUME (0xF9)", and none of the requests'. 4: "TRAP with X = 0 and a Y that `from_u8` names".
 -- 5: "GET with Z above 31"
 unfoldable pub refusalOf : Arm → ℕ → ℕ → ℕ → ℕ
 refusalOf none x y z = 3
@@ -41,6 +42,8 @@ refusalOf unsave x y z = 0
 refusalOf sync x y z = 0
 refusalOf swym x y z = 0
 refusalOf trip x y z = 0
+refusalOf (load d g o) x y z = 0
+refusalOf (store d g o) x y z = 0
 
 -- 2: "window length or base breaks its rule"; 0 where it does not
 unfoldable pub unruledBy : Shapes → ℕ
@@ -78,6 +81,9 @@ planOf s swym op x y z = tell (say 0 (next s))
 -- "TRIP's vector is 0; the operands of TRIP and TRAP are $Y and $Z from before"
 planOf s trip op x y z = tell (tripTo s 0 (wordOf op x y z) (reg s y) (reg s z))
 planOf s trap op x y z = tell (trapOf s (wordOf op x y z) (reg s y) (reg s z))
+-- "A is ($Y + $Z or Z) modulo 2^64"
+planOf s (load d g o) op x y z = loadFrom s d g x (sumOf s o y z)
+planOf s (store d g o) op x y z = storeTo s d g x (sumOf s o y z) (wordOf op x y z)
 planOf s none op x y z = tell (say 3 s)
 
 -- "Order: 1, 2, ..", `bad` where one of them is met; ..
