@@ -6,7 +6,7 @@ use Prim.Native.Nat.{ℕ, _+_, _%_, _^_}
 use borrow.Author.Tests.{eq-eqb, ne-eqb}
 use Rattle.model.specs.Memory.{Windows, shapesOf, ruled}
 use Rattle.model.specs.Registers.{reg, admissible, following, goes, next}
-use Rattle.model.specs.Opcodes.{branch, jump, getAddress, go, pushJump, pushGo, pop, register, immediate, wayOf, conditionOf, armOf}
+use Rattle.model.specs.Opcodes.{branch, jump, getAddress, go, pushJump, pushGo, pop, register, immediate, wayOf, conditionOf, armOf, lastOf}
 use Rattle.model.specs.NoMemory.{say}
 use Rattle.model.specs.Control.{near, sumOf, holds}
 use Rattle.model.specs.Step.{refusalOf, planOf, stepOf}
@@ -14,7 +14,7 @@ use Rattle.model.specs.declared.State.{State}
 use Rattle.model.specs.declared.Reply.{Reply}
 use Rattle.instruction.specs.NoMemoryArms.{Told}
 use Rattle.instruction.specs.StepAnswer.{Whole}
-use Rattle.instruction.specs.Arms.{lastOf, branchOf, jumpOf, addressOf, goOf, callTo, pushGoOf, pushJumpOf, returnOf}
+use Rattle.instruction.specs.Arms.{branchOf, jumpOf, addressOf, goOf, callTo, pushGoOf, pushJumpOf, returnOf}
 use Rattle.instruction.proofs.ArmSteps.{told-step, stack-step}
 
 -- ---- the sum, the branch

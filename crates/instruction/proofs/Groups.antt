@@ -1,14 +1,16 @@
 -- Which arm the opcodes of a range have; and that an opcode in no range that is no key of the code's match has none.
-use mathlib.Core.Path.{_≡_, refl, sym, _∙_}
-use mathlib.Core.Bool.{Bool, true, false, _||_}
+use mathlib.Core.Path.{_≡_, refl, sym, ap, _∙_}
+use mathlib.Core.Bool.{Bool, true, false, _&&_, _||_}
 use mathlib.Core.List.{List, [], _∷_}
-use Prim.Native.Nat.{ℕ}
-use lib.Dec.{eqb}
-use borrow.Author.Tests.{eqb-true, ne-eqb}
+use Prim.Native.Nat.{ℕ, _≤_, _<_}
+use native.Mathlib.Omega.{arith}
+use lib.Dec.{leb, eqb}
+use borrow.Author.Tests.{leb-true, lt-leb, eqb-true, ne-eqb}
 use mir.Val.{hasKey}
 use Rattle.model.specs.Opcodes.{opTRAP, opGO, opGOI, opPUSHGO, opPUSHGOI, opJMP, opJMPB, opPUSHJ, opPUSHJB, opGETA, opGETAB}
-use Rattle.model.specs.Opcodes.{opPUT, opPUTI, opPOP, opSAVE, opUNSAVE, opSYNC, opSWYM, opGET, opTRIP, branch, none, wayOf, conditionOf, armOf}
-use Rattle.instruction.specs.Groups.{isBranch}
+use Rattle.model.specs.Opcodes.{opPUT, opPUTI, opPOP, opSAVE, opUNSAVE, opSYNC, opSWYM, opGET, opTRIP, firstBranch, lastBranch, firstLoad, lastLoad, firstStore, lastStore}
+use Rattle.model.specs.Opcodes.{branch, load, store, none, wayOf, conditionOf, widthOf, signOf, lastOf, among, armOf}
+use Rattle.model.proofs.Bools.{and-left}
 
 -- what a match has learnt, after N, where it met none of its keys
 abbrev MissedAfter : Type 0 → List ℕ → ℕ → Type 0
@@ -30,15 +32,31 @@ missed : (ks : List ℕ) (op : ℕ) → Missed ks op → (n : ℕ) → hasKey ks
 missed ks op m = missed-after (Unit {0}) ks op m .1
 
 -- the keys in code, in their order
-abbrev keys : List ℕ
+abbrev pub keys : List ℕ
 keys = opTRAP ∷ opGO ∷ opGOI ∷ opPUSHGO ∷ opPUSHGOI ∷ opJMP ∷ opJMPB ∷ opPUSHJ ∷ opPUSHJB ∷ opGETA ∷ opGETAB
     ∷ opPUT ∷ opPUTI ∷ opPOP ∷ opSAVE ∷ opUNSAVE ∷ opSYNC ∷ opSWYM ∷ opGET ∷ opTRIP ∷ []
 
 module _ (op : ℕ) where
-  pub branch-arm : isBranch op ≡ true → armOf op ≡ branch (conditionOf op) (wayOf op)
+  -- two ranges of which one ends before the other begins
+  apart : (a b c d : ℕ) → b < c → among c d op ≡ true → among a b op ≡ false
+  apart a b c d l h = let k : c ≤ op = leb-true c op (and-left (leb c op) _ h) in ap (λ (t : Bool). leb a op && t) (lt-leb op b (omega arith)) ∙ off (leb a op)
+    where
+      off : (t : Bool) → (t && false) ≡ false
+      off true = refl
+      off false = refl
+
+  pub branch-arm : among firstBranch lastBranch op ≡ true → armOf op ≡ branch (conditionOf op) (wayOf op)
   unfolding armOf
   branch-arm h = rw h
 
-  pub no-arm : isBranch op ≡ false → Missed keys op → armOf op ≡ none
+  pub load-arm : among firstLoad lastLoad op ≡ true → armOf op ≡ load (widthOf op) (signOf op) (lastOf op)
   unfolding armOf
-  no-arm b m = simp (b, missed keys op m)
+  load-arm h = rw (apart firstBranch lastBranch firstLoad lastLoad (omega arith) h, h)
+
+  pub store-arm : among firstStore lastStore op ≡ true → armOf op ≡ store (widthOf op) (signOf op) (lastOf op)
+  unfolding armOf
+  store-arm h = rw (apart firstBranch lastBranch firstStore lastStore (omega arith) h, apart firstLoad lastLoad firstStore lastStore (omega arith) h, h)
+
+  pub no-arm : among firstBranch lastBranch op ≡ false → among firstLoad lastLoad op ≡ false → among firstStore lastStore op ≡ false → Missed keys op → armOf op ≡ none
+  unfolding armOf
+  no-arm b c d m = simp (b, c, d, missed keys op m)

@@ -5,8 +5,10 @@ pub mod NoMemoryReplies
 pub mod Interrupts
 pub mod PushPopSent
 pub mod Groups
+pub mod Operands
 pub mod ArmSteps
 pub mod ControlArms
 pub mod SaveUnsaveSent
 pub mod SystemArms
+pub mod LoadStoreArms
 pub mod EarlyRefusals

@@ -1,20 +1,18 @@
 -- What the arms come to that the contracts cite by name: of a state, and of a window and a state.
 use Prim.Native.Nat.{ℕ, _+_, _*_, _%_, _^_}
 use mathlib.Core.Bool.{cond}
-use lib.Dec.{eqb}
-use Rattle.model.specs.Memory.{Windows}
-use Rattle.model.specs.Plan.{Outcome}
+use Rattle.model.specs.Memory.{Windows, shapesOf, both}
+use Rattle.model.specs.Plan.{Plan, Outcome, perform}
 use Rattle.model.specs.Registers.{rJ, sp, reg, goes, next, following, setRegister}
-use Rattle.model.specs.Opcodes.{Operand, register, immediate, wayOf, conditionOf}
+use Rattle.model.specs.Opcodes.{firstLoad, lastLoad, firstStore, lastStore, widthOf, signOf, lastOf, wayOf, conditionOf, among}
 use Rattle.model.specs.Control.{near, far, sumOf, yzOf, holds}
 use Rattle.model.specs.Frames.{hole, pushFrame, popFrame}
+use Rattle.model.specs.Trips.{wordOf}
+use Rattle.model.specs.LoadStore.{loadFrom, storeTo}
+use Rattle.model.specs.Step.{refusing}
 use Rattle.model.specs.declared.State.{State}
 use Rattle.stack.specs.GivenBack.{guardedOn}
 use Rattle.stack.specs.SaveUnsave.{unsaveOf}
-
--- even opcodes take $Z, odd ones Z
-abbrev pub lastOf : ℕ → Operand
-lastOf op = cond (eqb (op % 2) 0) register immediate
 
 -- a branch
 unfoldable pub branchOf : State → ℕ → ℕ → ℕ → ℕ → State
@@ -53,3 +51,20 @@ returnOf w s x y z = guardedOn w s (popFrame s x ((sp s rJ + 4 * yzOf y z) % 2 ^
 -- UNSAVE of the context at $z
 abbrev pub unsaveAt : Windows → State → ℕ → Outcome State Windows
 unsaveAt w s z = unsaveOf w s (reg s z)
+
+-- a load, a store, once 1 and 2 have passed
+abbrev pub carriedOut : Windows → State → Plan State → Outcome State Windows
+carriedOut w s p = perform both (refusing (shapesOf w)) s p w
+
+abbrev pub loadOf : Windows → State → ℕ → ℕ → ℕ → ℕ → Outcome State Windows
+loadOf w s op x y z = carriedOut w s (loadFrom s (widthOf op) (signOf op) x (sumOf s (lastOf op) y z))
+
+abbrev pub storeOf : Windows → State → ℕ → ℕ → ℕ → ℕ → Outcome State Windows
+storeOf w s op x y z = carriedOut w s (storeTo s (widthOf op) (signOf op) x (sumOf s (lastOf op) y z) (wordOf op x y z))
+
+-- the opcodes that come in ranges, the branches apart; 3 for any other
+unfoldable pub rangedOf : Windows → State → ℕ → ℕ → ℕ → ℕ → Outcome State Windows
+rangedOf w s op x y z =
+    cond (among firstLoad lastLoad op) (loadOf w s op x y z)
+    (cond (among firstStore lastStore op) (storeOf w s op x y z)
+    (record { reply = 3; state = s; memory = w }))

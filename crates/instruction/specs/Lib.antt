@@ -3,4 +3,3 @@ pub mod NoMemoryArms
 pub mod Counts
 pub mod StepAnswer
 pub mod Arms
-pub mod Groups

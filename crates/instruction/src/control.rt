@@ -2,31 +2,18 @@
 ghost use mathlib.Core.Path.{_≡_};
 ghost use mathlib.Core.List.{List};
 ghost use Prim.Native.Nat.{ℕ};
+ghost use Rattle.model.specs.Opcodes.{lastOf};
 ghost use Rattle.model.specs.NoMemory.{say};
 ghost use Rattle.model.specs.Control.{sumOf};
 ghost use Rattle.model.specs.Parts.{made, lent};
 ghost use Rattle.instruction.specs.NoMemoryArms.{Told};
 ghost use Rattle.instruction.specs.StepAnswer.{Whole};
-ghost use Rattle.instruction.specs.Arms.{lastOf, branchOf, jumpOf, goOf, pushGoOf, pushJumpOf};
-ghost use Rattle.instruction.specs.Groups.{isBranch};
+ghost use Rattle.instruction.specs.Arms.{branchOf, jumpOf, goOf, pushGoOf, pushJumpOf};
 use super::calls;
 use super::opcode;
 use super::registers;
 use super::target;
 use model::Reply;
-
-/// Whether an opcode is a branch, plain or probable.
-pub(crate) fn is_branch(op: u8) -> bool
-    ensures { λ r. ⌜ r ≡ isBranch op ⌝ }
-{
-    if op < opcode::FIRST_BRANCH {
-        return false;
-    }
-    if op <= opcode::LAST_BRANCH {
-        return true;
-    }
-    false
-}
 
 /// A branch.
 pub(crate) fn branch(general: &[u64; 256], pc: &mut u64, op: u8, x: u8, y: u8, z: u8) -> Reply
@@ -55,7 +42,7 @@ pub(crate) fn jump(pc: &mut u64, op: u8, x: u8, y: u8, z: u8) -> Reply
 }
 
 /// $Y + $Z for an even opcode, $Y + Z for an odd one.
-fn sum(general: &[u64; 256], op: u8, y: u8, z: u8) -> u64
+pub(crate) fn sum(general: &[u64; 256], op: u8, y: u8, z: u8) -> u64
     ensures { λ r. ⌜ ((special : List ℕ) (pc halt marks : ℕ) → r
         ≡ sumOf (made (now (general .entry)) special pc halt marks) (lastOf op) y z) ⌝ }
 {

@@ -2,7 +2,8 @@
 //!
 //! - `step`: one step; 1 and 2 judged, then the choice by opcode
 //! - `control`, `system`: the arms of control.rs and system.rs that are more than a call of another file's
-//! - `opcode`: the opcodes by name
+//! - `load_store`: loads and stores; `operand`: sizes, places and signs of what they move
+//! - `opcode`: the opcodes by name, and their ranges
 //! - `target`: addresses and conditions
 //! - `registers`: the arms that move nothing but registers
 //! - `calls`: those that work on frames
@@ -14,7 +15,9 @@ pub mod calls;
 pub mod contexts;
 mod control;
 pub mod exceptions;
+mod load_store;
 pub mod opcode;
+mod operand;
 pub mod registers;
 pub mod step;
 mod system;

@@ -1,4 +1,6 @@
 // The opcode bytes (mmixal.rs), by name: those that have an arm. An odd one is its neighbour's kin: backward, or with Z itself.
+ghost use mathlib.Core.Path.{_≡_};
+ghost use Rattle.model.specs.Opcodes.{among};
 
 pub const TRAP: u8 = 0x00;
 /// BN to BEV, then PBN to PBEV, each forward and then backward.
@@ -6,9 +8,18 @@ pub const FIRST_BRANCH: u8 = 0x40;
 
 pub const LAST_BRANCH: u8 = 0x5F;
 
+/// LDB to LDOU, each with $Z and then with Z; the stores in the same order.
+pub const FIRST_LOAD: u8 = 0x80;
+
+pub const LAST_LOAD: u8 = 0x8F;
+
 pub const GO: u8 = 0x9E;
 
 pub const GOI: u8 = 0x9F;
+
+pub const FIRST_STORE: u8 = 0xA0;
+
+pub const LAST_STORE: u8 = 0xAF;
 
 pub const PUSHGO: u8 = 0xBE;
 
@@ -43,3 +54,16 @@ pub const SWYM: u8 = 0xFD;
 pub const GET: u8 = 0xFE;
 
 pub const TRIP: u8 = 0xFF;
+
+/// Whether an opcode is one of a range.
+pub(crate) fn is_among(op: u8, first: u8, last: u8) -> bool
+    ensures { λ r. ⌜ r ≡ among first last op ⌝ }
+{
+    if op < first {
+        return false;
+    }
+    if op <= last {
+        return true;
+    }
+    false
+}

@@ -6,14 +6,45 @@ ghost use Rattle.model.specs.Registers.{admissible};
 ghost use Rattle.model.specs.Parts.{made, lent};
 ghost use Rattle.model.specs.Step.{stepOf};
 ghost use Rattle.instruction.specs.StepAnswer.{Whole};
+ghost use Rattle.instruction.specs.Arms.{rangedOf};
 use super::calls;
 use super::contexts;
 use super::control;
 use super::exceptions;
+use super::load_store;
 use super::opcode;
 use super::registers;
 use super::system;
 use model::Reply;
+
+/// The opcodes that come in ranges, the branches apart: a question for each range, then 3.
+fn by_range(
+    general: &mut [u64; 256],
+    special: &mut [u64; 32],
+    pc: &mut u64,
+    halt: &mut u64,
+    marks: u64,
+    window: &mut [u8],
+    base: u64,
+    op: u8,
+    x: u8,
+    y: u8,
+    z: u8,
+) -> Reply
+    requires { ⌜ admissible (made (now general) (now special) (now pc) (now halt) marks) ≡ true ⌝ }
+    ensures { λ r. ⌜ Whole
+        (rangedOf (lent base (now (window .entry)))
+        (made (now (general .entry)) (now (special .entry)) (now (pc .entry)) (now (halt .entry)) marks) op x y z)
+        r (made (now (general .exit)) (now (special .exit)) (now (pc .exit)) (now (halt .exit)) marks) (lent base (now (window .exit))) ⌝ }
+{
+    if opcode::is_among(op, opcode::FIRST_LOAD, opcode::LAST_LOAD) {
+        return load_store::load(general, special, pc, window, base, op, x, y, z);
+    }
+    if opcode::is_among(op, opcode::FIRST_STORE, opcode::LAST_STORE) {
+        return load_store::store(general, special, pc, halt, marks, window, base, op, x, y, z);
+    }
+    Reply::NoArm
+}
 
 /// The arm, or 3, once 1 and 2 have passed. Each opcode of the match is a key by itself, so that the choice is a jump and no chain of tests.
 fn dispatch(
@@ -36,7 +67,7 @@ fn dispatch(
         (made (now (general .entry)) (now (special .entry)) (now (pc .entry)) (now (halt .entry)) marks) op x y z)
         r (made (now (general .exit)) (now (special .exit)) (now (pc .exit)) (now (halt .exit)) marks) (lent base (now (window .exit))) ⌝ }
 {
-    if control::is_branch(op) {
+    if opcode::is_among(op, opcode::FIRST_BRANCH, opcode::LAST_BRANCH) {
         return control::branch(general, pc, op, x, y, z);
     }
     match op {
@@ -64,7 +95,7 @@ fn dispatch(
         opcode::SWYM => system::skip(pc),
         opcode::GET => registers::get_special(general, special, pc, x, z),
         opcode::TRIP => exceptions::trip_arm(general, special, pc, halt, marks, op, x, y, z),
-        _ => Reply::NoArm,
+        _ => by_range(general, special, pc, halt, marks, window, base, op, x, y, z),
     }
 }
 

@@ -2,6 +2,7 @@
 pub mod SlidRanges
 pub mod PushPopRegisters
 pub mod Judged
+pub mod PassedOctas
 pub mod PushPopAnswers
 pub mod SaveStores
 pub mod UnsaveLoads

@@ -1,5 +1,4 @@
-// What the layer above needs of the machine, under contracts of the stack's own: numbers, the octabytes of a window (for loads, stores
-// and fetching, which are not yet there), registers.
+// What the layer above needs of the machine, under contracts of the stack's own: numbers, the octabytes of a window, registers.
 ghost use mathlib.Core.Path.{_≡_};
 ghost use mathlib.Core.List.{List};
 ghost use Prim.Native.Nat.{ℕ, _+_, _-_, _%_, _^_};

@@ -3,15 +3,15 @@ use mathlib.Core.Path.{sym, _∙_}
 use borrow.Author.Needs.{needs}
 use Rattle.model.specs.Opcodes.{armOf}
 use Rattle.model.specs.Parts.{made}
-use Rattle.instruction.proofs.Groups.{branch-arm, no-arm}
+use Rattle.instruction.proofs.Groups.{branch-arm}
 use Rattle.instruction.proofs.ControlArms.{step-branch, step-go, step-push-go, step-jump, step-push-jump, step-get-address, step-pop}
 use Rattle.instruction.proofs.SystemArms.{trap-step, put-step, puti-step, save-step, unsave-step, sync-step, swym-step, get-step, trip-step}
-use Rattle.instruction.proofs.EarlyRefusals.{no-arm-step}
+use Rattle.instruction.proofs.LoadStoreArms.{ranged-step}
 use Rattle.instruction.proofs.step.dispatch.Statement.{statement}
 use Rattle.instruction.proofs.step.dispatch.Tie as tie
 
-is-branch-requires : tie.Need-is-branch-requires
-is-branch-requires c κs = search needs
+is-among-requires : tie.Need-is-among-requires
+is-among-requires c κs = search needs
 
 branch-requires : tie.Need-branch-requires
 branch-requires c κs = search needs
@@ -20,7 +20,7 @@ returns : tie.Need-returns
 returns c =
     let then = c .before .before .before in
     let start = then .before .before .before in
-    step-branch _ _ (start .pre .0) (start .pre .1) _ _ _ _ _ (made _ _ _ _ _) (branch-arm _ (sym (then .before .is-branch .ensures) ∙ then .if1 .taken)) (c .branch .ensures _ _ _)
+    step-branch _ _ (start .pre .0) (start .pre .1) _ _ _ _ _ (made _ _ _ _ _) (branch-arm _ (sym (then .before .is-among .ensures) ∙ then .if1 .taken)) (c .branch .ensures _ _ _)
 
 trap-arm-requires : tie.Need-trap-arm-requires
 trap-arm-requires c κs = search needs
@@ -243,11 +243,19 @@ returns-21 c =
     let start = key .before .before .before .before in
     trip-step _ _ (start .pre .0) (start .pre .1) _ _ _ _ _ (made _ _ _ _ _) (rw (key .match .keys20)) (c .trip-arm .ensures)
 
+by-range-requires : tie.Need-by-range-requires
+by-range-requires c κs = search needs
+
+same-length-8 : tie.Need-same-length-8
+same-length-8 c = search needs
+
 returns-22 : tie.Need-returns-22
 returns-22 c =
-    let else = c .before in
+    let call = c .before .before in
+    let rest = call .before .before .before .before .before .before in
+    let else = rest .before in
     let start = else .before .before .before in
-    no-arm-step _ _ _ _ _ _ (start .pre .0) (start .pre .1) (no-arm _ (sym (else .before .is-branch .ensures) ∙ else .if1 .left) (c .match .rest))
+    ranged-step _ _ (start .pre .0) (start .pre .1) _ _ _ _ _ (made _ _ _ _ _) _ (sym (else .before .is-among .ensures) ∙ else .if1 .left) (rest .match .rest) (call .by-range .ensures)
 
 pub dispatch-spec : {M : Type 1} → statement M
-dispatch-spec = tie.close (tie.spec is-branch-requires branch-requires returns trap-arm-requires go-by-requires go-by-requires-2 push-go-requires push-go-requires-2 jump-requires jump-requires-2 push-jump-requires push-jump-requires-2 get-address-requires get-address-requires-2 put-register-requires put-value-requires pop-to-requires save-to-requires unsave-register-requires synchronize-requires skip-requires get-special-requires trip-arm-requires returns-2 returns-3 returns-4 same-length returns-5 same-length-2 returns-6 returns-7 returns-8 same-length-3 returns-9 same-length-4 returns-10 returns-11 returns-12 returns-13 returns-14 same-length-5 returns-15 same-length-6 returns-16 same-length-7 returns-17 returns-18 returns-19 returns-20 returns-21 returns-22)
+dispatch-spec = tie.close (tie.spec is-among-requires branch-requires returns trap-arm-requires go-by-requires go-by-requires-2 push-go-requires push-go-requires-2 jump-requires jump-requires-2 push-jump-requires push-jump-requires-2 get-address-requires get-address-requires-2 put-register-requires put-value-requires pop-to-requires save-to-requires unsave-register-requires synchronize-requires skip-requires get-special-requires trip-arm-requires by-range-requires returns-2 returns-3 returns-4 same-length returns-5 same-length-2 returns-6 returns-7 returns-8 same-length-3 returns-9 same-length-4 returns-10 returns-11 returns-12 returns-13 returns-14 same-length-5 returns-15 same-length-6 returns-16 same-length-7 returns-17 returns-18 returns-19 returns-20 returns-21 same-length-8 returns-22)

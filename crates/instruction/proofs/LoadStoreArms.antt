@@ -1,0 +1,103 @@
+-- Laws of loads and stores, over plain variables: an address that is refused; then what a load leaves, what a store leaves where $X fits and where it
+-- raises V; the step of their opcodes. The operand: Operands.
+use mathlib.Core.Path.{_≡_, refl, ap, _∙_}
+use mathlib.Core.Bool.{Bool, true, false, cond}
+use mathlib.Core.List.{List, _∷_, []}
+use Prim.Native.Nat.{ℕ, _+_, _%_, _^_}
+use native.Mathlib.Omega.{arith}
+use lib.Dec.{eqb}
+use borrow.Author.Tests.{eq-eqb, ne-eqb}
+use Rattle.model.specs.Memory.{Windows, shapesOf, ruled, putOcta, both, one}
+use Rattle.model.specs.Plan.{Plan, answer, read, perform, worst, named, look, looks, puts}
+use Rattle.model.specs.Registers.{withParts, reg, admissible, setRegister}
+use Rattle.model.specs.Opcodes.{firstBranch, lastBranch, firstLoad, lastLoad, firstStore, lastStore, among, widthOf, signOf, lastOf, load, store, armOf}
+use Rattle.model.specs.Control.{sumOf}
+use Rattle.model.specs.Trips.{wordOf}
+use Rattle.model.specs.LoadStore.{operandIn, merged, extended, fits, loadFrom, flagV, storeSays, storeTo}
+use Rattle.model.specs.Step.{refusing, refusalOf, planOf, stepOf, exceptionOf}
+use Rattle.model.specs.Numbers.{replyOf}
+use Rattle.model.specs.Parts.{made}
+use Rattle.model.specs.declared.State.{State}
+use Rattle.model.specs.declared.Reply.{Reply}
+use Rattle.model.specs.declared.Reply.the-variants.{Done, Missing}
+use Rattle.model.proofs.ArmAnswers.{worst-six}
+use Rattle.model.proofs.Entry.{step-open}
+use Rattle.model.proofs.StepByArm.{step-refused}
+use Rattle.instruction.specs.NoMemoryArms.{Told}
+use Rattle.instruction.specs.StepAnswer.{Whole}
+use Rattle.instruction.specs.Arms.{carriedOut, loadOf, storeOf, rangedOf}
+use Rattle.instruction.proofs.NoMemoryReplies.{next-is}
+use Rattle.instruction.proofs.Groups.{Missed, keys, load-arm, store-arm, no-arm}
+
+-- ---- one octabyte, read first
+
+module _ (w : Windows) (s : State) (a : ℕ) (k : List ℕ → Plan State) where
+  read-missing : (worst (refusing (shapesOf w)) a 1 ≡ 0 → ⊥) → Whole (carriedOut w s (read 6 a 1 k)) Missing s w
+  unfolding perform named replyOf
+  read-missing n =
+      let e : eqb (worst (refusing (shapesOf w)) a 1) 0 ≡ false = ne-eqb _ 0 n in
+      rw (e, worst-six (shapesOf w) 1 a e) (record { reply-is = refl; state-is = refl; window-is = refl })
+
+  read-there : worst (refusing (shapesOf w)) a 1 ≡ 0 → carriedOut w s (read 6 a 1 k) ≡ carriedOut w s (k (look both w a ∷ []))
+  unfolding perform looks
+  read-there e = rw (eq-eqb _ 0 e)
+
+  -- an answer that stores there
+  stores-there : (r : ℕ) (t : State) (v : ℕ) → worst (refusing (shapesOf w)) a 1 ≡ 0 → carriedOut w s (answer r t a (v ∷ [])) ≡ record { reply = r; state = t; memory = putOcta w a v }
+  unfolding perform puts one
+  stores-there r t v e = rw (eq-eqb _ 0 e)
+
+module _ (w : Windows) (s : State) (op x y z a : ℕ) (h : a ≡ sumOf s (lastOf op) y z) where
+  -- ---- loads
+
+  pub load-missing : (worst (refusing (shapesOf w)) a 1 ≡ 0 → ⊥) → Whole (loadOf w s op x y z) Missing s w
+  unfolding loadFrom
+  load-missing n = rw (← h) (read-missing w s a _ n)
+
+  module _ (e : worst (refusing (shapesOf w)) a 1 ≡ 0) where
+    pub load-done : (v u : ℕ) (g l : List ℕ) (n : ℕ) → v ≡ look both w a → u ≡ extended (widthOf op) (signOf op) (operandIn (widthOf op) a v)
+        → withParts s g l ≡ setRegister s x u → n ≡ (s .pc + 4) % 2 ^ 64 → Whole (loadOf w s op x y z) Done (made g l n (s .halt) (s .marks)) w
+    unfolding loadFrom
+    load-done v u g l n p q r f = rw (← h, read-there w s a _ e)
+        (unfold perform worst puts replyOf in (record { reply-is = refl; state-is = next-is s _ g l (r ∙ ap (setRegister s x) (q ∙ ap (λ (k : ℕ). extended (widthOf op) (signOf op) (operandIn (widthOf op) a k)) p)) n f; window-is = refl }))
+
+  -- ---- stores
+
+  pub store-missing : (worst (refusing (shapesOf w)) a 1 ≡ 0 → ⊥) → Whole (storeOf w s op x y z) Missing s w
+  unfolding storeTo
+  store-missing n = rw (← h) (read-missing w s a _ n)
+
+  module _ (e : worst (refusing (shapesOf w)) a 1 ≡ 0) (v m : ℕ) (u : Windows) (p : v ≡ look both w a) (q : m ≡ merged (widthOf op) a v (reg s x)) (r : u ≡ putOcta w a m) where
+    store-says : storeOf w s op x y z ≡ record { reply = storeSays s (widthOf op) (signOf op) x a (wordOf op x y z) .reply; state = storeSays s (widthOf op) (signOf op) x a (wordOf op x y z) .state; memory = u }
+    unfolding storeTo
+    store-says = rw (← h, read-there w s a _ e, ← p, ← q, stores-there w s a (λ k. answer 0 s 0 []) (storeSays s (widthOf op) (signOf op) x a (wordOf op x y z) .reply) (storeSays s (widthOf op) (signOf op) x a (wordOf op x y z) .state) m e, r)
+
+    pub store-fits : (n : ℕ) → fits (widthOf op) (signOf op) (reg s x) ≡ true → n ≡ (s .pc + 4) % 2 ^ 64 → Whole (storeOf w s op x y z) Done (made (s .general) (s .special) n (s .halt) (s .marks)) u
+    unfolding storeSays replyOf
+    store-fits n f i = rw (store-says, f) (record { reply-is = refl; state-is = next-is s s (s .general) (s .special) refl n i; window-is = refl })
+
+    pub store-raises : (k : Reply) (t : State) → admissible s ≡ true → fits (widthOf op) (signOf op) (reg s x) ≡ false → Told (exceptionOf s flagV op x y z a (reg s x)) k t → Whole (storeOf w s op x y z) k t u
+    unfolding storeSays exceptionOf
+    store-raises k t b f i = rw (store-says, f) (record { reply-is = (rw b at i) .reply-is; state-is = (rw b at i) .state-is; window-is = refl })
+
+-- ---- the step
+
+module _ (w : Windows) (s : State) (a : admissible s ≡ true) (u : ruled (shapesOf w) ≡ true) (op x y z : ℕ) (r : Reply) (t : State) where
+  step-load : (v : Windows) → armOf op ≡ load (widthOf op) (signOf op) (lastOf op) → Whole (loadOf w s op x y z) r t v → Whole (stepOf w s op x y z) r t v
+  unfolding refusalOf planOf
+  step-load v e h = rw (step-open w s op x y z a u (rw e), e) h
+
+  step-store : (v : Windows) → armOf op ≡ store (widthOf op) (signOf op) (lastOf op) → Whole (storeOf w s op x y z) r t v → Whole (stepOf w s op x y z) r t v
+  unfolding refusalOf planOf
+  step-store v e h = rw (step-open w s op x y z a u (rw e), e) h
+
+  -- an opcode that is no branch and no key of the choice
+  pub ranged-step : (v : Windows) → among firstBranch lastBranch op ≡ false → Missed keys op → Whole (rangedOf w s op x y z) r t v → Whole (stepOf w s op x y z) r t v
+  unfolding rangedOf
+  ranged-step v b m = go (among firstLoad lastLoad op) (among firstStore lastStore op) refl refl
+    where
+      go : (p q : Bool) → among firstLoad lastLoad op ≡ p → among firstStore lastStore op ≡ q
+          → Whole (cond p (loadOf w s op x y z) (cond q (storeOf w s op x y z) (record { reply = 3; state = s; memory = w }))) r t v → Whole (stepOf w s op x y z) r t v
+      go true q e f h = step-load v (load-arm op e) h
+      go false true e f h = step-store v (store-arm op f) h
+      go false false e f h = rw (step-refused w s a u op x y z 3 (unfold refusalOf in (rw (no-arm op b e f m))) (omega arith)) h

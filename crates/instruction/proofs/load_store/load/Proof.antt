@@ -1,0 +1,69 @@
+-- `load` meets its contract: the address, whether it is there, the operand extended, then $X.
+use mathlib.Core.Path.{_∙_}
+use borrow.Author.Needs.{needs}
+use Rattle.model.specs.Parts.{made, lent}
+use Rattle.model.proofs.LoadStore.{operand-small}
+use Rattle.stack.proofs.PassedOctas.{octa-read}
+use Rattle.instruction.proofs.LoadStoreArms.{load-missing, load-done}
+use Rattle.instruction.proofs.load_store.load.Statement.{statement}
+use Rattle.instruction.proofs.load_store.load.Tie as tie
+
+sum-requires : tie.Need-sum-requires
+sum-requires c κs = search needs
+
+run-refusal-requires : tie.Need-run-refusal-requires
+run-refusal-requires c κs = search needs
+
+returns : tie.Need-returns
+returns c =
+    λ halt marks.
+    let test = c .before in
+    let sums = test .before in
+    let a = sums .before .before .before .args in
+    let s = made (a .general .now) (a .special .now) (a .pc .now) halt marks in
+    load-missing (lent (a .base) (a .window .now)) s _ _ _ _ _ (sums .sum .ensures (a .special .now) (a .pc .now) halt marks) (rw (test .run-refusal .ensures) at (c .if1 .taken))
+
+read-octa-requires : tie.Need-read-octa-requires
+read-octa-requires c κs = search needs
+
+operand-requires : tie.Need-operand-requires
+operand-requires c κs = search needs
+
+extended-requires : tie.Need-extended-requires
+extended-requires c κs = rw (c .operand .ensures) (operand-small _ _ _)
+
+set-register-requires : tie.Need-set-register-requires
+set-register-requires c κs = search needs
+
+following-requires : tie.Need-following-requires
+following-requires c κs = search needs
+
+returns-2 : tie.Need-returns-2
+returns-2 c =
+    λ halt marks.
+    let sets = c .before .before in
+    let extends = sets .before .before .before in
+    let reads = extends .before .before in
+    let else = reads .before in
+    let test = else .before in
+    let sums = test .before in
+    let a = sums .before .before .before .args in
+    let w = lent (a .base) (a .window .now) in
+    let s = made (a .general .now) (a .special .now) (a .pc .now) halt marks in
+    let there = rw (test .run-refusal .ensures) at (else .if1 .left) in
+    load-done w s _ _ _ _ _ (sums .sum .ensures (a .special .now) (a .pc .now) halt marks) there _ _ _ _ _
+    (reads .read-octa .ensures ∙ octa-read w _ there) (rw (extends .before .operand .ensures) at (extends .extended .ensures)) (sets .set-register .ensures s) (c .following .ensures)
+
+pub load-spec : {M : Type 1} → statement M
+load-spec =
+    tie.close
+    (tie.spec
+    sum-requires
+    run-refusal-requires
+    returns
+    read-octa-requires
+    operand-requires
+    extended-requires
+    set-register-requires
+    following-requires
+    returns-2)

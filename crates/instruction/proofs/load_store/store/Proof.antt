@@ -1,0 +1,113 @@
+-- `store` meets its contract: the address, whether it is there, the store, then V where $X does not fit.
+use mathlib.Core.Path.{sym, _∙_}
+use borrow.Author.Needs.{needs}
+use Rattle.model.specs.Parts.{made, lent}
+use Rattle.stack.proofs.PassedOctas.{octa-read, octa-written}
+use Rattle.instruction.proofs.LoadStoreArms.{store-missing, store-fits, store-raises}
+use Rattle.instruction.proofs.load_store.store.Statement.{statement}
+use Rattle.instruction.proofs.load_store.store.Tie as tie
+
+sum-requires : tie.Need-sum-requires
+sum-requires c κs = search needs
+
+run-refusal-requires : tie.Need-run-refusal-requires
+run-refusal-requires c κs = search needs
+
+same-length : tie.Need-same-length
+same-length c = search needs
+
+returns : tie.Need-returns
+returns c =
+    let test = c .before in
+    let sums = test .before .before in
+    let a = sums .before .before .before .args in
+    let s = made (a .general .now) (a .special .now) (a .pc .now) (a .halt .now) (a .marks) in
+    store-missing (lent (a .base) (a .window .now)) s _ _ _ _ _ (sums .sum .ensures (a .special .now) (a .pc .now) (a .halt .now) (a .marks)) (rw (test .run-refusal .ensures) at (c .if1 .taken))
+
+read-octa-requires : tie.Need-read-octa-requires
+read-octa-requires c κs = search needs
+
+mul-u : tie.Need-mul-u
+mul-u c = search needs
+
+element-copy-out-u : tie.Need-element-copy-out-u
+element-copy-out-u c = search needs
+
+merged-requires : tie.Need-merged-requires
+merged-requires c κs = search needs
+
+write-octa-requires : tie.Need-write-octa-requires
+write-octa-requires c κs = search needs
+
+fits-requires : tie.Need-fits-requires
+fits-requires c κs = search needs
+
+following-requires : tie.Need-following-requires
+following-requires c κs = search needs
+
+same-length-2 : tie.Need-same-length-2
+same-length-2 c = search needs
+
+returns-2 : tie.Need-returns-2
+returns-2 c =
+    let then = c .before .before in
+    let asks = then .before in
+    let writes = asks .before .before .before in
+    let reads = writes .before .before .before .before in
+    let else = reads .before .before in
+    let test = else .before in
+    let sums = test .before .before in
+    let start = sums .before .before .before in
+    let a = start .args in
+    let w = lent (a .base) (a .window .now) in
+    let s = made (a .general .now) (a .special .now) (a .pc .now) (a .halt .now) (a .marks) in
+    let there = rw (test .run-refusal .ensures) at (else .if1 .left) in
+    store-fits w s _ _ _ _ _ (sums .sum .ensures (a .special .now) (a .pc .now) (a .halt .now) (a .marks)) there _ _ _
+    (reads .read-octa .ensures ∙ octa-read w _ there) (writes .before .merged .ensures) (writes .write-octa .ensures ∙ octa-written w _ there _)
+    _ (sym (asks .fits2 .ensures) ∙ then .if2 .taken) (c .following .ensures)
+
+raise-exceptions-requires : tie.Need-raise-exceptions-requires
+raise-exceptions-requires c κs = search needs
+
+same-length-3 : tie.Need-same-length-3
+same-length-3 c = search needs
+
+returns-3 : tie.Need-returns-3
+returns-3 c =
+    let raises = c .before in
+    let left = c .before .before .before .before .before in
+    let asks = left .before in
+    let writes = asks .before .before .before in
+    let reads = writes .before .before .before .before in
+    let else = reads .before .before in
+    let test = else .before in
+    let sums = test .before .before in
+    let start = sums .before .before .before in
+    let a = start .args in
+    let w = lent (a .base) (a .window .now) in
+    let s = made (a .general .now) (a .special .now) (a .pc .now) (a .halt .now) (a .marks) in
+    let there = rw (test .run-refusal .ensures) at (else .if1 .left) in
+    store-raises w s _ _ _ _ _ (sums .sum .ensures (a .special .now) (a .pc .now) (a .halt .now) (a .marks)) there _ _ _
+    (reads .read-octa .ensures ∙ octa-read w _ there) (writes .before .merged .ensures) (writes .write-octa .ensures ∙ octa-written w _ there _)
+    _ _ (start .pre) (sym (asks .fits2 .ensures) ∙ left .if2 .left) (c .raise-exceptions .ensures)
+
+pub store-spec : {M : Type 1} → statement M
+store-spec =
+    tie.close
+    (tie.spec
+    sum-requires
+    run-refusal-requires
+    same-length
+    returns
+    read-octa-requires
+    mul-u
+    element-copy-out-u
+    merged-requires
+    write-octa-requires
+    fits-requires
+    following-requires
+    same-length-2
+    returns-2
+    raise-exceptions-requires
+    same-length-3
+    returns-3)

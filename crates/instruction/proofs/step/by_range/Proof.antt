@@ -1,0 +1,60 @@
+-- `by_range` meets its contract: each question is one of the ranges', in their order.
+use mathlib.Core.Path.{sym, _∙_}
+use borrow.Author.Needs.{needs}
+use Rattle.model.specs.Numbers.{replyOf}
+use Rattle.instruction.specs.Arms.{rangedOf}
+use Rattle.instruction.proofs.step.by_range.Statement.{statement}
+use Rattle.instruction.proofs.step.by_range.Tie as tie
+
+is-among-requires : tie.Need-is-among-requires
+is-among-requires c κs = search needs
+
+load-requires : tie.Need-load-requires
+load-requires c κs = search needs
+
+same-length : tie.Need-same-length
+same-length c = search needs
+
+returns : tie.Need-returns
+unfolding rangedOf
+returns c =
+    let then = c .before .before .before .before .before in
+    let a = then .before .before .before .args in
+    rw (sym (then .before .is-among .ensures) ∙ then .if1 .taken) (c .load .ensures (a .halt .now) (a .marks))
+
+is-among-requires-2 : tie.Need-is-among-requires-2
+is-among-requires-2 c κs = search needs
+
+store-requires : tie.Need-store-requires
+store-requires c κs = search needs
+
+same-length-2 : tie.Need-same-length-2
+same-length-2 c = search needs
+
+returns-2 : tie.Need-returns-2
+unfolding rangedOf
+returns-2 c =
+    let call = c .before .before in
+    let then = call .before .before .before .before .before .before in
+    let first = then .before .before in
+    rw (sym (first .before .is-among .ensures) ∙ first .if1 .left, sym (then .before .is-among2 .ensures) ∙ then .if2 .taken) (call .store .ensures)
+
+returns-3 : tie.Need-returns-3
+unfolding rangedOf replyOf
+returns-3 c =
+    let first = c .before .before in
+    rw (sym (first .before .is-among .ensures) ∙ first .if1 .left, sym (c .before .is-among2 .ensures) ∙ c .if2 .left) (search needs)
+
+pub by-range-spec : {M : Type 1} → statement M
+by-range-spec =
+    tie.close
+    (tie.spec
+    is-among-requires
+    load-requires
+    same-length
+    returns
+    is-among-requires-2
+    store-requires
+    same-length-2
+    returns-2
+    returns-3)

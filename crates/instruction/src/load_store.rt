@@ -1,0 +1,91 @@
+// Loads and stores, once 1 and 2 have passed.
+ghost use mathlib.Core.Path.{_≡_};
+ghost use mathlib.Core.Bool.{true};
+ghost use Prim.Native.Nat.{ℕ};
+ghost use Rattle.model.specs.Registers.{admissible};
+ghost use Rattle.model.specs.Parts.{made, lent};
+ghost use Rattle.instruction.specs.StepAnswer.{Whole};
+ghost use Rattle.instruction.specs.Arms.{loadOf, storeOf};
+use super::control;
+use super::exceptions;
+use super::operand;
+use super::target;
+use model::Reply;
+
+/// Integer overflow, among the flags of an exception.
+const FLAG_V: u8 = 0x40;
+
+/// LDB to LDOU: 6 comes before $X is claimed.
+pub(crate) fn load(
+    general: &mut [u64; 256],
+    special: &mut [u64; 32],
+    pc: &mut u64,
+    window: &[u8],
+    base: u64,
+    op: u8,
+    x: u8,
+    y: u8,
+    z: u8,
+) -> Reply
+    ensures { λ r. ⌜ ((halt marks : ℕ) → Whole
+        (loadOf (lent base (now (window .entry)))
+        (made (now (general .entry)) (now (special .entry)) (now (pc .entry)) halt marks) op x y z)
+        r (made (now (general .exit)) (now (special .exit)) (now (pc .exit)) halt marks) (lent base (now (window .entry)))) ⌝ }
+{
+    let addr = control::sum(general, op, y, z);
+    if stack::pass::run_refusal(window, base, addr, 1) != 0 {
+        return Reply::Missing;
+    }
+    let v = stack::pass::read_octa(window, base, addr);
+    let u = operand::extended(op, operand::operand(op, addr, v));
+    stack::pass::set_register(general, special, x, u);
+    *pc = target::following(*pc);
+    Reply::Done
+}
+
+/// STB to STOU: the store is made, then V is raised where $X does not fit.
+pub(crate) fn store(
+    general: &mut [u64; 256],
+    special: &mut [u64; 32],
+    pc: &mut u64,
+    halt: &mut u64,
+    marks: u64,
+    window: &mut [u8],
+    base: u64,
+    op: u8,
+    x: u8,
+    y: u8,
+    z: u8,
+) -> Reply
+    requires { ⌜ admissible (made (now general) (now special) (now pc) (now halt) marks) ≡ true ⌝ }
+    ensures { λ r. ⌜ Whole
+        (storeOf (lent base (now (window .entry)))
+        (made (now (general .entry)) (now (special .entry)) (now (pc .entry)) (now (halt .entry)) marks) op x y z)
+        r (made (now (general .exit)) (now (special .exit)) (now (pc .exit)) (now (halt .exit)) marks) (lent base (now (window .exit))) ⌝ }
+{
+    let addr = control::sum(general, op, y, z);
+    if stack::pass::run_refusal(window, base, addr, 1) != 0 {
+        return Reply::Missing;
+    }
+    let v = stack::pass::read_octa(window, base, addr);
+    let u = general[x as usize];
+    stack::pass::write_octa(window, base, addr, operand::merged(op, addr, v, u));
+    if operand::fits(op, u) {
+        *pc = target::following(*pc);
+        return Reply::Done;
+    }
+    exceptions::raise_exceptions(
+        general,
+        special,
+        pc,
+        halt,
+        marks,
+        FLAG_V,
+        op,
+        x,
+        y,
+        z,
+        addr,
+        u,
+    )
+}
