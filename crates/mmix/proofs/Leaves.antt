@@ -1,6 +1,6 @@
 -- What each number leaves of an image's bytes, and of a struct.
 use mathlib.Core.Path.{_≡_, refl, sym, ap, subst, _∙_}
-use mathlib.Core.Logic.{_⊎_, inl, inr}
+use mathlib.Core.Logic.{_⊎_, inl, inr, ⊎-elim}
 use mathlib.Core.List.{List, [], _∷_}
 use Prim.Native.Nat.{ℕ, _*_, _<_}
 use native.Mathlib.Omega.{arith}
@@ -12,6 +12,8 @@ use Rattle.model.specs.Memory.{Windows, one}
 use Rattle.model.specs.Plan.{Outcome, perform, worst, puts}
 use Rattle.model.specs.Lists.{stepOn}
 use Rattle.model.specs.NoMemory.{Said, say, tell}
+use Rattle.model.specs.Control.{sumOf}
+use Rattle.model.specs.LoadStore.{flagV}
 use Rattle.model.specs.Step.{step, exception, stepOf, exceptionOf, itemPlan, mmix}
 use Rattle.model.specs.Registers.{rB, rBB, rA, rW, rX, rY, rZ, rWW, rXX, rYY, rZZ, sp, reg, Sized}
 use Rattle.model.specs.Trips.{withAdded, wordOf}
@@ -44,6 +46,14 @@ module _ (l : List ℕ) (n : length l ≡ imageLength) (b : (i : ℕ) → getD l
   halt-same : (m : List ℕ) (t : State) → m ≡ imageOf t → Sized t → t .halt ≡ s .halt → haltBytes m ≡ haltBytes l
   halt-same m t e zt h = ap haltBytes e ∙ halt-bytes t zt ∙ ap bytesOf h ∙ sym (halt-bytes s zs) ∙ ap haltBytes back
 
+  tripped-image : (f word u v : ℕ) (t : State) → Sized t → Interrupted (withAdded s f) t rB rW rX rY rZ word u v
+      → imageOf t ≡ replaced l ((atSpecial rA, sp (withAdded s f) rA) ∷ tripOctas s word u v)
+  unfolding withAdded
+  tripped-image f word u v t zt h =
+      interrupt-image (withAdded s f) (special-sized s zs rA _) rB rW rX rY rZ word u v t zt h (omega arith) (omega arith) (omega arith) (omega arith) (omega arith)
+      ∙ after-special s zs rA _ (omega arith) (λ e. omega arith) rB rW rX rY rZ word u v
+      ∙ ap (λ (c : List ℕ). replaced c ((atSpecial rA, sp (withAdded s f) rA) ∷ tripOctas s word u v)) back
+
   step-leaves : (w : Windows) (op x y z r : ℕ) (m : List ℕ) (v : Windows) → Left s w (step op x y z) r (image m) v → StepCallLeaves l w op x y z r m v
   unfolding HeldIs stepOn mmix itemPlan one stepOf replaced
   step-leaves w op x y z r m v g =
@@ -58,12 +68,21 @@ module _ (l : List ℕ) (n : length l ≡ imageLength) (b : (i : ℕ) → getD l
         halting = λ p.
             let h = k .halting (omega (arith, e), omega (arith, e)) in
             (g .held-is ∙ ap imageOf (h .0) ∙ halted-image s zs ∙ ap (λ (c : List ℕ). written c (8 * atHalt) (bytesOf 1)) back, g .window-is ∙ h .1);
-        nineteen = λ p.
-            let h = k .nineteen (sym e ∙ p) in (
-              g .held-is ∙ interrupt-image s zs rB rW rX rY rZ _ _ _ (o .state) zt (h .0) (omega arith) (omega arith) (omega arith) (omega arith) (omega arith)
-                  ∙ ap (λ (c : List ℕ). replaced c (tripOctas s (wordOf op x y z) (reg s y) (reg s z))) back,
-              g .window-is ∙ h .1,
-            );
+        nineteen = λ p. ⊎-elim
+            (λ h. inl (record {
+              arm-is = h .arm-is;
+              image-is = g .held-is ∙ interrupt-image s zs rB rW rX rY rZ _ _ _ (o .state) zt (h .registers) (omega arith) (omega arith) (omega arith) (omega arith) (omega arith)
+                  ∙ ap (λ (c : List ℕ). replaced c (tripOctas s (wordOf op x y z) (reg s y) (reg s z))) back;
+              window-is = g .window-is ∙ h .window;
+            }))
+            (λ h. inr (record {
+              width = h .width;
+              last = h .last;
+              arm-is = h .arm-is;
+              image-is = g .held-is ∙ tripped-image flagV (wordOf op x y z) (sumOf s (h .last) y z) (reg s x) (o .state) zt (h .registers);
+              window-is = g .window-is ∙ h .window;
+            }))
+            (k .nineteen (sym e ∙ p));
         twenty = λ p.
             let h = k .twenty (sym e ∙ p) in (
               g .held-is ∙ interrupt-image s zs rBB rWW rXX rYY rZZ _ _ _ (o .state) zt (h .0) (omega arith) (omega arith) (omega arith) (omega arith) (omega arith)
@@ -72,14 +91,6 @@ module _ (l : List ℕ) (n : length l ≡ imageLength) (b : (i : ℕ) → getD l
             );
         done = λ p. halt-same m (o .state) (g .held-is) zt (k .done (sym e ∙ p));
       }
-
-  tripped-image : (f word u v : ℕ) (t : State) → Sized t → Interrupted (withAdded s f) t rB rW rX rY rZ word u v
-      → imageOf t ≡ replaced l ((atSpecial rA, sp (withAdded s f) rA) ∷ tripOctas s word u v)
-  unfolding withAdded
-  tripped-image f word u v t zt h =
-      interrupt-image (withAdded s f) (special-sized s zs rA _) rB rW rX rY rZ word u v t zt h (omega arith) (omega arith) (omega arith) (omega arith) (omega arith)
-      ∙ after-special s zs rA _ (omega arith) (λ e. omega arith) rB rW rX rY rZ word u v
-      ∙ ap (λ (c : List ℕ). replaced c ((atSpecial rA, sp (withAdded s f) rA) ∷ tripOctas s word u v)) back
 
   exception-leaves : (w : Windows) (f op x y z u v r : ℕ) (m : List ℕ) → Left s w (exception f op x y z u v) r (image m) w → ExceptionCallLeaves l f op x y z u v r m
   unfolding HeldIs stepOn mmix itemPlan one tell perform worst puts

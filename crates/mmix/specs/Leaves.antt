@@ -6,10 +6,14 @@ use mathlib.Core.Logic.{_⊎_}
 use mathlib.Core.List.{List, [], _∷_}
 use lib.ListN.{getD}
 use Rattle.model.specs.Octa.{part, written, bytesOf}
-use Rattle.model.specs.Memory.{Windows}
+use Rattle.model.specs.Memory.{Windows, putOcta, both}
+use Rattle.model.specs.Plan.{look}
 use Rattle.model.specs.Registers.{rB, rJ, rBB, rA, rW, rX, rY, rZ, rWW, rXX, rYY, rZZ, sp, reg, following, Sized}
+use Rattle.model.specs.Opcodes.{Operand, Width, signed, trip, store, armOf}
 use Rattle.model.specs.NoMemory.{say}
+use Rattle.model.specs.Control.{sumOf}
 use Rattle.model.specs.Trips.{wordOf, withAdded}
+use Rattle.model.specs.LoadStore.{merged, flagV}
 use Rattle.model.specs.Numbers.{Early, Lost, Halting}
 use Rattle.model.specs.Leaves.{StepLeaves, ExceptionLeaves}
 use Rattle.model.specs.declared.State.{State}
@@ -43,6 +47,20 @@ tripOctas s word u v = interruptOctas s rB rW rX rY rZ word u v
 abbrev pub trapOctas : State → ℕ → ℕ → ℕ → List (ℕ × ℕ)
 trapOctas s word u v = interruptOctas s rBB rWW rXX rYY rZZ word u v
 
+-- 19 of TRIP leaves the window
+pub record TripCallLeaves (l : List ℕ) (w : Windows) (op x y z : ℕ) (m : List ℕ) (v : Windows) : Type 0 where
+  pub arm-is : armOf op ≡ trip
+  pub image-is : m ≡ replaced l (tripOctas (stateOf l) (wordOf op x y z) (reg (stateOf l) y) (reg (stateOf l) z))
+  pub window-is : v ≡ w
+
+-- 19 of a store leaves the store made
+pub record StoreCallLeaves (l : List ℕ) (w : Windows) (op x y z : ℕ) (m : List ℕ) (v : Windows) : Type 0 where
+  pub width : Width
+  pub last : Operand
+  pub arm-is : armOf op ≡ store width signed last
+  pub image-is : m ≡ replaced l ((atSpecial rA, sp (withAdded (stateOf l) flagV) rA) ∷ tripOctas (stateOf l) (wordOf op x y z) (sumOf (stateOf l) last y z) (reg (stateOf l) x))
+  pub window-is : v ≡ putOcta w (sumOf (stateOf l) last y z) (merged width (sumOf (stateOf l) last y z) (look both w (sumOf (stateOf l) last y z)) (reg (stateOf l) x))
+
 -- what mmix_step leaves
 pub record StepCallLeaves (l : List ℕ) (w : Windows) (op x y z r : ℕ) (m : List ℕ) (v : Windows) : Type 0 where
   pub most : r ≤ 20
@@ -51,7 +69,7 @@ pub record StepCallLeaves (l : List ℕ) (w : Windows) (op x y z r : ℕ) (m : L
   pub lost : Lost r → (m ≡ l) × (v ≡ w)
   -- 7 to 18
   pub halting : Halting r → (m ≡ replaced l ((atHalt, 1) ∷ [])) × (v ≡ w)
-  pub nineteen : r ≡ 19 → (m ≡ replaced l (tripOctas (stateOf l) (wordOf op x y z) (reg (stateOf l) y) (reg (stateOf l) z))) × (v ≡ w)
+  pub nineteen : r ≡ 19 → TripCallLeaves l w op x y z m v ⊎ StoreCallLeaves l w op x y z m v
   pub twenty : r ≡ 20 → (m ≡ replaced l (trapOctas (stateOf l) (wordOf op x y z) (reg (stateOf l) y) (reg (stateOf l) z))) × (v ≡ w)
   pub done : r ≡ 0 → haltBytes m ≡ haltBytes l
 
