@@ -1,6 +1,6 @@
 /* A relay host. It keeps the direction of feed in a local of the caller, calls the feed routine some levels deep, parks the
  * whole context while a case is worked, comes back, and shows that the direction is as it was. On the way it meets what a
- * host meets: a trip, a system call to serve, a halt, a window too small, steps in place.
+ * host meets: a curve kept in the window, a trip, a system call to serve, a halt, a window too small, steps in place.
  *
  *     make host
  */
@@ -12,7 +12,7 @@
 #include "mmix.h"
 #include "mmix_text.h"
 
-enum { WINDOW_LEN = 8192, MESSAGE_AT = 8000, DEPTH = 5 };
+enum { WINDOW_LEN = 8192, CURVE_AT = 7936, MESSAGE_AT = 8000, DEPTH = 5 };
 
 enum { FPUTS = 7 };                     /* the system call that this host serves: Y of TRAP 0,Fputs,.. */
 
@@ -108,6 +108,21 @@ static void work_another_case(void)
     printf("%-28s all 256 general and 32 special ones\n", "registers as before");
 }
 
+/* A margin of a relay's curve, kept in the window as a tetra and read back with its sign. */
+static void keep_a_margin(void)
+{
+    set_octabyte(MMIX_AT_GENERAL(253), MMIX_STACK_START + CURVE_AT);
+    set_octabyte(MMIX_AT_GENERAL(254), (uint64_t)-40);
+    step("STT $254,$253,4: a margin", MMIX_OP_STTI, 254, 253, 4);
+    step("LDT $252,$253,4: read back", MMIX_OP_LDTI, 252, 253, 4);
+    printf("%-28s %" PRId64 ", bytes", "the margin", (int64_t)general(252));
+    for (size_t k = 4; k < 8; k++)
+        printf(" %02x", window[CURVE_AT + k]);
+    printf("\n");
+    if (general(252) != general(254))
+        end("the margin is CHANGED");
+}
+
 /* Integer overflow, which rA enables: a trip through the vector at 32. There is no RESUME, so the host goes back itself. */
 static void take_a_trip(void)
 {
@@ -192,6 +207,7 @@ int main(void)
         set_octabyte(MMIX_AT_GENERAL(0), FORWARD);
     }
     work_another_case();
+    keep_a_margin();
     take_a_trip();
     serve_a_call();
     look_at_a_halt();

@@ -42,10 +42,11 @@ extern "C" {
  * was written for an earlier minor version compiles, links and means the same. Major: a function, a struct, the image or a
  * number has another meaning; look before you link. */
 #define MMIX_VERSION_MAJOR 1
-#define MMIX_VERSION_MINOR 0
+#define MMIX_VERSION_MINOR 1
 
 /* The replies. 1 to 6 leave every byte as it was; 7 to 18 set the halt code to 1 and leave all else; 19 and 20 set the
- * halt code to 1 and the trip or trap registers, with PC where it was (an exception refused by 19 has also added to rA). */
+ * halt code to 1 and the trip or trap registers, with PC where it was (an exception refused by 19 has also added to rA; a
+ * store refused by 19 is made). */
 enum mmix_reply {
     MMIX_DONE = 0,                /* The step or the exception was done. */
     MMIX_NOT_ADMISSIBLE = 1,      /* rG, rL, rA or the marks are out of range, or the image is not MMIX_IMAGE_LEN bytes. */
@@ -66,7 +67,7 @@ enum mmix_reply {
     MMIX_SAVED_COUNT = 16,        /* UNSAVE of a context with more locals than its rG. */
     MMIX_SYNC_PRIVILEGED = 17,    /* SYNC 4 to 7. */
     MMIX_SYNC_ILLEGAL = 18,       /* SYNC above 7. */
-    MMIX_NOT_LOADED = 19,         /* A trip whose vector is not marked loaded. */
+    MMIX_NOT_LOADED = 19,         /* A trip whose vector is not marked loaded: of TRIP, an exception, a store that overflows. */
     MMIX_TRAPPED = 20             /* TRAP that names no system call. */
 };
 
@@ -78,7 +79,11 @@ enum mmix_opcode {
     MMIX_OP_BNN, MMIX_OP_BNNB, MMIX_OP_BNZ, MMIX_OP_BNZB, MMIX_OP_BNP, MMIX_OP_BNPB, MMIX_OP_BEV, MMIX_OP_BEVB,
     MMIX_OP_PBN, MMIX_OP_PBNB, MMIX_OP_PBZ, MMIX_OP_PBZB, MMIX_OP_PBP, MMIX_OP_PBPB, MMIX_OP_PBOD, MMIX_OP_PBODB,
     MMIX_OP_PBNN, MMIX_OP_PBNNB, MMIX_OP_PBNZ, MMIX_OP_PBNZB, MMIX_OP_PBNP, MMIX_OP_PBNPB, MMIX_OP_PBEV, MMIX_OP_PBEVB,
+    MMIX_OP_LDB = 0x80, MMIX_OP_LDBI, MMIX_OP_LDBU, MMIX_OP_LDBUI, MMIX_OP_LDW, MMIX_OP_LDWI, MMIX_OP_LDWU, MMIX_OP_LDWUI,
+    MMIX_OP_LDT, MMIX_OP_LDTI, MMIX_OP_LDTU, MMIX_OP_LDTUI, MMIX_OP_LDO, MMIX_OP_LDOI, MMIX_OP_LDOU, MMIX_OP_LDOUI,
     MMIX_OP_GO = 0x9E, MMIX_OP_GOI,
+    MMIX_OP_STB = 0xA0, MMIX_OP_STBI, MMIX_OP_STBU, MMIX_OP_STBUI, MMIX_OP_STW, MMIX_OP_STWI, MMIX_OP_STWU, MMIX_OP_STWUI,
+    MMIX_OP_STT, MMIX_OP_STTI, MMIX_OP_STTU, MMIX_OP_STTUI, MMIX_OP_STO, MMIX_OP_STOI, MMIX_OP_STOU, MMIX_OP_STOUI,
     MMIX_OP_PUSHGO = 0xBE, MMIX_OP_PUSHGOI,
     MMIX_OP_JMP = 0xF0, MMIX_OP_JMPB, MMIX_OP_PUSHJ, MMIX_OP_PUSHJB, MMIX_OP_GETA, MMIX_OP_GETAB, MMIX_OP_PUT, MMIX_OP_PUTI,
     MMIX_OP_POP = 0xF8,
