@@ -87,7 +87,7 @@ unfolding armOf
 returns-2 c =
     let key = c .before .before .before .before .before in
     let start = key .before .before .before .before in
-    trap-step _ _ (start .pre .0) (start .pre .1) _ _ _ _ _ (made _ _ _ _ _) (rw (key .match .keys1)) (c .trap-arm .ensures _)
+    trap-step _ _ (start .pre .0) (start .pre .1) _ _ _ _ _ (made _ _ _ _ _) (rw (key .match .keys1)) (c .trap-arm .ensures (start .args .marks))
 
 returns-3 : tie.Need-returns-3
 unfolding armOf
