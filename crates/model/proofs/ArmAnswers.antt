@@ -17,7 +17,7 @@ use Rattle.model.specs.Memory.{Windows, Shapes, shapesOf, ruled, inside,
 use Rattle.model.specs.Plan.{Plan, answer, read, Outcome, perform, worst, clear, looks, puts, named}
 use Rattle.model.specs.Opcodes.{Width, Sign, signed, unsigned, Arm, Way, forward, backward, Operand, register, immediate, branch, jump, getAddress, go, pushJump, pushGo, pop, put, get, save, unsave, sync, swym, trip, trap, load, store, none, armOf}
 use Rattle.model.specs.NoMemory.{say, Said, tell}
-use Rattle.model.specs.Control.{targetOf, near, far, yzOf, xyzOf, sumOf, operandOf, holds}
+use Rattle.model.specs.Control.{branchFields, jumpFields, targetOf, near, far, yzOf, xyzOf, sumOf, operandOf, holds}
 use Rattle.model.specs.Frames.{hole, framed, pushed, pushFrame, popped, popTo, popRule, noFrame, misplaced, popFrame}
 use Rattle.model.specs.Contexts.{extent, saved, savedState, saveContext, unsaved, contextRest, contextCount, contextAt, unsaveContext}
 use Rattle.model.specs.System.{isPrivileged, isIllegal, putRefusal, putState, putSpecial, got, syncOf}
@@ -214,13 +214,13 @@ module _ (s : State) (W : ℕ → Type 0) (Read : List ℕ → Type 0) (R : ℕ 
   pub plan-meets : (a : Arm) (op x y z : ℕ) → W z → MeetsInterrupt s W R a op x y z → Answers Read R (planOf s a op x y z)
   unfolding planOf tell Answers pushFrame trapOf got unsaveContext
   plan-meets (branch c d) op x y z wz mi =
-      on (λ (t : State). R 0 t []) (holds c (reg s x)) (λ e. m .moves (near s d y z) (m .word _ (target-small (s .pc) d 65536 (yzOf y z))))
+      on (λ (t : State). R 0 t []) (holds c (reg s x)) (λ e. m .moves (near s d y z) (m .word _ (target-small (s .pc) d branchFields (yzOf y z))))
       (λ e. m .moves (following s) (onward s W Read R m s))
-  plan-meets (jump d) op x y z wz mi = m .moves (far s d x y z) (m .word _ (target-small (s .pc) d 16777216 (xyzOf x y z)))
+  plan-meets (jump d) op x y z wz mi = m .moves (far s d x y z) (m .word _ (target-small (s .pc) d jumpFields (xyzOf x y z)))
   plan-meets (getAddress d) op x y z wz mi =
-      m .writes x (near s d y z) _ (m .word _ (target-small (s .pc) d 65536 (yzOf y z))) (onward s W Read R m (setRegister s x (near s d y z)))
+      m .writes x (near s d y z) _ (m .word _ (target-small (s .pc) d branchFields (yzOf y z))) (onward s W Read R m (setRegister s x (near s d y z)))
   plan-meets (go o) op x y z wz mi = m .writes x (following s) (sumOf s o y z) (onward s W Read R m s) (m .word _ (small (reg s y + operandOf s o z)))
-  plan-meets (pushJump d) op x y z wz mi = m .pushes x (near s d y z) (m .word _ (target-small (s .pc) d 65536 (yzOf y z)))
+  plan-meets (pushJump d) op x y z wz mi = m .pushes x (near s d y z) (m .word _ (target-small (s .pc) d branchFields (yzOf y z)))
   plan-meets (pushGo o) op x y z wz mi = m .pushes x (sumOf s o y z) (m .word _ (small (reg s y + operandOf s o z)))
   plan-meets pop op x y z wz mi = pop-meets s W Read R m x _ (m .word _ (small (sp s rJ + 4 * yzOf y z)))
   plan-meets (put o) op x y z wz mi = put-meets s W Read R m x (operandOf s o z) (operand-is s W Read R m o z wz)

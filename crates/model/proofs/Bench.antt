@@ -1,5 +1,5 @@
--- Theorems 6, 10, 11 and 12: the points, 01's and more, those of loads and stores, and the examples of the departures, carried through the definitions by one result that antt
--- computes.
+-- Theorems 6, 10, 11, 12 and 14: the points, 01's and more, those of loads and stores and of fields, and the examples of the departures, carried through
+-- the definitions by one result that antt computes.
 use mathlib.Core.Path.{refl}
 use lib.Count.{leadingZeros}
 use Rattle.model.specs.Fill.{over, indexed, within, tab}
@@ -18,15 +18,18 @@ use Rattle.model.specs.LoadStore.{bytesIn, unitAt, operandIn, merged, ex
 use Rattle.model.specs.Reader.{partAt, readContext}
 use Rattle.model.specs.Lists.{stepOn, runs}
 use Rattle.model.specs.Step.{refusalOf, unruledBy, judged, refusing, planOf, guarded, fromThree, stepPlan, stepOf, exceptionOf, itemPlan, mmix}
+use Rattle.model.specs.Numbers.{numberOf}
+use Rattle.model.specs.Field.{fieldAt, fieldOf, answerOf}
 use Rattle.model.specs.Rules.{readRule, pushRule, belowTop, poppedRule, popHoleRule, popAnyRule, unsavedGeneralRule, unsavedSpecialRule, unsavedRule, unsaveRestRule, unsaveCountRule, unsaveRule, loadRule, storeState, storeRule, ruleOf, stepRule, withAddedRule, raisedRule, exceptionRule, counted}
 use Rattle.model.specs.Bench.{start, shows, met, allMet, points, PointsMet}
 use Rattle.model.specs.Points.{ruledShapes, numbered, freshIs, readerPoints, morePoints, MorePointsMet}
 use Rattle.model.specs.LoadStorePoints.{loadStorePoints, LoadStorePointsMet}
+use Rattle.model.specs.FieldPoints.{fieldPoints, allFound, FieldPointsMet}
 use Rattle.model.specs.DepartureExamples.{shown, allShown, shownException, allShownExceptions, examples, exceptionExamples, cutExamples, countExample, ExamplesShown}
 
-computed : PointsMet × MorePointsMet × ExamplesShown × LoadStorePointsMet
-unfolding leadingZeros over indexed within tab octa part written valueOf bytesOf admissible fresh goes halted withSpecial cleared claimLocal stored setRegister putLocals putGlobals spilled shapeOf ruled offset has octaBytes writeOcta one worst named look looks puts perform conditionOf armOf tell targetOf holds hole framed slid slide pushedRule pushed pushFrame countOf lastOutput restored unslide popped popTo popRule noFrame misplaced popFrame savedSpecial saved savedUnspilled savedState saveContext unsavedGeneral unsavedSpecial unsavedUnspilled unsaved contextRest contextCount contextAt unsaveContext putRefusal putState putSpecial got syncOf interrupted tripRule tripTo trapOf added withAdded raised stepOn runs refusalOf unruledBy judged refusing planOf guarded fromThree stepPlan exceptionOf itemPlan mmix start shows met allMet points framedRule gotRule trapRule leftmost exactUnderflow addedRule mapPlan stepOf readRule pushRule belowTop poppedRule popHoleRule popAnyRule unsavedGeneralRule unsavedSpecialRule unsavedRule unsaveRestRule unsaveCountRule unsaveRule ruleOf stepRule withAddedRule raisedRule exceptionRule ruledShapes numbered freshIs readerPoints partAt readContext morePoints shown allShown shownException allShownExceptions examples exceptionExamples cutExamples countExample counted widthOf signOf bytesIn unitAt operandIn merged extended fits loadFrom storeSays storeTo loadRule storeState storeRule loadStorePoints
-computed = (refl, (refl, refl, refl, refl, refl), (refl, refl, refl, refl), refl)
+computed : PointsMet × MorePointsMet × ExamplesShown × LoadStorePointsMet × FieldPointsMet
+unfolding leadingZeros over indexed within tab octa part written valueOf bytesOf admissible fresh goes halted withSpecial cleared claimLocal stored setRegister putLocals putGlobals spilled shapeOf ruled offset has octaBytes writeOcta one worst named look looks puts perform conditionOf armOf tell targetOf holds hole framed slid slide pushedRule pushed pushFrame countOf lastOutput restored unslide popped popTo popRule noFrame misplaced popFrame savedSpecial saved savedUnspilled savedState saveContext unsavedGeneral unsavedSpecial unsavedUnspilled unsaved contextRest contextCount contextAt unsaveContext putRefusal putState putSpecial got syncOf interrupted tripRule tripTo trapOf added withAdded raised stepOn runs refusalOf unruledBy judged refusing planOf guarded fromThree stepPlan exceptionOf itemPlan mmix start shows met allMet points framedRule gotRule trapRule leftmost exactUnderflow addedRule mapPlan stepOf readRule pushRule belowTop poppedRule popHoleRule popAnyRule unsavedGeneralRule unsavedSpecialRule unsavedRule unsaveRestRule unsaveCountRule unsaveRule ruleOf stepRule withAddedRule raisedRule exceptionRule ruledShapes numbered freshIs readerPoints partAt readContext morePoints shown allShown shownException allShownExceptions examples exceptionExamples cutExamples countExample counted widthOf signOf bytesIn unitAt operandIn merged extended fits loadFrom storeSays storeTo loadRule storeState storeRule loadStorePoints numberOf fieldAt fieldOf answerOf fieldPoints allFound
+computed = (refl, (refl, refl, refl, refl, refl), (refl, refl, refl, refl), refl, refl)
 
 pub points-met : PointsMet
 points-met = computed .0
@@ -39,3 +42,6 @@ examples-shown = computed .2
 
 pub load-store-points-met : LoadStorePointsMet
 load-store-points-met = computed .3
+
+pub field-points-met : FieldPointsMet
+field-points-met = computed .4

@@ -21,9 +21,12 @@ use Rattle.model.specs.Trips.{interrupted, tripped, trapped, wordOf, wit
 use Rattle.model.specs.LoadStore.{merged, fits, flagV, storeSays, storeTo}
 use Rattle.model.specs.Step.{judged, refusing, planOf, stepPlan, stepOf, exceptionOf}
 use Rattle.model.specs.Reader.{Part, emptyPart, partAt, readContext}
-use Rattle.model.specs.Leaves.{Interrupted, Tripped, Trapped, StoreLeaves, StepLeaves, ExceptionLeaves, ReaderLeaves, RepliesLeave}
-use Rattle.model.specs.Numbers.{Early, Lost, Halting}
+use Rattle.model.specs.Leaves.{Interrupted, Tripped, Trapped, StoreLeaves, StepLeaves, ExceptionLeaves, ReaderLeaves, FieldLeaves, RepliesLeave}
+use Rattle.model.specs.Numbers.{Early, Lost, Halting, numberOf}
+use Rattle.model.specs.Field.{answerOf, fieldOf}
 use Rattle.model.specs.declared.State.{State}
+use Rattle.model.specs.declared.Reach.{Reach}
+use Rattle.model.specs.declared.Reach.the-variants.{Forward, Backward, Neither}
 use Rattle.model.proofs.Bools.{on}
 use Rattle.model.proofs.ItemInvariant.{Any}
 use Rattle.model.proofs.ArmAnswers.{Meets, MeetsInterrupt, plan-meets, judged-most, step-judged, step-meets, raised-meets, exception-meets, context-meets, worst-six, perform-meets}
@@ -341,5 +344,19 @@ reader-leaves w p =
     (λ o g a l vs b c d e f i. record { among = inl refl; refused = λ m. absurd (m refl); none = refl })))
     (λ e. record { among = inr (inl refl); refused = λ n. refl; unchanged = refl })
 
+-- ---- the search for a field
+
+field-leaves : (r : Reach) → FieldLeaves (answerOf r)
+unfolding answerOf numberOf
+field-leaves (Forward f) = record { among = inl refl; refused = λ e. absurd (omega arith); done = λ e. omega arith }
+field-leaves (Backward f) = record { among = inl refl; refused = λ e. absurd (omega arith); done = λ e. omega arith }
+field-leaves Neither = record { among = inr refl; refused = λ e. (refl, refl); done = λ e. omega arith }
+
 pub replies-leave : RepliesLeave
-replies-leave = record { by-step = step-leaves; by-exception = exception-leaves; by-reader = reader-leaves; by-store = store-made }
+replies-leave = record {
+  by-step = step-leaves;
+  by-exception = exception-leaves;
+  by-reader = reader-leaves;
+  by-field = λ size from to. field-leaves (fieldOf size from to);
+  by-store = store-made;
+}

@@ -31,3 +31,4 @@ pub mod StepByArm
 pub mod SaveUnsave
 pub mod Reader
 pub mod Roundtrip
+pub mod Reaches

@@ -6,7 +6,7 @@ use lib.Dec.{eqb}
 use borrow.Author.Tests.{eqb-true}
 use Rattle.model.specs.Numbers.{numberOf, replyOf, Numbered}
 use Rattle.model.specs.declared.Reply.{Reply}
-use Rattle.model.specs.declared.Reply.the-variants.{Done, NotAdmissible, WindowRule, NoArm, NamedTrap, NoSpecial, Missing, PutUnknown, PutPrivileged, PutIllegal, PutThreshold, PutStatus, Misplaced, SaveLocal, SavedThreshold, SavedStatus, SavedCount, SyncPrivileged, SyncIllegal, NotLoaded, Trapped}
+use Rattle.model.specs.declared.Reply.the-variants.{Done, NotAdmissible, WindowRule, NoArm, NamedTrap, NoSpecial, Missing, PutUnknown, PutPrivileged, PutIllegal, PutThreshold, PutStatus, Misplaced, SaveLocal, SavedThreshold, SavedStatus, SavedCount, SyncPrivileged, SyncIllegal, NotLoaded, Trapped, OutOfReach}
 use Rattle.model.proofs.Bools.{each, at-each}
 
 there : (r : Reply) → replyOf (numberOf r) ≡ r
@@ -32,10 +32,11 @@ there SyncPrivileged = refl
 there SyncIllegal = refl
 there NotLoaded = refl
 there Trapped = refl
+there OutOfReach = refl
 
-all : each 21 (λ n. eqb (numberOf (replyOf n)) n) ≡ true
+all : each 22 (λ n. eqb (numberOf (replyOf n)) n) ≡ true
 unfolding each numberOf replyOf
 all = refl
 
 pub numbered : Numbered
-numbered = record { reply-number = there; number-reply = λ n l. eqb-true (numberOf (replyOf n)) n (at-each 21 (λ k. eqb (numberOf (replyOf k)) k) all n (omega arith)) }
+numbered = record { reply-number = there; number-reply = λ n l. eqb-true (numberOf (replyOf n)) n (at-each 22 (λ k. eqb (numberOf (replyOf k)) k) all n (omega arith)) }

@@ -13,6 +13,13 @@ yzOf y z = 256 * y + z
 abbrev pub xyzOf : ℕ → ℕ → ℕ → ℕ
 xyzOf x y z = 65536 * x + yzOf y z
 
+-- how many fields YZ there are, and how many XYZ
+abbrev pub branchFields : ℕ
+branchFields = 65536
+
+abbrev pub jumpFields : ℕ
+jumpFields = 16777216
+
 -- from address a by 4 × the signed count of a field f, one of `size` values: f itself forward, f − size backward; modulo 2^64
 unfoldable pub targetOf : ℕ → Way → ℕ → ℕ → ℕ
 targetOf a forward size f = (a + 4 * f) % 2 ^ 64
@@ -20,11 +27,11 @@ targetOf a backward size f = (a + (2 ^ 64 - 4 * (size - f))) % 2 ^ 64
 
 -- "Forward targets are @ + 4 × YZ. A backward field is the negative count YZ − 65536, from −65536 to −1"
 abbrev pub near : State → Way → ℕ → ℕ → ℕ
-near s w y z = targetOf (s .pc) w 65536 (yzOf y z)
+near s w y z = targetOf (s .pc) w branchFields (yzOf y z)
 
 -- "JMP uses XYZ, JMPB XYZ − 16777216"
 abbrev pub far : State → Way → ℕ → ℕ → ℕ → ℕ
-far s w x y z = targetOf (s .pc) w 16777216 (xyzOf x y z)
+far s w x y z = targetOf (s .pc) w jumpFields (xyzOf x y z)
 
 abbrev pub operandOf : State → Operand → ℕ → ℕ
 operandOf s register z = reg s z

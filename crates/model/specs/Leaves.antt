@@ -13,6 +13,7 @@ use Rattle.model.specs.LoadStore.{valuesOf, unitAt, operandIn, merged, f
 use Rattle.model.specs.Step.{stepOf, exceptionOf}
 use Rattle.model.specs.Reader.{Part, emptyPart, readContext}
 use Rattle.model.specs.Numbers.{Early, Lost, Halting}
+use Rattle.model.specs.Field.{FieldAnswer, fieldOf, answerOf}
 use Rattle.model.specs.declared.State.{State}
 
 -- 19, 20: t is s with the trip or trap registers set, under the numbers b, w, x, y, z, "PC unmoved, halt code 1"
@@ -80,8 +81,15 @@ pub record ReaderLeaves (w : Windows) (o : Outcome Part Windows) : Type 0 where
   pub refused : o .reply ≢ 0 → o .state ≡ emptyPart
   pub unchanged : o .memory ≡ w
 
+-- what the search for a field leaves: it is given no state; "21, no field of either direction reaches, its only refusal"
+pub record FieldLeaves (a : FieldAnswer) : Type 0 where
+  pub among : (a .reply ≡ 0) ⊎ (a .reply ≡ 21)
+  pub refused : a .reply ≡ 21 → (a .backward ≡ 0) × (a .field ≡ 0)
+  pub done : a .reply ≡ 0 → a .backward ≤ 1
+
 pub record RepliesLeave : Type 0 where
   pub by-step : (w : Windows) (s : State) (op x y z : ℕ) → Sized s → StepLeaves w s op x y z (stepOf w s op x y z)
   pub by-exception : (s : State) (f op x y z u v : ℕ) → Sized s → ExceptionLeaves s f op x y z u v (exceptionOf s f op x y z u v)
   pub by-reader : (w : Windows) (p : ℕ) → ReaderLeaves w (readContext w p)
+  pub by-field : (size from to : ℕ) → FieldLeaves (answerOf (fieldOf size from to))
   pub by-store : (d : Width) (a v u : ℕ) → StoreMade d a v u

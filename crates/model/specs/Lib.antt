@@ -16,6 +16,7 @@ pub mod Lists
 pub mod Step
 pub mod Reader
 pub mod Numbers
+pub mod Field
 pub mod Parts
 -- Knuth's rules where the steps depart from them
 pub mod Rules
@@ -32,3 +33,5 @@ pub mod Roundtrip
 pub mod Departures
 pub mod DepartureExamples
 pub mod Order
+pub mod Reaches
+pub mod FieldPoints

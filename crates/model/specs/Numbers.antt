@@ -4,10 +4,10 @@ use mathlib.Core.Path.{_≡_}
 use mathlib.Core.List.{[], _∷_}
 use lib.ListN.{getD}
 use Rattle.model.specs.declared.Reply.{Reply}
-use Rattle.model.specs.declared.Reply.the-variants.{Done, NotAdmissible, WindowRule, NoArm, NamedTrap, NoSpecial, Missing, PutUnknown, PutPrivileged, PutIllegal, PutThreshold, PutStatus, Misplaced, SaveLocal, SavedThreshold, SavedStatus, SavedCount, SyncPrivileged, SyncIllegal, NotLoaded, Trapped}
+use Rattle.model.specs.declared.Reply.the-variants.{Done, NotAdmissible, WindowRule, NoArm, NamedTrap, NoSpecial, Missing, PutUnknown, PutPrivileged, PutIllegal, PutThreshold, PutStatus, Misplaced, SaveLocal, SavedThreshold, SavedStatus, SavedCount, SyncPrivileged, SyncIllegal, NotLoaded, Trapped, OutOfReach}
 
 -- what the numbers leave, by kind: judged before an octabyte is asked for, nothing changes; a needed octabyte that is not there, nothing
--- changes; "halt code 1 only". 19 and 20 have kinds of their own
+-- changes; "halt code 1 only". 19 and 20 have kinds of their own; 21 is no step's, and there is no state that it could change
 abbrev pub Early : ℕ → Type 0
 Early n = (1 ≤ n) × (n ≤ 5)
 
@@ -39,13 +39,15 @@ numberOf SyncPrivileged = 17
 numberOf SyncIllegal = 18
 numberOf NotLoaded = 19
 numberOf Trapped = 20
+numberOf OutOfReach = 21
 
 unfoldable pub replyOf : ℕ → Reply
 replyOf n = getD (Done ∷ NotAdmissible ∷ WindowRule ∷ NoArm ∷ NamedTrap ∷ NoSpecial ∷ Missing
     ∷ PutUnknown ∷ PutPrivileged ∷ PutIllegal ∷ PutThreshold ∷ PutStatus ∷ Misplaced
-    ∷ SaveLocal ∷ SavedThreshold ∷ SavedStatus ∷ SavedCount ∷ SyncPrivileged ∷ SyncIllegal ∷ NotLoaded ∷ Trapped ∷ []) n Done
+    ∷ SaveLocal ∷ SavedThreshold ∷ SavedStatus ∷ SavedCount ∷ SyncPrivileged ∷ SyncIllegal ∷ NotLoaded ∷ Trapped
+    ∷ OutOfReach ∷ []) n Done
 
--- the two are inverse on 0 to 20
+-- the two are inverse on 0 to 21
 pub record Numbered : Type 0 where
   pub reply-number : (r : Reply) → replyOf (numberOf r) ≡ r
-  pub number-reply : (n : ℕ) → n ≤ 20 → numberOf (replyOf n) ≡ n
+  pub number-reply : (n : ℕ) → n ≤ 21 → numberOf (replyOf n) ≡ n

@@ -1,4 +1,4 @@
-//! What MMIX is: the state of the machine and the reply of a step. specs/ defines the rest.
+//! What MMIX is: the state of the machine, the reply of a step, and which field reaches an address. specs/ defines the rest.
 
 ghost use mathlib.Core.Path.{_≡_};
 ghost use Rattle.model.specs.Registers.{fresh};
@@ -14,7 +14,7 @@ pub struct State {
     pub marks: u64,
 }
 
-/// The reply of a step: done, or one of the twenty refusals in the order of their numbers.
+/// The reply of a call: done, or one of the refusals in the order of their numbers.
 pub enum Reply {
     Done,
     // 1 to 6 leave everything as it was.
@@ -40,6 +40,16 @@ pub enum Reply {
     // 19 and 20 also leave the trip or trap registers.
     NotLoaded,
     Trapped,
+    // 21 is no step's: no field of either direction reaches an address.
+    OutOfReach,
+}
+
+/// Which field of an instruction reaches an address: its direction and its value.
+pub enum Reach {
+    Forward(u32),
+    Backward(u32),
+    // No field of either direction does.
+    Neither,
 }
 
 impl State {

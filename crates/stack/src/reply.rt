@@ -29,6 +29,7 @@ pub fn number_of(reply: Reply) -> u64
         Reply::SyncIllegal => 18,
         Reply::NotLoaded => 19,
         Reply::Trapped => 20,
+        Reply::OutOfReach => 21,
     }
 }
 
