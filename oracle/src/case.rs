@@ -1,7 +1,7 @@
 //! One call with everything it is given, and its text of one line.
 //!
 //! The line is the call's name and then fields `name=value` in hexadecimal: op x y z, flags yv zv (exceptions),
-//! address (context), base, len (of the window), image (length of the image), pc, halt, marks, partly,
+//! address (context), from to (branch_field, jump_field), base, len (of the window), image (length of the image), pc, halt, marks, partly,
 //! g and s (registers that are not zero, `number:value`), w (octabytes of the window that are not zero,
 //! `offset:bytes`). What is left out is zero; `image` left out is 2,328 bytes.
 
@@ -17,12 +17,30 @@ pub struct Instruction {
     pub z: u8,
 }
 
+/// Which instruction a field is for: YZ of a branch, XYZ of a jump.
+#[derive(Clone, Copy, PartialEq, Eq, Debug)]
+pub enum Kind {
+    Branch,
+    Jump,
+}
+
+impl Kind {
+    /// How many fields there are.
+    pub fn size(self) -> u32 {
+        match self {
+            Kind::Branch => 1 << 16,
+            Kind::Jump => 1 << 24,
+        }
+    }
+}
+
 #[derive(Clone, Copy, PartialEq, Eq, Debug)]
 pub enum Call {
     Initialize,
     Step(Instruction),
     Exceptions { flags: u8, of: Instruction, y_val: u64, z_val: u64 },
     Context { address: u64 },
+    Field { kind: Kind, from: u64, to: u64 },
 }
 
 #[derive(Clone, PartialEq, Eq, Debug)]
@@ -86,6 +104,11 @@ impl Display for Case {
                 line += "context";
                 field(&mut line, "address", *address);
             }
+            Call::Field { kind, from, to } => {
+                line += if *kind == Kind::Branch { "branch_field" } else { "jump_field" };
+                field(&mut line, "from", *from);
+                field(&mut line, "to", *to);
+            }
         }
         field(&mut line, "base", self.base);
         field(&mut line, "len", self.window.len() as u64);
@@ -123,7 +146,7 @@ pub fn parse(line: &str) -> Result<Case, String> {
     let name = words.next().ok_or("an empty line")?;
     let mut case = Case::new(Call::Initialize, State::zero(), 0, Vec::new());
     let mut i = Instruction { op: 0, x: 0, y: 0, z: 0 };
-    let (mut flags, mut y_val, mut z_val, mut address) = (0, 0, 0, 0);
+    let (mut flags, mut y_val, mut z_val, mut address, mut from, mut to) = (0, 0, 0, 0, 0, 0);
     for word in words {
         let (field, text) = word.split_once('=').ok_or_else(|| format!("no field: {word}"))?;
         let value = || number(text);
@@ -136,6 +159,8 @@ pub fn parse(line: &str) -> Result<Case, String> {
             "yv" => y_val = value()?,
             "zv" => z_val = value()?,
             "address" => address = value()?,
+            "from" => from = value()?,
+            "to" => to = value()?,
             "base" => case.base = value()?,
             "len" => case.window.resize(value()? as usize, 0),
             "image" => case.image_len = value()? as usize,
@@ -154,6 +179,8 @@ pub fn parse(line: &str) -> Result<Case, String> {
         "step" => Call::Step(i),
         "exceptions" => Call::Exceptions { flags, of: i, y_val, z_val },
         "context" => Call::Context { address },
+        "branch_field" => Call::Field { kind: Kind::Branch, from, to },
+        "jump_field" => Call::Field { kind: Kind::Jump, from, to },
         _ => return Err(format!("no such call: {name}")),
     };
     Ok(case)

@@ -2,12 +2,13 @@
 //! window to the last byte; the octabytes that the Rust touches must be the needs, which the model tells. At an added opcode
 //! the model stands in for the Rust (`reference`).
 
-use crate::case::{Call, Case, Instruction};
+use crate::case::{Call, Case, Instruction, Kind};
 use crate::compared;
+use crate::fields;
 use crate::guards::WROTE_OUTSIDE;
 use crate::reference::{Answer, Reference};
 use crate::state::{IMAGE_LEN, State};
-use crate::subject::{Found, Subject};
+use crate::subject::{Aim, Found, Subject};
 
 /// The reference's answer, or in words how a subject differs from it.
 pub fn compare(reference: &mut Reference, subjects: &[Box<dyn Subject>], case: &Case) -> Result<Answer, String> {
@@ -18,6 +19,7 @@ pub fn compare(reference: &mut Reference, subjects: &[Box<dyn Subject>], case: &
             Call::Step(i) => step(subject.as_ref(), case, i, &answer),
             Call::Exceptions { .. } => exceptions(subject.as_ref(), case, &answer),
             Call::Context { .. } => context(subject.as_ref(), case, &answer),
+            Call::Field { .. } => field(subject.as_ref(), case, &answer),
         };
         let same = same.and_then(|()| codec(subject.as_ref(), case));
         same.map_err(|difference| format!("{}: {difference}", subject.name()))?;
@@ -79,6 +81,28 @@ fn context(subject: &dyn Subject, case: &Case, answer: &Answer) -> Result<(), St
         return Ok(());
     }
     Err(format!("mmix_context: reply {reply}, part {:?} against {length} from {start}", answer.part))
+}
+
+/// Both outputs must be written; an instruction that has the field found goes there.
+fn field(subject: &dyn Subject, case: &Case, answer: &Answer) -> Result<(), String> {
+    let Call::Field { kind, from, to } = case.call else { unreachable!() };
+    let entry = if kind == Kind::Branch { "mmix_branch_field" } else { "mmix_jump_field" };
+    let (mut backward, mut field) = (0xA5, 0xA5A5_A5A5);
+    let reply = subject.field(kind, from, to, Aim { backward: &mut backward, field: &mut field });
+    same_reply(entry, answer.reply, reply)?;
+    if (backward, field) != answer.aim {
+        return Err(format!("{entry}: reply {reply}, {:?} against {:?}", answer.aim, (backward, field)));
+    }
+    if reply != 0 {
+        return Ok(());
+    }
+    let Case { call, mut state, base, mut window, .. } = fields::patched(kind, backward == 1, field, from);
+    let Call::Step(i) = call else { unreachable!() };
+    let reply = subject.step_lent(base, i, &mut state, &mut window);
+    if (reply, state.pc) == (0, to) {
+        return Ok(());
+    }
+    Err(format!("{entry}: that field leads to {:x} with reply {reply}", state.pc))
 }
 
 fn step(subject: &dyn Subject, case: &Case, i: Instruction, answer: &Answer) -> Result<(), String> {

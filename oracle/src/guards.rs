@@ -7,9 +7,9 @@ use std::cell::{Cell, RefCell};
 use std::ffi::{c_int, c_void};
 use std::{process, ptr, slice};
 
-use crate::case::{Case, Instruction};
+use crate::case::{Case, Instruction, Kind};
 use crate::state::{IMAGE_LEN, State, WINDOW_MAX};
-use crate::subject::{Found, Parts, Subject};
+use crate::subject::{Aim, Found, Parts, Subject};
 
 unsafe extern "C" {
     fn mmap(at: *mut c_void, len: usize, protection: c_int, flags: c_int, file: c_int, offset: i64) -> *mut c_void;
@@ -80,13 +80,15 @@ impl Drop for Area {
     }
 }
 
-/// What stands in octabytes and may hold any bytes.
+/// What has no padding and may hold any bytes.
 trait Plain {}
 impl Plain for State {}
 impl Plain for [u64; 256] {}
 impl Plain for [u64; 32] {}
 impl Plain for u64 {}
 impl Plain for usize {}
+impl Plain for u32 {}
+impl Plain for u8 {}
 
 fn bytes_of<T: Plain>(value: &mut T) -> &mut [u8] {
     // SAFETY: a plain value without padding, as bytes.
@@ -238,6 +240,12 @@ impl Subject for Guarded {
         let reply =
             self.call([bytes_of(&mut copy), image], |[state, image]| self.subject.encode(of_bytes(state), image));
         if copy == *state { reply } else { WROTE_OUTSIDE }
+    }
+
+    fn field(&self, kind: Kind, from: u64, to: u64, aim: Aim) -> u64 {
+        self.call([bytes_of(aim.backward), bytes_of(aim.field)], |[backward, field]| {
+            self.subject.field(kind, from, to, Aim { backward: of_bytes(backward), field: of_bytes(field) })
+        })
     }
 }
 

@@ -3,10 +3,10 @@
 //! - `state`, `opcodes`, `case`: a machine state with its image of bytes; opcodes by name; one call with all that it is given, and its
 //!   one-line text.
 //! - `reference`: the Rust's answer to a case, the model's at an added opcode, with the octabytes that it touched.
-//! - `subject`: the six functions that are compared; `model` (01 as a program) and `library` (C) offer them, and
+//! - `subject`: the functions that are compared; `model` (01 as a program) and `library` (C) offer them, and
 //!   `guards` lends each of their buffers in a guarded place.
 //! - `compare`: one case on all sides. `shrink`: a smaller case that still differs.
-//! - `random`, `states`, `windows`, `operands`, `rounds`, `chains`, `sweep`: the cases. `starts`, `points`: short ones. `tally`,
+//! - `random`, `states`, `windows`, `operands`, `fields`, `rounds`, `chains`, `sweep`: the cases. `starts`, `points`: short ones. `tally`,
 //!   `situations`: the counts.
 
 // The model that is compared: `model`, or a copy with a fault in it (build.rs).
@@ -18,6 +18,7 @@ pub use model as compared;
 pub mod case;
 pub mod chains;
 pub mod compare;
+pub mod fields;
 pub mod guards;
 #[cfg(feature = "library")]
 pub mod library;

@@ -2,9 +2,9 @@
 
 use std::ptr;
 
-use crate::case::Instruction;
+use crate::case::{Instruction, Kind};
 use crate::state::State;
-use crate::subject::{Found, Parts, Subject};
+use crate::subject::{Aim, Found, Parts, Subject};
 
 unsafe extern "C" {
     fn mmix_initialize(image: *mut u8, image_len: usize) -> u64;
@@ -78,6 +78,8 @@ unsafe extern "C" {
     ) -> u64;
     fn mmix_decode(image: *const u8, image_len: usize, state: *mut State) -> u64;
     fn mmix_encode(state: *const State, image: *mut u8, image_len: usize) -> u64;
+    fn mmix_branch_field(from: u64, to: u64, backward: *mut u8, field: *mut u32) -> u64;
+    fn mmix_jump_field(from: u64, to: u64, backward: *mut u8, field: *mut u32) -> u64;
 }
 
 pub struct Library {
@@ -154,5 +156,13 @@ impl Subject for Library {
     #[inline]
     fn encode(&self, state: &State, image: &mut [u8]) -> u64 {
         unsafe { mmix_encode(state, self.lent_mut(image), image.len()) }
+    }
+
+    #[inline]
+    fn field(&self, kind: Kind, from: u64, to: u64, aim: Aim) -> u64 {
+        match kind {
+            Kind::Branch => unsafe { mmix_branch_field(from, to, aim.backward, aim.field) },
+            Kind::Jump => unsafe { mmix_jump_field(from, to, aim.backward, aim.field) },
+        }
     }
 }

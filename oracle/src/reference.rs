@@ -3,6 +3,9 @@
 //! a Z that names no special register; 6 is a touch outside the window; 7 to 20 are read off the one
 //! diagnostic that the Rust sends.
 //!
+//! A field is found by trial: the Rust takes the one candidate of each direction, as a jump or as a branch on 0, and goes to
+//! the address or does not; 21 is given where it goes there by neither.
+//!
 //! The Rust has no arm for an added opcode (`opcodes::is_added`): from 1 and 2 on, the answer there is the model's, and the
 //! library is compared with the model alone.
 
@@ -16,7 +19,8 @@ use facade::touches::{self, Touch};
 use taken::mmix::{Host, MMix, SpecialReg, TrapCode};
 use taken::mmixal::Opcode;
 
-use crate::case::{Call, Case, Instruction};
+use crate::case::{Call, Case, Instruction, Kind};
+use crate::fields;
 use crate::model::{self, Model};
 use crate::opcodes::{GET, RESUME, TRAP, is_added};
 use crate::state::{IMAGE_LEN, RG, RL, RO, State, WINDOW_MAX, octabyte};
@@ -32,6 +36,8 @@ pub struct Answer {
     pub touched: Vec<u64>,
     /// The part of the window that a context has; empty where none was found.
     pub part: Range<usize>,
+    /// Backward (1) or not, and the field; both 0 where none was found.
+    pub aim: (u8, u32),
 }
 
 #[derive(Clone, Copy, PartialEq, Eq, Debug)]
@@ -83,6 +89,9 @@ impl Reference {
     /// The Rust's answer, or what is wrong with it: a panic, a diagnostic that no number has, a number beside
     /// a step that continues.
     pub fn answer(&mut self, case: &Case) -> Result<Answer, String> {
+        if let Call::Field { kind, from, to } = case.call {
+            return self.found(case, kind, from, to);
+        }
         if let Some(reply) = judged(case) {
             return Ok(self.unchanged(case, reply));
         }
@@ -114,11 +123,29 @@ impl Reference {
             return Ok(Answer { touched, ..self.unchanged(case, 6) });
         }
         let part = self.part(case, reply, &state);
-        Ok(Answer { reply, state, window: self.window.clone(), touched, part })
+        Ok(Answer { reply, state, window: self.window.clone(), touched, part, aim: (0, 0) })
+    }
+
+    /// Fields that differ, modulo their number, lead to addresses that differ modulo 4 × that number: so one candidate of
+    /// each direction is enough.
+    fn found(&mut self, case: &Case, kind: Kind, from: u64, to: u64) -> Result<Answer, String> {
+        let candidate = to.wrapping_sub(from) / 4 % kind.size() as u64;
+        let mut answer = self.unchanged(case, 21);
+        for backward in [false, true] {
+            let step = fields::patched(kind, backward, candidate as u32, from);
+            if self.answer(&step)?.state.pc == to {
+                if answer.reply == 0 {
+                    return Err("two fields go there".to_string());
+                }
+                (answer.reply, answer.aim) = (0, (backward as u8, candidate as u32));
+            }
+        }
+        Ok(answer)
     }
 
     fn unchanged(&self, case: &Case, reply: u64) -> Answer {
-        Answer { reply, state: case.state.clone(), window: case.window.clone(), touched: Vec::new(), part: 0..0 }
+        let (state, window) = (case.state.clone(), case.window.clone());
+        Answer { reply, state, window, touched: Vec::new(), part: 0..0, aim: (0, 0) }
     }
 
     /// Make the machine's memory hold this window and nothing else.
@@ -198,7 +225,7 @@ fn of_model(case: &Case, i: Instruction) -> Answer {
     let (mut state, mut window) = (case.state.clone(), case.window.clone());
     let touched = model::needs(case.base, i, &state, &window);
     let reply = Model.step_lent(case.base, i, &mut state, &mut window);
-    Answer { reply, state, window, touched, part: 0..0 }
+    Answer { reply, state, window, touched, part: 0..0, aim: (0, 0) }
 }
 
 /// Numbers 1 to 5.
@@ -210,6 +237,7 @@ fn judged(case: &Case) -> Option<u64> {
         Call::Initialize => (case.image_len != IMAGE_LEN).then_some(1),
         Call::Exceptions { .. } => bad_state.then_some(1),
         Call::Context { .. } => bad_window.then_some(2),
+        Call::Field { .. } => None,
         Call::Step(Instruction { op, x, y, z }) => {
             if bad_state {
                 Some(1)
@@ -244,6 +272,7 @@ fn enter(machine: &mut MMix, call: &Call) -> bool {
             machine.enter_exceptions(flags, op, x, y, z, y_val, z_val)
         }
         Call::Context { address } => machine.enter_unsave(address),
+        Call::Field { .. } => unreachable!("found by steps"),
     }
 }
 

@@ -3,16 +3,17 @@
 
 use std::sync::LazyLock;
 
-use crate::case::{Call, Case, Instruction};
+use crate::case::{Call, Case, Instruction, Kind};
 use crate::chains::{CHAIN, chain};
 use crate::opcodes::*;
 use crate::random::Random;
 use crate::reference::{Answer, has_arm};
 use crate::state::*;
 use crate::windows::{self, Saved};
-use crate::{operands, states};
+use crate::{fields, operands, states};
 
-/// Cases a round: refusals by state, by window and by opcode, single steps, exceptions, context reads, a chain.
+/// Cases a round: refusals by state, by window and by opcode, single steps, exceptions, context reads, a chain. Beside them a
+/// round has two fields, which are not counted among these.
 pub const ROUND: u64 = ILL_STATES + ILL_WINDOWS + NO_ARMS + SINGLES + EXCEPTIONS + CONTEXTS + CHAIN;
 const ILL_STATES: u64 = 7;
 const ILL_WINDOWS: u64 = 7;
@@ -105,7 +106,10 @@ pub fn round(seed: u64, number: u64, run: &mut dyn FnMut(&Case) -> Option<Answer
     }
     run(&context(random))?;
     run(&if number.is_multiple_of(4) { initialize(random) } else { context(random) })?;
-    chain(random, run)
+    chain(random, run)?;
+    run(&fields::single(random, Kind::Branch))?;
+    run(&fields::single(random, Kind::Jump))?;
+    Some(())
 }
 
 /// One step with a state and window made for it.

@@ -87,5 +87,14 @@ fn changes(case: &Case) -> Vec<Change> {
             _ => {}
         }));
     }
+    for by in (2..64).rev() {
+        list.push(Box::new(move |c| {
+            if let Call::Field { from, to, .. } = &mut c.call
+                && *from >> by != 0
+            {
+                (*from, *to) = (from.wrapping_sub(1 << by), to.wrapping_sub(1 << by));
+            }
+        }));
+    }
     list
 }

@@ -1,7 +1,7 @@
-//! The machine that is compared with the Rust: nine functions that equal those of include/mmix.h. 0 is done,
-//! 1 to 20 are 01's numbers.
+//! The machine that is compared with the Rust: functions that equal those of include/mmix.h. 0 is done,
+//! 1 to 20 are 01's numbers; 21 is request 2's.
 
-use crate::case::Instruction;
+use crate::case::{Instruction, Kind};
 use crate::compared::Model;
 use crate::guards::{Guard, Guarded};
 #[cfg(feature = "library")]
@@ -30,6 +30,12 @@ pub struct Found<'a> {
     pub length: &'a mut usize,
 }
 
+/// Where the search for a field puts direction and field.
+pub struct Aim<'a> {
+    pub backward: &'a mut u8,
+    pub field: &'a mut u32,
+}
+
 pub trait Subject {
     fn name(&self) -> &'static str;
     fn initialize(&self, image: &mut [u8]) -> u64;
@@ -41,6 +47,7 @@ pub trait Subject {
     fn exceptions_parts(&self, flags: u8, of: Instruction, y_val: u64, z_val: u64, parts: Parts) -> u64;
     fn decode(&self, image: &[u8], state: &mut State) -> u64;
     fn encode(&self, state: &State, image: &mut [u8]) -> u64;
+    fn field(&self, kind: Kind, from: u64, to: u64, aim: Aim) -> u64;
 }
 
 /// The subject that counts in this build: the library where it is linked, else the model.

@@ -1,11 +1,11 @@
 //! How often each opcode met each reply, and how often each situation was met.
 
-use crate::case::{Call, Case};
+use crate::case::{Call, Case, Kind};
 use crate::opcodes::*;
 use crate::reference::Answer;
 use crate::situations::{self, SITUATIONS};
 
-const REPLIES: usize = 21;
+const REPLIES: usize = 22;
 /// Met less often than this, a pair of opcode and reply, an opcode that is done, or a situation is met too seldom.
 const PAIR_LEAST: u64 = 100;
 const DONE_LEAST: u64 = 500;
@@ -34,6 +34,7 @@ fn replies(op: u8) -> &'static [usize] {
 const EXCEPTION_REPLIES: [usize; 3] = [0, 1, 19];
 const CONTEXT_REPLIES: [usize; 6] = [0, 2, 6, 14, 15, 16];
 const INITIALIZE_REPLIES: [usize; 2] = [0, 1];
+const FIELD_REPLIES: [usize; 2] = [0, 21];
 
 #[derive(Clone)]
 pub struct Tally {
@@ -41,6 +42,8 @@ pub struct Tally {
     exceptions: [u64; REPLIES],
     contexts: [u64; REPLIES],
     initialized: [u64; REPLIES],
+    branch_fields: [u64; REPLIES],
+    jump_fields: [u64; REPLIES],
     situations: [u64; SITUATIONS.len()],
 }
 
@@ -48,7 +51,15 @@ impl Default for Tally {
     fn default() -> Self {
         let none = [0; REPLIES];
         let situations = [0; SITUATIONS.len()];
-        Self { steps: vec![none; 256], exceptions: none, contexts: none, initialized: none, situations }
+        Self {
+            steps: vec![none; 256],
+            exceptions: none,
+            contexts: none,
+            initialized: none,
+            branch_fields: none,
+            jump_fields: none,
+            situations,
+        }
     }
 }
 
@@ -59,17 +70,21 @@ impl Tally {
             Call::Exceptions { .. } => &mut self.exceptions,
             Call::Context { .. } => &mut self.contexts,
             Call::Initialize => &mut self.initialized,
+            Call::Field { kind: Kind::Branch, .. } => &mut self.branch_fields,
+            Call::Field { kind: Kind::Jump, .. } => &mut self.jump_fields,
         };
         row[answer.reply as usize] += 1;
         situations::count(case, answer, &mut self.situations);
     }
 
     fn rows(&self) -> impl Iterator<Item = &[u64; REPLIES]> {
-        self.steps.iter().chain([&self.exceptions, &self.contexts, &self.initialized])
+        let Self { exceptions, contexts, initialized, branch_fields, jump_fields, .. } = self;
+        self.steps.iter().chain([exceptions, contexts, initialized, branch_fields, jump_fields])
     }
 
     pub fn add(&mut self, other: &Self) {
-        let own = self.steps.iter_mut().chain([&mut self.exceptions, &mut self.contexts, &mut self.initialized]);
+        let Self { steps, exceptions, contexts, initialized, branch_fields, jump_fields, .. } = self;
+        let own = steps.iter_mut().chain([exceptions, contexts, initialized, branch_fields, jump_fields]);
         for (row, more) in own.zip(other.rows()) {
             row.iter_mut().zip(more).for_each(|(a, b)| *a += b);
         }
@@ -92,6 +107,8 @@ impl Tally {
         rows.push(("exceptions".to_string(), &self.exceptions, EXCEPTION_REPLIES.to_vec()));
         rows.push(("context".to_string(), &self.contexts, CONTEXT_REPLIES.to_vec()));
         rows.push(("initialize".to_string(), &self.initialized, INITIALIZE_REPLIES.to_vec()));
+        rows.push(("branch_field".to_string(), &self.branch_fields, FIELD_REPLIES.to_vec()));
+        rows.push(("jump_field".to_string(), &self.jump_fields, FIELD_REPLIES.to_vec()));
         rows
     }
 

@@ -4,11 +4,11 @@ use std::ffi::{c_int, c_void};
 use std::fs::File;
 use std::os::fd::AsRawFd;
 
-use oracle::case::Instruction;
+use oracle::case::{Instruction, Kind};
 use oracle::guards::{Guard, Guarded, WROTE_OUTSIDE};
 use oracle::opcodes::STB;
 use oracle::state::{IMAGE_LEN, State};
-use oracle::subject::{Found, Parts, Subject};
+use oracle::subject::{Aim, Found, Parts, Subject};
 
 unsafe extern "C" {
     fn write(file: c_int, bytes: *const c_void, count: usize) -> isize;
@@ -78,27 +78,33 @@ impl Subject for Probe {
     fn encode(&self, _: &State, _: &mut [u8]) -> u64 {
         0
     }
+    fn field(&self, _: Kind, _: u64, _: u64, aim: Aim) -> u64 {
+        // SAFETY: the four bytes of the field.
+        self.around(unsafe { std::slice::from_raw_parts_mut(std::ptr::from_mut(aim.field).cast(), 4) })
+    }
 }
 
-/// Two calls in turn: flush against the page after the buffer, then against the one before it. The buffer is an image, and
-/// a step's window, where loads and stores of its last bytes and its first go.
-fn twice(probe: Probe) -> [[u64; 2]; 2] {
+/// Two calls in turn: flush against the page after the buffer, then against the one before it. The buffer is an image;
+/// a step's window, where loads and stores of its last bytes and its first go; the four bytes of a field.
+fn twice(probe: Probe) -> [[u64; 2]; 3] {
     let guarded = Guarded::new(Box::new(probe), Guard::Pages);
     let (mut image, mut window) = (vec![0; IMAGE_LEN], vec![0; 64]);
     let i = Instruction { op: STB, x: 1, y: 2, z: 3 };
+    let field = || guarded.field(Kind::Jump, 0, 4, Aim { backward: &mut 0, field: &mut 0 });
     [
         [guarded.initialize(&mut image), guarded.initialize(&mut image)],
         [guarded.step(0, i, &mut image, &mut window), guarded.step(0, i, &mut image, &mut window)],
+        [field(), field()],
     ]
 }
 
 #[test]
 fn pages_beside_a_buffer_cannot_be_touched() {
-    assert_eq!(twice(Probe::ReadAround), [[2, 1]; 2]);
+    assert_eq!(twice(Probe::ReadAround), [[2, 1]; 3]);
 }
 
 #[test]
 fn canaries_see_a_byte_written() {
-    assert_eq!(twice(Probe::WriteAfter), [[2, WROTE_OUTSIDE]; 2]);
-    assert_eq!(twice(Probe::WriteBefore), [[WROTE_OUTSIDE, 1]; 2]);
+    assert_eq!(twice(Probe::WriteAfter), [[2, WROTE_OUTSIDE]; 3]);
+    assert_eq!(twice(Probe::WriteBefore), [[WROTE_OUTSIDE, 1]; 3]);
 }

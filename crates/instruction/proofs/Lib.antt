@@ -1,5 +1,6 @@
 -- The laws of this crate's definitions, for its proofs and for those of the crates above it.
 pub mod Counts
+pub mod Fields
 pub mod Conditions
 pub mod NoMemoryReplies
 pub mod Interrupts

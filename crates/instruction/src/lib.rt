@@ -5,6 +5,7 @@
 //! - `load_store`: loads and stores; `operand`: sizes, places and signs of what they move
 //! - `opcode`: the opcodes by name, and their ranges
 //! - `target`: addresses and conditions
+//! - `field`: which field reaches an address
 //! - `registers`: the arms that move nothing but registers
 //! - `calls`: those that work on frames
 //! - `contexts`: those that work on saved contexts
@@ -15,6 +16,7 @@ pub mod calls;
 pub mod contexts;
 mod control;
 pub mod exceptions;
+pub mod field;
 mod load_store;
 pub mod opcode;
 mod operand;

@@ -3,8 +3,13 @@ ghost use mathlib.Core.Path.{_≡_};
 ghost use Prim.Native.Nat.{_+_, _%_, _^_, _<_, _≤_};
 ghost use lib.Signed.{mag};
 ghost use Rattle.model.specs.Opcodes.{wayOf, conditionOf};
-ghost use Rattle.model.specs.Control.{yzOf, xyzOf, targetOf, holds};
+ghost use Rattle.model.specs.Control.{branchFields, jumpFields, yzOf, xyzOf, targetOf, holds};
 ghost use Rattle.instruction.specs.Counts.{countOf, movedBy};
+
+/// How many fields YZ there are, and how many XYZ.
+pub const BRANCH_FIELDS: u64 = 65536;
+
+pub const JUMP_FIELDS: u64 = 16777216;
 
 /// @ + 4.
 pub fn following(pc: u64) -> u64
@@ -38,18 +43,18 @@ fn count_of(op: u8, size: u64, field: u64) -> i64
 
 /// The target of a field YZ: an odd opcode's is YZ − 65536, a negative count.
 pub fn near(pc: u64, op: u8, y: u8, z: u8) -> u64
-    ensures { λ r. ⌜ r ≡ targetOf pc (wayOf op) 65536 (yzOf y z) ⌝ }
+    ensures { λ r. ⌜ r ≡ targetOf pc (wayOf op) branchFields (yzOf y z) ⌝ }
 {
     let field = 256 * (y as u64) + z as u64;
-    move_by(pc, count_of(op, 65536, field))
+    move_by(pc, count_of(op, BRANCH_FIELDS, field))
 }
 
 /// The target of a field XYZ: an odd opcode's is XYZ − 16777216, a negative count.
 pub fn far(pc: u64, op: u8, x: u8, y: u8, z: u8) -> u64
-    ensures { λ r. ⌜ r ≡ targetOf pc (wayOf op) 16777216 (xyzOf x y z) ⌝ }
+    ensures { λ r. ⌜ r ≡ targetOf pc (wayOf op) jumpFields (xyzOf x y z) ⌝ }
 {
     let field = 65536 * (x as u64) + (256 * (y as u64) + z as u64);
-    move_by(pc, count_of(op, 16777216, field))
+    move_by(pc, count_of(op, JUMP_FIELDS, field))
 }
 
 /// Whether a branch with opcode `op` is taken on a register that holds v.

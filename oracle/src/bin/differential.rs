@@ -18,6 +18,7 @@ use std::time::Instant;
 
 use oracle::case::{self, Case};
 use oracle::compare::compare;
+use oracle::fields;
 use oracle::guards::{self, Guard};
 use oracle::reference::{Answer, Reference};
 use oracle::rounds::{ROUND, round};
@@ -119,6 +120,7 @@ impl Runner<'_> {
             sweep::frames(&mut |case| self.run(case))?;
             sweep::operands(&mut |case| self.run(case))?;
             sweep::limits(&mut |case| self.run(case))?;
+            fields::sweep(&mut |case| self.run(case))?;
         }
         Some(())
     }

@@ -10,11 +10,11 @@ use std::ffi::{c_int, c_void};
 use std::process::ExitCode;
 use std::{env, ptr};
 
-use oracle::case::{Call, Case, Instruction};
+use oracle::case::{Call, Case, Instruction, Kind};
 use oracle::reference::Reference;
 use oracle::rounds::{ROUND, round};
 use oracle::state::State;
-use oracle::subject::{Found, Parts, Subject, chosen};
+use oracle::subject::{Aim, Found, Parts, Subject, chosen};
 
 const STACK: usize = 64 * 1024;
 const MOST: usize = STACK / 2;
@@ -123,12 +123,15 @@ impl Subject for Nothing {
     fn encode(&self, _: &State, _: &mut [u8]) -> u64 {
         0
     }
+    fn field(&self, _: Kind, _: u64, _: u64, _: Aim) -> u64 {
+        0
+    }
 }
 
 type Entry = fn(&dyn Subject, &mut Lent);
 
 /// The entries by name; each takes the cases that are its own.
-const ENTRIES: [(&str, Entry); 9] = [
+const ENTRIES: [(&str, Entry); 11] = [
     ("mmix_initialize", |subject, lent| {
         if let Call::Initialize = lent.case.call {
             subject.initialize(&mut lent.image);
@@ -172,7 +175,18 @@ const ENTRIES: [(&str, Entry); 9] = [
     ("mmix_encode", |subject, lent| {
         subject.encode(&lent.state, &mut lent.image);
     }),
+    ("mmix_branch_field", |subject, lent| field(subject, lent, Kind::Branch)),
+    ("mmix_jump_field", |subject, lent| field(subject, lent, Kind::Jump)),
 ];
+
+fn field(subject: &dyn Subject, lent: &Lent, of: Kind) {
+    if let Call::Field { kind, from, to } = lent.case.call
+        && kind == of
+    {
+        let (mut backward, mut field) = (0, 0);
+        subject.field(kind, from, to, Aim { backward: &mut backward, field: &mut field });
+    }
+}
 
 /// The depth of each entry over one batch of rounds, the harness's own taken off.
 fn depths(painted: &mut Painted, reference: &mut Reference, seed: u64, batch: u64) -> [usize; ENTRIES.len()] {

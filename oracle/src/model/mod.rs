@@ -1,15 +1,16 @@
 //! Document 01 as a program, written from its sentences and not from the Rust. This file has the entries and
 //! what they judge; `memory` the window, `stack` frames and contexts, `loads` loads and stores (Fascicle 1), `arms` the
-//! other steps.
+//! other steps; `fields` which field reaches an address.
 
 mod arms;
+mod fields;
 mod loads;
 mod memory;
 mod stack;
 
-use crate::case::Instruction;
+use crate::case::{Instruction, Kind};
 use crate::state::{IMAGE_LEN, RG, RK, RL, RN, RO, RS, RT, RTT, RV, STACK_START, State, WINDOW_MAX};
-use crate::subject::{Found, Parts, Subject};
+use crate::subject::{Aim, Found, Parts, Subject};
 use memory::Window;
 
 /// What a step leaves: the reply, the state, the octabytes stored (address and value) and those needed.
@@ -210,6 +211,12 @@ impl Subject for Model {
         }
         image.copy_from_slice(&state.image());
         0
+    }
+
+    fn field(&self, kind: Kind, from: u64, to: u64, aim: Aim) -> u64 {
+        let found = fields::find(kind.size(), from, to);
+        (*aim.backward, *aim.field) = found.map_or((0, 0), |(backward, field)| (backward as u8, field));
+        if found.is_some() { 0 } else { 21 }
     }
 }
 
