@@ -1,7 +1,6 @@
 -- Laws of the search for a field, over plain variables: its four answers by the distance d.
-use mathlib.Core.Path.{_≡_, sym, ap, _∙_}
+use mathlib.Core.Path.{_≡_, sym}
 use Prim.Native.Nat.{ℕ, _-_, _/_, _%_, _^_, _<_, _≤_}
-use native.Mathlib.Omega.{arith}
 use borrow.Author.Tests.{eq-eqb, ne-eqb, lt-ltb, le-ltb, le-leb, lt-leb}
 use Rattle.model.specs.Field.{distance, fieldAt, fieldOf}
 use Rattle.model.specs.declared.Reach.the-variants.{Forward, Backward, Neither}

@@ -12,7 +12,7 @@ use Rattle.model.specs.Registers.{Sized, Words}
 use Rattle.model.specs.NoMemory.{tell}
 use Rattle.model.specs.Step.{Item, step, exception, stepOf, itemPlan, mmix}
 use Rattle.model.specs.declared.State.{State}
-use Rattle.model.proofs.Numbers.{numbered}
+use Rattle.model.proofs.Numbers.{step-number}
 use Rattle.model.proofs.Leaves.{replies-leave}
 use Rattle.mmix.specs.Image.{imageLength, imageOf, stateOf}
 use Rattle.mmix.specs.Calls.{Held, image, struct, heldState, HeldIs, HeldFits, Entry, on-image, on-lent, on-parts, decode, encode, asked, ImageCall, StateCall, AsImage, AsStruct, Meets, answered}
@@ -66,12 +66,12 @@ few n (inr (inr e)) = omega arith
 state-left : (s : State) (w : Windows) (i : Item) (r : ℕ) (t : State) (v : Windows) → Sized s → StateCall s w i r t v → Left s w i r (struct t) v
 unfolding StateCall HeldIs stepOn mmix itemPlan one stepOf tell perform worst puts
 state-left s w (step op x y z) r t v n g = record {
-  reply-is = g .reply-is ∙ numbered .number-reply _ (replies-leave .by-step w s op x y z n .most);
+  reply-is = g .reply-is ∙ step-number _ (replies-leave .by-step w s op x y z n .most);
   held-is = g .state-is;
   window-is = g .window-is;
 }
 state-left s w (exception f op x y z a b) r t v n g = record {
-  reply-is = g .0 .reply-is ∙ numbered .number-reply _ (few _ (replies-leave .by-exception s f op x y z a b n .among));
+  reply-is = g .0 .reply-is ∙ step-number _ (few _ (replies-leave .by-exception s f op x y z a b n .among));
   held-is = g .0 .state-is;
   window-is = g .1;
 }

@@ -11,12 +11,14 @@ use Rattle.model.specs.NoMemory.{Said}
 use Rattle.model.specs.Plan.{Outcome}
 use Rattle.model.specs.Step.{stepOf, exceptionOf}
 use Rattle.model.specs.Numbers.{numberOf, replyOf}
+use Rattle.model.specs.Field.{answerOf}
 use Rattle.model.specs.declared.State.{State}
 use Rattle.model.specs.declared.Reply.{Reply}
+use Rattle.model.specs.declared.Reach.{Reach}
 use Rattle.instruction.specs.NoMemoryArms.{Told}
 use Rattle.instruction.specs.StepAnswer.{Whole}
 use Rattle.mmix.specs.Image.{imageLength, imageOf, stateOf}
-use Rattle.mmix.specs.Entries.{isImage, Decoded, Encoded, Initialized, Stepped, SteppedState, Raised, RaisedState}
+use Rattle.mmix.specs.Entries.{isImage, Decoded, Encoded, Initialized, Stepped, SteppedState, Raised, RaisedState, FieldTold}
 
 -- ---- on the parts of a state
 
@@ -82,3 +84,22 @@ module _ (l : List ℕ) (n : length l ≡ imageLength) where
 -- the image of the fresh state
 pub initialized : (s : State) → s ≡ fresh → (l : List ℕ) (r : ℕ) (m : List ℕ) → Encoded s l r m → Initialized l r m
 initialized s e l r m g = record { reply-is = g .reply-is; image-is = g .image-is ∙ ap (λ (t : State). cond (isImage l) (imageOf t) l) e }
+
+-- ---- a field
+
+module _ (q p : Reach) (e : q ≡ p) (r : ℕ) where
+  -- what is told of a search is told of an equal one
+  pub field-told : (b f : ℕ) → FieldTold (answerOf q) r b f → FieldTold (answerOf p) r b f
+  field-told b f g = record {
+    reply-is = g .reply-is ∙ ap (λ (o : Reach). answerOf o .reply) e;
+    backward-is = g .backward-is ∙ ap (λ (o : Reach). answerOf o .backward) e;
+    field-is = g .field-is ∙ ap (λ (o : Reach). answerOf o .field) e;
+  }
+
+  -- the case p
+  pub case-told : r ≡ answerOf p .reply → FieldTold (answerOf q) r (answerOf p .backward) (answerOf p .field)
+  case-told n = record {
+    reply-is = n ∙ sym (ap (λ (o : Reach). answerOf o .reply) e);
+    backward-is = sym (ap (λ (o : Reach). answerOf o .backward) e);
+    field-is = sym (ap (λ (o : Reach). answerOf o .field) e);
+  }

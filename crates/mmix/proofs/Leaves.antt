@@ -17,13 +17,14 @@ use Rattle.model.specs.LoadStore.{flagV}
 use Rattle.model.specs.Step.{step, exception, stepOf, exceptionOf, itemPlan, mmix}
 use Rattle.model.specs.Registers.{rB, rBB, rA, rW, rX, rY, rZ, rWW, rXX, rYY, rZZ, sp, reg, Sized}
 use Rattle.model.specs.Trips.{withAdded, wordOf}
-use Rattle.model.specs.Leaves.{Interrupted, StepLeaves, ExceptionLeaves}
+use Rattle.model.specs.Field.{fieldOf, answerOf}
+use Rattle.model.specs.Leaves.{Interrupted, StepLeaves, ExceptionLeaves, FieldLeaves}
 use Rattle.model.proofs.Leaves.{replies-leave}
 use Rattle.model.proofs.Invariants.{items-keep}
-use Rattle.model.proofs.Numbers.{numbered}
+use Rattle.model.proofs.Numbers.{step-number}
 use Rattle.model.specs.declared.State.{State}
 use Rattle.mmix.specs.Image.{imageLength, imageOf, stateOf}
-use Rattle.mmix.specs.Entries.{isImage, Stepped, Raised, SteppedState, RaisedState}
+use Rattle.mmix.specs.Entries.{isImage, Stepped, Raised, SteppedState, RaisedState, FieldTold}
 use Rattle.mmix.specs.Leaves.{replaced, atSpecial, atHalt, haltBytes, tripOctas, trapOctas, StepCallLeaves, ExceptionCallLeaves, CallsLeave}
 use Rattle.mmix.specs.Calls.{image, HeldIs, ImageCall}
 use Rattle.mmix.proofs.RoundTrips.{halt-bytes, round-trips}
@@ -160,13 +161,24 @@ by-state-step : (w : Windows) (s : State) (op x y z r : ℕ) (t : State) (v : Wi
     → StepLeaves w s op x y z (record { reply = r; state = t; memory = v })
 by-state-step w s op x y z r t v h g =
     let k : StepLeaves w s op x y z (stepOf w s op x y z) = replies-leave .by-step w s op x y z h in
-    subst (StepLeaves w s op x y z) (sym (λ i. record { reply = (g .reply-is ∙ numbered .number-reply _ (k .most)) i; state = g .state-is i; memory = g .window-is i })) k
+    subst (StepLeaves w s op x y z) (sym (λ i. record { reply = (g .reply-is ∙ step-number _ (k .most)) i; state = g .state-is i; memory = g .window-is i })) k
 
 by-state-exception : (s : State) (f op x y z u v r : ℕ) (t : State) → Sized s → RaisedState s f op x y z u v r t
     → ExceptionLeaves s f op x y z u v (say r t)
 by-state-exception s f op x y z u v r t h g =
     let k : ExceptionLeaves s f op x y z u v (exceptionOf s f op x y z u v) = replies-leave .by-exception s f op x y z u v h in
-    subst (ExceptionLeaves s f op x y z u v) (sym (λ i. record { reply = (g .reply-is ∙ numbered .number-reply _ (few _ (k .among))) i; state = g .state-is i })) k
+    subst (ExceptionLeaves s f op x y z u v) (sym (λ i. record { reply = (g .reply-is ∙ step-number _ (few _ (k .among))) i; state = g .state-is i })) k
+
+by-field : (size from to r backward field : ℕ) → FieldTold (answerOf (fieldOf size from to)) r backward field
+    → FieldLeaves (record { reply = r; backward = backward; field = field })
+by-field size from to r backward field g =
+    subst FieldLeaves (sym (λ i. record { reply = g .reply-is i; backward = g .backward-is i; field = g .field-is i })) (replies-leave .by-field size from to)
 
 pub calls-leave : CallsLeave
-calls-leave = record { by-step = by-step; by-exception = by-exception; by-state-step = by-state-step; by-state-exception = by-state-exception }
+calls-leave = record {
+  by-step = by-step;
+  by-exception = by-exception;
+  by-state-step = by-state-step;
+  by-state-exception = by-state-exception;
+  by-field = by-field;
+}

@@ -1,6 +1,6 @@
 -- Demand 3 as a host meets it: lists of calls of the C functions, in any mix, each on what the one before left. A host holds the machine as
 -- an image or as a struct, goes from one to the other by mmix_decode and mmix_encode, and lends one window. (mmix_initialize starts another
--- run, and mmix_context changes nothing: neither is in a list.)
+-- run, mmix_context changes nothing, and mmix_branch_field and mmix_jump_field are given neither state nor window: none of them is in a list.)
 -- `Stepped`, `Raised`, `SteppedState`, `RaisedState`, `Decoded` and `Encoded` are the functions' contracts.
 use Prim.Native.Nat.{ℕ, _+_, _<_}
 use mathlib.Core.Path.{_≡_}

@@ -11,6 +11,7 @@ use Rattle.model.specs.Memory.{Windows}
 use Rattle.model.specs.Step.{stepOf, exceptionOf}
 use Rattle.model.specs.Reader.{readContext}
 use Rattle.model.specs.Numbers.{numberOf, replyOf}
+use Rattle.model.specs.Field.{FieldAnswer}
 use Rattle.model.specs.declared.State.{State}
 use Rattle.mmix.specs.Image.{imageLength, imageOf, stateOf}
 
@@ -52,3 +53,8 @@ pub record ContextAt (w : Windows) (p r start length : ℕ) : Type 0 where
   pub reply-is : r ≡ readContext w p .reply
   pub start-is : start ≡ readContext w p .state .start
   pub length-is : length ≡ readContext w p .state .size
+
+pub record FieldTold (a : FieldAnswer) (r backward field : ℕ) : Type 0 where
+  pub reply-is : r ≡ a .reply
+  pub backward-is : backward ≡ a .backward
+  pub field-is : field ≡ a .field

@@ -1,5 +1,5 @@
--- Which numbers the functions that step return, and what each leaves, of an image every byte: 01, 'Replies', column 'left'. It is said of any
--- call that meets its contract, on an image of any length.
+-- Which numbers the functions return, and what each leaves, of an image every byte: 01, 'Replies', column 'left'. It is said of any
+-- call that meets its contract, on an image of any length. (mmix_branch_field and mmix_jump_field are given no state: 21 leaves their outputs 0.)
 use Prim.Native.Nat.{ℕ, _+_, _*_, _≤_, _<_}
 use mathlib.Core.Path.{_≡_}
 use mathlib.Core.Logic.{_⊎_}
@@ -15,10 +15,11 @@ use Rattle.model.specs.Control.{sumOf}
 use Rattle.model.specs.Trips.{wordOf, withAdded}
 use Rattle.model.specs.LoadStore.{merged, flagV}
 use Rattle.model.specs.Numbers.{Early, Lost, Halting}
-use Rattle.model.specs.Leaves.{StepLeaves, ExceptionLeaves}
+use Rattle.model.specs.Field.{fieldOf, answerOf}
+use Rattle.model.specs.Leaves.{StepLeaves, ExceptionLeaves, FieldLeaves}
 use Rattle.model.specs.declared.State.{State}
 use Rattle.mmix.specs.Image.{stateOf}
-use Rattle.mmix.specs.Entries.{Stepped, Raised, SteppedState, RaisedState}
+use Rattle.mmix.specs.Entries.{Stepped, Raised, SteppedState, RaisedState, FieldTold}
 
 -- the image with octabytes replaced, one after another: by its number among the 291, and what it becomes
 unfoldable pub replaced : List ℕ → List (ℕ × ℕ) → List ℕ
@@ -91,3 +92,6 @@ pub record CallsLeave : Type 0 where
       → SteppedState w s op x y z r t v → StepLeaves w s op x y z (record { reply = r; state = t; memory = v })
   pub by-state-exception : (s : State) (f op x y z u v r : ℕ) (t : State) → Sized s
       → RaisedState s f op x y z u v r t → ExceptionLeaves s f op x y z u v (say r t)
+  -- the search for a field: 0 or 21, and then both outputs are 0
+  pub by-field : (size from to r backward field : ℕ) → FieldTold (answerOf (fieldOf size from to)) r backward field
+      → FieldLeaves (record { reply = r; backward = backward; field = field })

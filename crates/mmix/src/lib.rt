@@ -1,10 +1,14 @@
-//! The C library: what a relay host calls, on numbers and byte slices. 0 is done; 1 to 20 are the refusals.
+//! The C library: what a relay host calls, on numbers and byte slices. 0 is done; 1 to 21 are the refusals.
 
+ghost use Rattle.model.specs.Control.{branchFields, jumpFields};
+ghost use Rattle.model.specs.Field.{fieldOf, answerOf};
 ghost use Rattle.model.specs.Parts.{made, lent};
-ghost use Rattle.mmix.specs.Entries.{Initialized, Decoded, Encoded, Stepped, SteppedState, Raised, RaisedState, ContextAt};
+ghost use Rattle.mmix.specs.Entries.{Initialized, Decoded, Encoded, Stepped, SteppedState, Raised, RaisedState, ContextAt, FieldTold};
 use image::Answer;
 use image::IMAGE_LEN;
 use image::Rest;
+use model::Reach;
+use model::Reply;
 use model::State;
 
 pub mod image;
@@ -257,4 +261,45 @@ pub extern "C" fn mmix_context(
     *length = at.size;
     let found = at.reply;
     instruction::value::number_of(found)
+}
+
+/// A search's number, and its direction and field into the outputs: backward 0 or 1; both 0 where it is refused.
+fn tell_reach(reach: Reach, backward: &mut u8, field: &mut u32) -> u64
+    ensures { λ r. ⌜ FieldTold (answerOf reach) r (now (backward .exit)) (now (field .exit)) ⌝ }
+{
+    match reach {
+        Reach::Forward(found) => {
+            *backward = 0;
+            *field = found;
+            instruction::value::number_of(Reply::Done)
+        }
+        Reach::Backward(found) => {
+            *backward = 1;
+            *field = found;
+            instruction::value::number_of(Reply::Done)
+        }
+        Reach::Neither => {
+            *backward = 0;
+            *field = 0;
+            instruction::value::number_of(Reply::OutOfReach)
+        }
+    }
+}
+
+/// Which field YZ, of which direction, goes from an instruction's address to another.
+#[no_mangle]
+pub extern "C" fn mmix_branch_field(from: u64, to: u64, backward: &mut u8, field: &mut u32) -> u64
+    ensures { λ r. ⌜ FieldTold (answerOf (fieldOf branchFields from to)) r (now (backward .exit)) (now (field .exit)) ⌝ }
+{
+    let reach = instruction::field::branch_field(from, to);
+    tell_reach(reach, backward, field)
+}
+
+/// Which field XYZ, of which direction, goes from an instruction's address to another.
+#[no_mangle]
+pub extern "C" fn mmix_jump_field(from: u64, to: u64, backward: &mut u8, field: &mut u32) -> u64
+    ensures { λ r. ⌜ FieldTold (answerOf (fieldOf jumpFields from to)) r (now (backward .exit)) (now (field .exit)) ⌝ }
+{
+    let reach = instruction::field::jump_field(from, to);
+    tell_reach(reach, backward, field)
 }

@@ -1,6 +1,7 @@
 -- The numbers of the replies.
 use mathlib.Core.Path.{_≡_, refl}
 use mathlib.Core.Bool.{true}
+use Prim.Native.Nat.{ℕ, _≤_}
 use native.Mathlib.Omega.{arith}
 use lib.Dec.{eqb}
 use borrow.Author.Tests.{eqb-true}
@@ -40,3 +41,7 @@ all = refl
 
 pub numbered : Numbered
 numbered = record { reply-number = there; number-reply = λ n l. eqb-true (numberOf (replyOf n)) n (at-each 22 (λ k. eqb (numberOf (replyOf k)) k) all n (omega arith)) }
+
+-- a step's number is one of 0 to 20
+pub step-number : (n : ℕ) → n ≤ 20 → numberOf (replyOf n) ≡ n
+step-number n l = numbered .number-reply n (omega arith)

@@ -19,7 +19,7 @@ use Rattle.model.specs.Bench.{start}
 use Rattle.model.specs.declared.State.{State}
 use Rattle.model.specs.declared.Reply.{Reply}
 use Rattle.model.proofs.Bools.{on}
-use Rattle.model.proofs.Numbers.{numbered}
+use Rattle.model.proofs.Numbers.{step-number}
 use Rattle.model.proofs.Leaves.{replies-leave}
 use Rattle.instruction.specs.StepAnswer.{Whole}
 use Rattle.script.specs.Line.{lineOf}
@@ -125,7 +125,7 @@ unfolding turnOf
 leaves-step n s w i b at z q t v g number e c end p =
     let o = stepOf w s (i .op) (i .x) (i .y) (i .z) in
     let r : number ≡ o .reply =
-    e ∙ ap numberOf (g .reply-is) ∙ numbered .number-reply (o .reply) (replies-leave .by-step w s (i .op) (i .x) (i .y) (i .z) z .most) in
+    e ∙ ap numberOf (g .reply-is) ∙ step-number (o .reply) (replies-leave .by-step w s (i .op) (i .x) (i .y) (i .z) z .most) in
     record {
       text-is = wrote-as b at (stepText i number t) (stepText i (o .reply) (o .state)) c end
           (ap (λ (k : ℕ). stepText i k t) r ∙ ap (stepText i (o .reply)) (g .state-is)) p;
