@@ -1,6 +1,7 @@
 /* A relay host. It keeps the direction of feed in a local of the caller, calls the feed routine some levels deep, parks the
  * whole context while a case is worked, comes back, and shows that the direction is as it was. On the way it meets what a
- * host meets: a curve kept in the window, a trip, a system call to serve, a halt, a window too small, steps in place.
+ * host meets: a curve kept in the window, a trip, a system call to serve, a halt, a jump to patch, a window too small, steps
+ * in place.
  *
  *     make host
  */
@@ -167,6 +168,24 @@ static void look_at_a_halt(void)
     set_octabyte(MMIX_AT_HALT, 0);
 }
 
+/* The patch desk: the jump at PC is to go ten instructions back. No branch reaches what lies 65,536 tetras ahead. */
+static void patch_a_jump(void)
+{
+    uint64_t from = octabyte(MMIX_AT_PC), to = from - 40;
+    uint8_t backward;
+    uint32_t field;
+
+    uint64_t reply = mmix_jump_field(from, to, &backward, &field);
+    if (reply != MMIX_DONE)
+        end(mmix_reply_text(reply));
+    printf("%-28s from %" PRIx64 " to %" PRIx64 ": backward %u, field %06" PRIx32 "\n", "a jump to patch", from, to,
+           (unsigned)backward, field);
+    step("JMPB: patched", (uint8_t)(MMIX_OP_JMP + backward), (uint8_t)(field >> 16), (uint8_t)(field >> 8), (uint8_t)field);
+    if (octabyte(MMIX_AT_PC) != to)
+        end("the jump goes elsewhere");
+    refused("a branch to patch", mmix_branch_field(to, to + 4 * UINT64_C(65536), &backward, &field), MMIX_OUT_OF_REACH);
+}
+
 /* Calls and returns on numbers of the host: the struct lent whole, then its parts. */
 static void step_in_place(void)
 {
@@ -211,6 +230,7 @@ int main(void)
     take_a_trip();
     serve_a_call();
     look_at_a_halt();
+    patch_a_jump();
     for (int level = DEPTH; level >= 1; level--)
         step("POP", MMIX_OP_POP, 0, 0, 0);
     step_in_place();

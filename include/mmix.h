@@ -1,14 +1,14 @@
 /* mmix.h: the MMIX register machine, one step at a time.
  *
  * The library keeps nothing between calls, allocates nothing and calls nothing but memcpy and memset. Every function
- * takes any values, ends, and returns MMIX_DONE (0) or the number of a refusal (1 to 20). That each function does what it
+ * takes any values, ends, and returns MMIX_DONE (0) or the number of a refusal (1 to 21). That each function does what it
  * should is proved; README.md says what that means.
  *
  * What the caller owes:
  *  - a pointer is to as many bytes as the length beside it says, or to an object of its type; it may be null only where
  *    that length is 0. It is aligned as C demands of its type;
  *  - no two objects that one call may write to overlap, and none that it writes to overlaps one that it reads: image,
- *    window, state, parts, start and length are apart from each other;
+ *    window, state, parts, start, length, backward and field are apart from each other;
  *  - nothing else reads or writes them during the call.
  *
  * What can hurt:
@@ -42,11 +42,11 @@ extern "C" {
  * was written for an earlier minor version compiles, links and means the same. Major: a function, a struct, the image or a
  * number has another meaning; look before you link. */
 #define MMIX_VERSION_MAJOR 1
-#define MMIX_VERSION_MINOR 1
+#define MMIX_VERSION_MINOR 2
 
 /* The replies. 1 to 6 leave every byte as it was; 7 to 18 set the halt code to 1 and leave all else; 19 and 20 set the
  * halt code to 1 and the trip or trap registers, with PC where it was (an exception refused by 19 has also added to rA; a
- * store refused by 19 is made). */
+ * store refused by 19 is made). 21 is the number of mmix_branch_field and mmix_jump_field alone, which are given no state. */
 enum mmix_reply {
     MMIX_DONE = 0,                /* The step or the exception was done. */
     MMIX_NOT_ADMISSIBLE = 1,      /* rG, rL, rA or the marks are out of range, or the image is not MMIX_IMAGE_LEN bytes. */
@@ -68,7 +68,8 @@ enum mmix_reply {
     MMIX_SYNC_PRIVILEGED = 17,    /* SYNC 4 to 7. */
     MMIX_SYNC_ILLEGAL = 18,       /* SYNC above 7. */
     MMIX_NOT_LOADED = 19,         /* A trip whose vector is not marked loaded: of TRIP, an exception, a store that overflows. */
-    MMIX_TRAPPED = 20             /* TRAP that names no system call. */
+    MMIX_TRAPPED = 20,            /* TRAP that names no system call. */
+    MMIX_OUT_OF_REACH = 21        /* No field of either direction leads from the one address to the other. */
 };
 
 /* The opcodes that have an arm; every other byte is MMIX_NO_ARM. Of a pair with B at the end, that one goes backward; with I
@@ -181,6 +182,16 @@ uint64_t mmix_exceptions_parts(uint8_t flags, uint8_t op, uint8_t x, uint8_t y, 
  * Refused by 2, 6, 14, 15 or 16, as UNSAVE of it would be, *start and *length are 0. No byte of the window is changed. */
 uint64_t mmix_context(uint64_t base, uint64_t address, const uint8_t *window, size_t window_len,
                       size_t *start, size_t *length);
+
+/* ---- patching */
+
+/* Finds the direction and the field by which an instruction at address `from` goes to address `to`, modulo 2^64: there is
+ * never more than one such pair. Done, *backward is 0 or 1, which is to be added to the opcode of the forward instruction,
+ * and *field is its YZ (mmix_branch_field: a branch, PUSHJ, GETA) or its XYZ (mmix_jump_field: JMP): Z is *field & 0xFF, Y
+ * *field >> 8 & 0xFF, X *field >> 16. MMIX_OUT_OF_REACH, and both 0, where no field of either direction does. Any addresses
+ * may be given; misaligned ones too, since their difference counts. */
+uint64_t mmix_branch_field(uint64_t from, uint64_t to, uint8_t *backward, uint32_t *field);
+uint64_t mmix_jump_field(uint64_t from, uint64_t to, uint8_t *backward, uint32_t *field);
 
 #ifdef __cplusplus
 }

@@ -35,6 +35,7 @@ static inline const char *mmix_reply_text(uint64_t reply)
     case MMIX_SYNC_ILLEGAL: return "SYNC above 7";
     case MMIX_NOT_LOADED: return "a trip to a vector that is not loaded";
     case MMIX_TRAPPED: return "TRAP that names no system call";
+    case MMIX_OUT_OF_REACH: return "no field of either direction reaches that address";
     default: return "no reply of this version";
     }
 }

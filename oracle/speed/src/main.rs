@@ -6,7 +6,8 @@
 //! the same instruction fetched from the Rust's memory and decoded; the subject's step on parts, on a lent state
 //! and on an image (there exceptions too). A point of two instructions has the sum of both. Behind the times stand
 //! the ratios, each with its target and whether it is met. The Rust has no arm for loads and stores: they are checked
-//! by the model, and set against a branch; a subject that has no such arm either has no times there.
+//! by the model, and set against a branch; a subject that has no such arm either has no times there. Finding a field has a
+//! line of its own.
 
 mod points;
 mod report;
@@ -14,11 +15,11 @@ mod report;
 use std::hint::black_box;
 use std::time::Instant;
 
-use oracle::case::Instruction;
+use oracle::case::{self, Instruction};
 use oracle::model::Model;
 use oracle::opcodes::{PUT, PUTI, RESUME, TRAP};
 use oracle::state::{STACK_START, State};
-use oracle::subject::{Subject, chosen};
+use oracle::subject::{Aim, Subject, chosen};
 use points::{BRANCH, Kind, Point, Work, points};
 use report::Row;
 use taken_plain::mmix::{Host, MMix};
@@ -201,16 +202,29 @@ fn copied() -> f64 {
     least(|| black_box(&mut to).copy_from_slice(black_box(&from)))
 }
 
+/// The times of finding a jump's field ahead, one behind and none, measured once.
+fn found(subject: &impl Subject) -> [f64; 3] {
+    let (mut backward, mut field) = (0, 0);
+    [0x40, 0x40u64.wrapping_neg(), 1 << 63].map(|offset| {
+        let (from, to) = (CODE_START, CODE_START.wrapping_add(offset));
+        least(|| {
+            let aim = Aim { backward: &mut backward, field: &mut field };
+            black_box(subject.field(case::Kind::Jump, black_box(from), black_box(to), aim));
+        })
+    })
+}
+
 fn main() {
     let only = std::env::args().nth(1).unwrap_or_default();
     let subject = chosen();
     let points: Vec<Point> = points().into_iter().filter(|p| p.name.contains(&only) || p.name == BRANCH).collect();
     points.iter().for_each(|point| check(&subject, point));
 
-    let mut copy = f64::INFINITY;
+    let (mut copy, mut fields) = (f64::INFINITY, [f64::INFINITY; 3]);
     let mut rows = vec![Row::NONE; points.len()];
     for _ in 0..PASSES {
         copy = copy.min(copied());
+        fields.iter_mut().zip(found(&subject)).for_each(|(least, time)| *least = least.min(time));
         for (row, point) in rows.iter_mut().zip(&points) {
             *row = row.least(&measured(&subject, point));
         }
@@ -219,5 +233,7 @@ fn main() {
         "nanoseconds, the least of {PASSES} x {REPEATS}; memcpy of an image {copy:.1}; subject: {}",
         subject.name()
     );
+    let [ahead, behind, none] = fields;
+    println!("a jump's field: ahead {ahead:.1}, behind {behind:.1}, out of reach {none:.1}");
     report::print(&points, &rows, copy);
 }
