@@ -26,7 +26,8 @@
  * its own.
  *
  * Stack, most that was measured, in bytes: mmix_step_lent 5,100; mmix_decode 4,700; mmix_step, mmix_exceptions,
- * mmix_initialize and mmix_encode 2,900; mmix_step_parts, mmix_exceptions_parts and mmix_context 400. There is no recursion.
+ * mmix_initialize and mmix_encode 2,900; mmix_step_parts, mmix_exceptions_parts and mmix_context 400; mmix_branch_field and
+ * mmix_jump_field none. There is no recursion.
  */
 #ifndef MMIX_H
 #define MMIX_H

@@ -3,7 +3,7 @@ import re
 
 # The definitions; the table of opcodes late, for every point rests on it. The other files of specs/ state theorems.
 FILES = ["Control", "Frames", "Contexts", "System", "Trips", "Step", "Memory", "Plan", "Octa", "Fill", "NoMemory", "Lists", "Reader",
-         "Numbers", "Registers", "Rules", "Opcodes", "LoadStore"]
+         "Numbers", "Registers", "Rules", "Opcodes", "LoadStore", "Field"]
 
 # Where a name that a change brings in is imported from.
 HOMES = {"leb": "lib.Dec", "ltb": "lib.Dec", "eqb": "lib.Dec", "&&": "mathlib.Core.Bool", "||": "mathlib.Core.Bool",
@@ -89,8 +89,8 @@ def becomes(old, before, after, name, defining, registers):
     """What a token may become. `defining`: it stands on the right of a definition's equation."""
     if NUMBER.fullmatch(old):
         return [] if before.endswith(("Type", "Unit {")) else numbers(old, before, after, name in registers)
-    if not defining:
-        return []
+    if not defining or re.match(r"\s=\s", after):
+        return []  # a record's field, beside its value
     if old in registers:
         return [registers[(registers.index(old) + 1) % len(registers)]]
     if old == "eqb" and arguments(after)[1:2] == ["0"]:
