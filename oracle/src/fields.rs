@@ -44,8 +44,9 @@ pub fn single(random: &mut Random, kind: Kind) -> Case {
 /// All offsets near each turn, misaligned ones too, from addresses at both ends of memory and in its middle.
 pub fn sweep(run: &mut dyn FnMut(&Case) -> Option<Answer>) -> Option<()> {
     const NEAR: u64 = 80;
-    let middle = 1u64 << 63;
-    let from = [0, 1, 2, 3, 4, 0x40000, middle - 4, middle - 1, middle, middle + 2, 7u64.wrapping_neg(), 4u64.wrapping_neg(), u64::MAX];
+    const MIDDLE: u64 = 1 << 63;
+    const LAST: u64 = u64::MAX;
+    let from = [0, 1, 2, 3, 4, 0x40000, MIDDLE - 4, MIDDLE - 1, MIDDLE, MIDDLE + 2, LAST - 6, LAST - 3, LAST];
     for kind in [Kind::Branch, Kind::Jump] {
         for (from, turn) in from.iter().flat_map(|from| turns(kind).map(|turn| (*from, turn))) {
             for near in 0..=2 * NEAR {
