@@ -3,7 +3,7 @@ import re
 
 # The definitions; the table of opcodes late, for every point rests on it. The other files of specs/ state theorems.
 FILES = ["Control", "Frames", "Contexts", "System", "Trips", "Step", "Memory", "Plan", "Octa", "Fill", "NoMemory", "Lists", "Reader",
-         "Numbers", "Registers", "Rules", "Opcodes", "LoadStore", "Field"]
+         "Numbers", "Registers", "Rules", "Opcodes", "LoadStore", "Field", "ArithmeticStep", "Arithmetic", "Whole"]
 
 # Where a name that a change brings in is imported from.
 HOMES = {"leb": "lib.Dec", "ltb": "lib.Dec", "eqb": "lib.Dec", "&&": "mathlib.Core.Bool", "||": "mathlib.Core.Bool",

@@ -13,7 +13,7 @@ use crate::{operands, states, windows};
 /// The calls of a chain.
 pub const CHAIN: u64 = 10;
 
-/// The opcodes of a chain, calls and returns before all; loads and stores stand between them.
+/// The opcodes of a chain, calls and returns before all; loads, stores and arithmetic stand between them.
 const LINKS: [(u8, usize); 20] = [
     (PUSHJ, 5),
     (PUSHJB, 1),
@@ -38,7 +38,7 @@ const LINKS: [(u8, usize); 20] = [
 ];
 
 static OPCODES: LazyLock<Vec<u8>> = LazyLock::new(|| often(&LINKS));
-static ADDED: LazyLock<Vec<u8>> = LazyLock::new(|| added().collect());
+static TRANSFERS: LazyLock<Vec<u8>> = LazyLock::new(|| added().filter(|op| is_transfer(*op)).collect());
 
 /// The registers that most loads and stores of a chain add up: an address near rO and a small offset.
 const POINTER: u8 = 254;
@@ -77,7 +77,8 @@ pub fn link(random: &mut Random, state: &State, parked: &mut u8) -> Call {
     }
     let op = match random.below(16) {
         0 => random.byte(),
-        1 | 2 => random.pick(&ADDED),
+        1 | 2 => random.pick(&TRANSFERS),
+        3 => random.range(MUL as u64, SRUI as u64) as u8,
         _ => random.pick(&OPCODES),
     };
     let mut i = instruction(random, op, &mut state.clone());
@@ -91,6 +92,7 @@ pub fn link(random: &mut Random, state: &State, parked: &mut u8) -> Call {
             i.y = random.pick(&[POINTER, POINTER, *parked]);
             i.z = if op % 2 == 1 { random.below(64) as u8 } else { OFFSET };
         }
+        MUL..=SRUI => i = operands::registers(random, op, state),
         _ => {}
     }
     Call::Step(i)

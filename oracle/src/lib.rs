@@ -6,8 +6,8 @@
 //! - `subject`: the functions that are compared; `model` (01 as a program) and `library` (C) offer them, and
 //!   `guards` lends each of their buffers in a guarded place.
 //! - `compare`: one case on all sides. `shrink`: a smaller case that still differs.
-//! - `random`, `states`, `windows`, `operands`, `fields`, `rounds`, `chains`, `sweep`: the cases. `starts`, `points`: short ones. `tally`,
-//!   `situations`: the counts.
+//! - `random`, `states`, `windows`, `operands`, `numbers`, `fields`, `rounds`, `chains`, `sweep`: the cases. `starts`, `points`:
+//!   short ones. `tally`, `situations`, `met`: the counts.
 
 // The model that is compared: `model`, or a copy with a fault in it (build.rs).
 #[cfg(changed_model)]
@@ -22,7 +22,9 @@ pub mod fields;
 pub mod guards;
 #[cfg(feature = "library")]
 pub mod library;
+pub mod met;
 pub mod model;
+pub mod numbers;
 pub mod opcodes;
 pub mod operands;
 pub mod points;

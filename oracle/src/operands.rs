@@ -33,7 +33,7 @@ pub fn single(random: &mut Random, op: u8) -> Case {
     state.general[i.x as usize] = value(random, op);
     let place = place(random);
     aim(random, i, &mut state, place);
-    enable(random, &mut state);
+    enable(random, &mut state, V_ENABLED, V_LOADED);
     let at = address(&state, i);
     let (base, mut window) = windows::around(random, at, 1);
     windows::fill(random, &mut window);
@@ -105,18 +105,18 @@ fn value(random: &mut Random, op: u8) -> u64 {
     }
 }
 
-/// V enabled with its vector loaded or not, or disabled, or left to chance; the other bits stay.
-fn enable(random: &mut Random, state: &mut State) {
-    match random.below(4) {
+/// Enabled with the vectors loaded or not, or disabled, or left to chance; the other bits stay.
+pub fn enable(random: &mut Random, state: &mut State, enables: u64, vectors: u64) {
+    match random.below(6) {
         0 => {
-            state.special[RA] |= V_ENABLED;
-            state.marks |= V_LOADED;
+            state.special[RA] |= enables;
+            state.marks |= vectors;
         }
-        1 => {
-            state.special[RA] |= V_ENABLED;
-            state.marks &= MARKS_MAX & !V_LOADED;
+        1 | 2 => {
+            state.special[RA] |= enables;
+            state.marks &= MARKS_MAX & !vectors;
         }
-        2 => state.special[RA] &= !V_ENABLED,
+        3 => state.special[RA] &= !enables,
         _ => {}
     }
 }

@@ -12,7 +12,7 @@ use crate::reference::{Answer, Reference};
 use crate::rounds::{exception, single};
 use crate::situations::{self, SITUATIONS};
 use crate::starts::Start;
-use crate::state::{IMAGE_LEN, RG, RL, RO, RS, STACK_START, State};
+use crate::state::{IMAGE_LEN, RD, RG, RL, RO, RS, STACK_START, State};
 use crate::{states, windows};
 
 /// Bytes of the longest window, a context of 270 octabytes with two to spare, and of most windows.
@@ -21,8 +21,8 @@ pub const SHORT: usize = 64;
 /// How many steps are looked at for one in a given situation.
 const TRIES: u64 = 100_000;
 
-/// The opcodes that reach memory or claim a register, where most limits are.
-const LIMITED: [u8; 24] = [
+/// The opcodes that reach memory, claim a register or compute, where most limits are.
+const LIMITED: [u8; 37] = [
     GO,
     GOI,
     GETA,
@@ -47,6 +47,19 @@ const LIMITED: [u8; 24] = [
     STW + 1,
     STT,
     STOU,
+    MUL,
+    MULU,
+    DIV,
+    DIV,
+    DIVU,
+    ADD,
+    ADDU8,
+    SUB,
+    CMP,
+    NEG,
+    SL,
+    SR,
+    SRU,
 ];
 /// The opcodes of most single steps, in turn; every byte has its turn between them.
 const OPCODES: [u8; 36] = [
@@ -55,7 +68,7 @@ const OPCODES: [u8; 36] = [
 ];
 
 /// Points in a turn.
-const TURN: u64 = 22;
+const TURN: u64 = 24;
 
 /// One point: what is done, from where, and what the Rust leaves.
 pub enum Point {
@@ -91,7 +104,7 @@ impl Drawer {
         compare(&mut self.reference, &[], case).map_err(|e| format!("{e}\n{case}"))
     }
 
-    /// The point of a number: singles, loads and stores, limits, exceptions, lists and contexts in turn.
+    /// The point of a number: singles, added opcodes, limits, exceptions, lists and contexts in turn.
     fn point(&mut self, number: u64) -> Result<Point, String> {
         let (turn, place) = (number / TURN, number % TURN);
         let nth = |first: u64, n: u64| (turn * n + place - first) as usize;
@@ -103,7 +116,7 @@ impl Drawer {
             14 | 15 => self.raised(),
             16..=18 => self.list(),
             19 => self.context(),
-            _ => self.single(added().nth(nth(20, 2) % added().count()).expect("an added opcode")),
+            _ => self.single(added().nth(nth(20, 4) % added().count()).expect("an added opcode")),
         }
     }
 
@@ -115,7 +128,7 @@ impl Drawer {
     /// A step with a window that fits, its registers and octabytes straightened; marginal registers are zero or not.
     fn straight(&mut self, op: u8) -> Case {
         let random = &mut self.random;
-        let reaches = is_added(op) || matches!(op, PUSHGO | PUSHGOI | PUSHJ | PUSHJB | POP | SAVE | UNSAVE);
+        let reaches = is_transfer(op) || matches!(op, PUSHGO | PUSHGOI | PUSHJ | PUSHJB | POP | SAVE | UNSAVE);
         let most = if random.one_in(16) { LONGEST } else { 4 * SHORT };
         let mut case = single(random, op);
         while reaches && case.window.len() > most {
@@ -124,9 +137,12 @@ impl Drawer {
         if !reaches {
             case.window.truncate(SHORT);
         }
-        let partly = case.partly;
+        let (partly, rd) = (case.partly, case.state.special[RD]);
         let mut case = Start::of(&case, random).case();
         case.partly = partly;
+        if is_arithmetic(op) {
+            case.state.special[RD] = rd;
+        }
         if random.one_in(3) {
             let (from, by) = (random.any(), random.any());
             let marginal = case.state.special[RL] as usize..case.state.special[RG] as usize;

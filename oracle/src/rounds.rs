@@ -10,20 +10,20 @@ use crate::random::Random;
 use crate::reference::{Answer, has_arm};
 use crate::state::*;
 use crate::windows::{self, Saved};
-use crate::{fields, operands, states};
+use crate::{fields, numbers, operands, states};
 
 /// Cases a round: refusals by state, by window and by opcode, single steps, exceptions, context reads, a chain. Beside them a
 /// round has two fields, which are not counted among these.
 pub const ROUND: u64 = ILL_STATES + ILL_WINDOWS + NO_ARMS + SINGLES + EXCEPTIONS + CONTEXTS + CHAIN;
-const ILL_STATES: u64 = 7;
-const ILL_WINDOWS: u64 = 7;
-const NO_ARMS: u64 = 5;
-const SINGLES: u64 = 21;
+const ILL_STATES: u64 = 11;
+const ILL_WINDOWS: u64 = 11;
+const NO_ARMS: u64 = 6;
+const SINGLES: u64 = 42;
 const EXCEPTIONS: u64 = 2;
 const CONTEXTS: u64 = 2;
 
-/// The opcodes of single steps beside branches, loads and stores, and how often each stands in a turn: the more ways
-/// to go, the more often.
+/// The opcodes of single steps beside branches and those added, and how often each stands in a turn: the more ways to
+/// go, the more often.
 const AIMS: [(u8, usize); 20] = [
     (TRAP, 2),
     (GO, 1),
@@ -36,7 +36,7 @@ const AIMS: [(u8, usize); 20] = [
     (PUSHJB, 2),
     (GETA, 1),
     (GETAB, 1),
-    (PUT, 5),
+    (PUT, 6),
     (PUTI, 4),
     (POP, 9),
     (SAVE, 4),
@@ -105,7 +105,7 @@ pub fn round(seed: u64, number: u64, run: &mut dyn FnMut(&Case) -> Option<Answer
         run(&exception(random))?;
     }
     run(&context(random))?;
-    run(&if number.is_multiple_of(4) { initialize(random) } else { context(random) })?;
+    run(&if number.is_multiple_of(3) { initialize(random) } else { context(random) })?;
     chain(random, run)?;
     run(&fields::single(random, Kind::Branch))?;
     run(&fields::single(random, Kind::Jump))?;
@@ -114,8 +114,11 @@ pub fn round(seed: u64, number: u64, run: &mut dyn FnMut(&Case) -> Option<Answer
 
 /// One step with a state and window made for it.
 pub fn single(random: &mut Random, op: u8) -> Case {
-    if is_added(op) {
+    if is_transfer(op) {
         return operands::single(random, op);
+    }
+    if is_arithmetic(op) {
+        return numbers::single(random, op);
     }
     let mut state = states::admissible(random);
     let mut i = instruction(random, op, &mut state);

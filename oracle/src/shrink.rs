@@ -2,7 +2,7 @@
 
 use crate::case::{Call, Case};
 use crate::compare::compare;
-use crate::opcodes::is_added;
+use crate::opcodes::is_transfer;
 use crate::reference::Reference;
 use crate::state::{RG, RO, RS, STACK_START};
 use crate::subject::Subject;
@@ -44,7 +44,7 @@ fn changes(case: &Case) -> Vec<Change> {
             c.base = c.base.wrapping_sub(by);
             c.state.special[RO] = c.state.special[RO].wrapping_sub(by);
             if let Call::Step(i) = c.call
-                && is_added(i.op)
+                && is_transfer(i.op)
             {
                 let pointer = &mut c.state.general[i.y as usize];
                 *pointer = pointer.wrapping_sub(by);

@@ -1,154 +1,16 @@
 //! Situations inside one reply that a run has to meet: which octabyte was missing, which limit was touched.
 
-use crate::case::{Call, Case, Instruction};
+use crate::case::{Call, Case};
+use crate::met::Met;
+use crate::numbers::{LEAST, scale};
 use crate::opcodes::*;
-use crate::operands::{self, V_ENABLED, around_limit};
+use crate::operands;
 use crate::reference::Answer;
 use crate::state::*;
 
-/// A case with its answer and what the tests ask of them.
-pub struct Met<'a> {
-    case: &'a Case,
-    answer: &'a Answer,
-    i: Instruction,
-}
-
-impl Met<'_> {
-    fn before(&self, register: usize) -> u64 {
-        self.case.state.special[register]
-    }
-
-    fn after(&self, register: usize) -> u64 {
-        self.answer.state.special[register]
-    }
-
-    fn is(&self, opcodes: &[u8], reply: u64) -> bool {
-        matches!(self.case.call, Call::Step(_)) && opcodes.contains(&self.i.op) && self.answer.reply == reply
-    }
-
-    fn branch(&self, taken: bool) -> bool {
-        let on = self.case.state.pc.wrapping_add(4);
-        (BN..=PBEVB).contains(&self.i.op) && self.answer.reply == 0 && (self.answer.state.pc != on) == taken
-    }
-
-    fn pushed(&self) -> bool {
-        self.is(&PUSHES, 0)
-    }
-
-    /// The hole of a PUSH that was done.
-    fn hole(&self) -> u64 {
-        self.after(RO).wrapping_sub(self.before(RO)) / 8 - 1
-    }
-
-    fn popped(&self) -> bool {
-        self.is(&[POP], 0) && self.before(RO) > STACK_START
-    }
-
-    /// The hole of a POP that was done with a frame.
-    fn popped_hole(&self) -> u64 {
-        self.before(RO).wrapping_sub(self.after(RO)) / 8 - 1
-    }
-
-    fn octabyte_at(&self, address: u64) -> Option<u64> {
-        let at = (address & !7).wrapping_sub(self.case.base) as usize;
-        self.case.window.get(at..at.checked_add(8)?).map(octabyte)
-    }
-
-    /// The packed octabyte that UNSAVE asks for, and its local count.
-    fn packed(&self) -> Option<u64> {
-        self.octabyte_at(self.case.state.general[self.i.z as usize])
-    }
-
-    fn count(&self) -> Option<u64> {
-        let rg = self.packed()? >> 56;
-        self.octabyte_at(self.case.state.general[self.i.z as usize].wrapping_sub(8 * (269 - rg)))
-    }
-
-    fn marginals(&self) -> bool {
-        self.case.state.general[self.before(RL) as usize..self.before(RG) as usize].iter().any(|v| *v != 0)
-    }
-
-    /// The octabytes touched lie on both sides of the end of memory.
-    fn across(&self) -> bool {
-        let touched = &self.answer.touched;
-        touched.first() == Some(&0) && touched.last() == Some(&(u64::MAX - 7))
-    }
-
-    fn loads(&self, reply: u64) -> bool {
-        (LDB..=LDOUI).contains(&self.i.op) && self.answer.reply == reply
-    }
-
-    fn stores(&self, reply: u64) -> bool {
-        (STB..=STOUI).contains(&self.i.op) && self.answer.reply == reply
-    }
-
-    /// Done, or 19 of a store: the operand was reached.
-    fn reached(&self) -> bool {
-        self.loads(0) || self.stores(0) || self.stores(19)
-    }
-
-    fn outside(&self) -> bool {
-        self.loads(6) || self.stores(6)
-    }
-
-    /// A of a load or store, and the distance of its octabyte from the window's base.
-    fn address(&self) -> u64 {
-        operands::address(&self.case.state, self.i)
-    }
-
-    fn distance(&self) -> u64 {
-        (self.address() & !7).wrapping_sub(self.case.base)
-    }
-
-    fn len(&self) -> u64 {
-        self.case.window.len() as u64
-    }
-
-    /// What a load left in $X.
-    fn loaded(&self) -> u64 {
-        self.answer.state.general[self.i.x as usize]
-    }
-
-    /// $X before the step is the k-th of those at the limit of a signed store of less than an octabyte.
-    fn at_limit(&self, k: usize) -> bool {
-        let value = self.case.state.general[self.i.x as usize];
-        raises(self.i.op) && self.reached() && value == around_limit(operands::limit(self.i.op))[k]
-    }
-
-    /// A store raised V, enabled or not.
-    fn raised(&self, reply: u64, enabled: bool) -> bool {
-        let value = self.case.state.general[self.i.x as usize] as i64 as i128;
-        let limit = operands::limit(self.i.op) as i128;
-        let fits = -limit <= value && value < limit;
-        let as_told = (self.before(RA) & V_ENABLED != 0) == enabled;
-        raises(self.i.op) && !fits && self.answer.reply == reply && as_told
-    }
-
-    fn marginal(&self, register: u8) -> bool {
-        self.before(RL) <= register as u64 && (register as u64) < self.before(RG)
-    }
-
-    /// X is Y, or X is Z where $Z counts.
-    fn x_is_y(&self) -> bool {
-        self.i.x == self.i.y
-    }
-
-    fn x_is_z(&self) -> bool {
-        self.i.x == self.i.z && self.i.op.is_multiple_of(2)
-    }
-
-    /// A register was claimed, up to the top of the locals.
-    fn claims(&self, x: u64) -> bool {
-        self.is(&CLAIMS, 0) && self.before(RL) <= x && self.i.x as u64 == x && x < self.before(RG)
-    }
-}
-
-const PUSHES: [u8; 4] = [PUSHGO, PUSHGOI, PUSHJ, PUSHJB];
-const CLAIMS: [u8; 5] = [GO, GOI, GETA, GETAB, GET];
-
 type Test = fn(&Met) -> bool;
 
-pub const SITUATIONS: [(&str, Test); 64] = [
+pub const SITUATIONS: [(&str, Test); 106] = [
     ("branch taken", |m| m.branch(true)),
     ("branch not taken", |m| m.branch(false)),
     ("claim of $rL", |m| m.claims(m.before(RL))),
@@ -206,9 +68,9 @@ pub const SITUATIONS: [(&str, Test); 64] = [
     }),
     ("load or store, A wraps past 2^64", |m| m.reached() && m.address() < m.case.state.general[m.i.y as usize]),
     ("load or store, first octabyte", |m| m.reached() && m.distance() == 0),
-    ("load or store, last byte of the window", |m| m.reached() && m.distance() + 8 == m.len() && m.address() % 8 == 7),
+    ("load or store, last byte of the window", |m| m.reached() && m.distance() + 8 == m.size() && m.address() % 8 == 7),
     ("load or store, one octabyte before the window", |m| m.outside() && m.distance() == 8u64.wrapping_neg()),
-    ("load or store, one octabyte after the window", |m| m.outside() && m.distance() == m.len() && m.len() > 0),
+    ("load or store, one octabyte after the window", |m| m.outside() && m.distance() == m.size() && m.size() > 0),
     ("load or store at 2^63 and above", |m| m.reached() && m.address() >= 1 << 63),
     ("store, the largest that fits", |m| m.at_limit(0)),
     ("store, one more than fits", |m| m.at_limit(1)),
@@ -218,6 +80,52 @@ pub const SITUATIONS: [(&str, Test); 64] = [
     ("store, V taken", |m| m.raised(0, true)),
     ("store, V taken with X = 255", |m| m.raised(0, true) && m.i.x == 255),
     ("store, 19", |m| m.raised(19, true)),
+    ("arithmetic that claims, X among Y and Z", |m| m.arithmetic(0) && m.marginal(m.i.x) && m.x_among()),
+    ("arithmetic to $255, no trip", |m| m.arithmetic(0) && m.i.x == 255 && m.answer.state.pc > 32),
+    ("arithmetic, D added to rA", |m| m.adds(0x80)),
+    ("arithmetic, D taken", |m| m.trips(16)),
+    ("arithmetic, D taken with X = 255", |m| m.trips(16) && m.i.x == 255),
+    ("arithmetic, 19 for D", |m| m.stops(true)),
+    ("arithmetic, V added to rA", |m| m.adds(0x40)),
+    ("arithmetic, V taken", |m| m.trips(32)),
+    ("arithmetic, V taken with X = 255", |m| m.trips(32) && m.i.x == 255),
+    ("arithmetic, 19 for V", |m| m.stops(false)),
+    ("arithmetic, 19 with X among Y and Z", |m| m.arithmetic(19) && m.x_among()),
+    ("arithmetic, 19 after a claim", |m| m.arithmetic(19) && m.marginal(m.i.x)),
+    ("arithmetic, 19 with X = 255", |m| m.arithmetic(19) && m.i.x == 255),
+    ("ADD, the largest sum that fits", |m| m.exactly(ADD, LEAST as i128 - 1)),
+    ("ADD, one more than fits", |m| m.exactly(ADD, LEAST as i128)),
+    ("SUB, the smallest difference that fits", |m| m.exactly(SUB, -(LEAST as i128))),
+    ("SUB, one less than fits", |m| m.exactly(SUB, -(LEAST as i128) - 1)),
+    ("NEG, one more than fits", |m| m.exactly(NEG, LEAST as i128)),
+    ("MUL, 2^63", |m| m.exactly(MUL, LEAST as i128)),
+    ("MUL, -2^63", |m| m.exactly(MUL, -(LEAST as i128))),
+    ("MULU, rH not 0", |m| m.works(&[MULU]) && m.after(RH) != 0),
+    ("2ADDU to 16ADDU beyond 2^64", |m| {
+        m.works(&[ADDU2, ADDU4, ADDU8, ADDU16]) && m.y() as u128 * scale(m.i.op) as u128 + m.z() as u128 >= 1 << 64
+    }),
+    ("CMP and CMPU, signs differ", |m| m.works(&[CMP, CMPU]) && (m.y() ^ m.z()) >> 63 == 1),
+    ("CMP and CMPU, equal", |m| m.works(&[CMP, CMPU]) && m.y() == m.z()),
+    ("DIV with a remainder, both positive", |m| m.divides(false, false)),
+    ("DIV with a remainder, negative by positive", |m| m.divides(true, false)),
+    ("DIV with a remainder, positive by negative", |m| m.divides(false, true)),
+    ("DIV with a remainder, both negative", |m| m.divides(true, true)),
+    ("DIV, the most negative by -1", |m| m.works(&[DIV]) && (m.y(), m.z()) == (LEAST, u64::MAX)),
+    ("DIVU, 0 < rD < $Z", |m| m.works(&[DIVU]) && 0 < m.before(RD) && m.before(RD) < m.z()),
+    ("DIVU, rD = 0 < $Z", |m| m.works(&[DIVU]) && m.before(RD) == 0 && m.z() > 0),
+    ("DIVU, rD = $Z - 1", |m| m.works(&[DIVU]) && m.z() > 0 && m.before(RD) == m.z() - 1),
+    ("DIVU, rD = $Z", |m| m.works(&[DIVU]) && m.before(RD) == m.z()),
+    ("DIVU, rD above $Z", |m| m.works(&[DIVU]) && m.before(RD) > m.z() && m.z() > 0),
+    ("DIVU by 0", |m| m.works(&[DIVU]) && m.z() == 0),
+    ("SL, overflow though the sign stays", |m| {
+        m.works(&[SL]) && (1..64).contains(&m.z()) && !m.fits_shifted() && (m.y() ^ m.y() << m.z()) >> 63 == 0
+    }),
+    ("SL of a negative number that fits", |m| m.works(&[SL]) && m.z() > 0 && m.y() >> 63 == 1 && m.fits_shifted()),
+    ("SL by 64 and more, not of 0", |m| m.works(&[SL]) && m.z() >= 64 && m.y() != 0),
+    ("SL of 0 by 64 and more", |m| m.works(&[SL]) && m.z() >= 64 && m.y() == 0),
+    ("SR of a negative number by 64 and more", |m| m.works(&[SR]) && m.z() >= 64 && m.y() >> 63 == 1),
+    ("SLU and SRU by 64", |m| m.works(&[SLU, SRU]) && m.z() == 64 && m.y() != 0),
+    ("shift by 2^63 and more", |m| m.works(&[SL, SLU, SR, SRU]) && m.z() >= LEAST && m.y() != 0),
     ("window of 65,536 bytes, done", |m| m.answer.reply == 0 && m.case.window.len() == WINDOW_MAX),
 ];
 

@@ -2,7 +2,7 @@
 //! about. The fields are the first nineteen of a record of the replay list (bin/replay_list.rs says which).
 
 use crate::case::{Call, Case, Instruction};
-use crate::opcodes::{POP, UNSAVE, is_added};
+use crate::opcodes::{POP, UNSAVE, is_transfer};
 use crate::operands::address;
 use crate::random::Random;
 use crate::state::{MARKS_MAX, RA, RA_MAX, RG, RL, RO, RS, State, octabyte};
@@ -116,7 +116,7 @@ fn about(case: &Case) -> Vec<u64> {
             let rg = case.window.get(at).copied().unwrap_or(0);
             vec![packed, packed.wrapping_sub(8 * (269 - rg as u64))]
         }
-        Call::Step(i) if is_added(i.op) => vec![address(&case.state, i)],
+        Call::Step(i) if is_transfer(i.op) => vec![address(&case.state, i)],
         _ => Vec::new(),
     }
 }

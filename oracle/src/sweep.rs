@@ -1,9 +1,10 @@
 //! Cases that are run in full and not drawn: all flags with all enables, vectors loaded and not; PUSH and POP
 //! with every X at the thresholds' limits; loads and stores at every byte of the octabytes at a window's edges, and stores
-//! of values that just fit and just don't.
+//! of values that just fit and just don't; arithmetic of all numbers at limits, and its flags.
 
 use crate::case::{Call, Case, Instruction};
-use crate::opcodes::{POP, PUSHJ, STB, STO, STOUI, STT, STW, added};
+use crate::numbers::{BYTES, COUNTS, D_LOADED, EDGES, LEAST};
+use crate::opcodes::*;
 use crate::operands::{V_ENABLED, V_LOADED, around_limit, limit};
 use crate::reference::Answer;
 use crate::state::*;
@@ -65,16 +66,19 @@ fn numbered() -> State {
     state
 }
 
-/// Every load and store, at each byte of the octabyte before the window, its first, its last and the one after it: X a
-/// local, a marginal and a global register, alone and the same as Y or Z. Windows are low, above 2^63 and across 2^64.
+/// X, Y and Z: X a local, a marginal and a global register, alone and the same as Y or Z.
+const REGISTERS: [[u8; 3]; 8] =
+    [[1, 2, 3], [2, 2, 3], [3, 2, 3], [9, 2, 3], [9, 9, 3], [9, 2, 9], [255, 2, 3], [255, 255, 3]];
+
+/// Every load and store, at each byte of the octabyte before the window, its first, its last and the one after it, with
+/// all of these registers. Windows are low, above 2^63 and across 2^64.
 pub fn operands(run: &mut dyn FnMut(&Case) -> Option<Answer>) -> Option<()> {
     const LEN: u64 = 24;
     let edges = [8u64.wrapping_neg(), 0, LEN - 8, LEN];
     let distances: Vec<u64> = edges.iter().flat_map(|edge| (0..8).map(|low| edge.wrapping_add(low))).collect();
-    let registers = [[1, 2, 3], [2, 2, 3], [3, 2, 3], [9, 2, 3], [9, 9, 3], [9, 2, 9], [255, 2, 3], [255, 255, 3]];
     for base in [64, (1 << 63) + 64, 8u64.wrapping_neg()] {
-        for op in added() {
-            for [x, y, z] in registers {
+        for op in added().filter(|op| is_transfer(*op)) {
+            for [x, y, z] in REGISTERS {
                 for distance in &distances {
                     let mut state = numbered();
                     let second = if op % 2 == 1 { z as u64 } else { state.general[z as usize] };
@@ -88,19 +92,59 @@ pub fn operands(run: &mut dyn FnMut(&Case) -> Option<Answer>) -> Option<()> {
     Some(())
 }
 
+/// rA: V enabled or not, D enabled or not, beside other bits.
+const ENABLES: [u64; 9] = [0, V_ENABLED, 0xFF00, 0x3BFFF, V_ENABLED | 0x40, 0x40, 0x8080, 0x8000, 0x37FFF];
+
 /// Every store of values around the limits of each size, V enabled or not, beside other bits of rA, its vector loaded or not.
 pub fn limits(run: &mut dyn FnMut(&Case) -> Option<Answer>) -> Option<()> {
     let values: Vec<u64> = [STB, STW, STT, STO].iter().flat_map(|op| around_limit(limit(*op))).collect();
-    let enables = [0, V_ENABLED, 0xFF00, 0x3BFFF, V_ENABLED | 0x40, 0x40, 0x8080];
     let loaded = [V_LOADED, MARKS_MAX & !V_LOADED];
     for (op, value) in (STB..=STOUI).flat_map(|op| values.iter().map(move |value| (op, *value))) {
-        for (ra, marks) in enables.iter().flat_map(|ra| loaded.map(|marks| (*ra, marks))) {
+        for (ra, marks) in ENABLES.iter().flat_map(|ra| loaded.map(|marks| (*ra, marks))) {
             for x in [1, 9, 255] {
                 let (mut state, base) = (numbered(), STACK_START);
                 (state.special[RA], state.marks, state.general[x as usize]) = (ra, marks, value);
                 (state.general[2], state.general[3]) = (base, value % 8);
                 let call = Call::Step(Instruction { op, x, y: 2, z: 3 });
                 run(&Case::new(call, state, base, vec![0x55; 16]))?;
+            }
+        }
+    }
+    Some(())
+}
+
+/// Every operation on all pairs of numbers at limits, counts and constants among them, rD 0 and beside the divisor.
+pub fn results(run: &mut dyn FnMut(&Case) -> Option<Answer>) -> Option<()> {
+    let numbers: Vec<u64> = EDGES.into_iter().chain(COUNTS).collect();
+    for op in MUL..=SRUI {
+        let seconds: Vec<u64> = if op % 2 == 1 { BYTES.map(u64::from).to_vec() } else { numbers.clone() };
+        for (first, second) in numbers.iter().flat_map(|first| seconds.iter().map(move |second| (*first, *second))) {
+            let beside = [0, 1, second.wrapping_sub(1), second, second.wrapping_add(1), u64::MAX];
+            for rd in if even(op) == DIVU { &beside[..] } else { &[0x77] } {
+                let mut state = numbered();
+                (state.general[2], state.general[3], state.special[RD]) = (first, second, *rd);
+                let (y, z) = (if matches!(even(op), NEG | NEGU) { first as u8 } else { 2 }, second as u8);
+                let i = Instruction { op, x: 1, y, z: if op % 2 == 1 { z } else { 3 } };
+                run(&Case::new(Call::Step(i), state, 0, Vec::new()))?;
+            }
+        }
+    }
+    Some(())
+}
+
+/// Every operation with a result that fits, one that doesn't, and a divisor of 0; D and V enabled or not, their vectors
+/// loaded or not, with all of these registers.
+pub fn raised(run: &mut dyn FnMut(&Case) -> Option<Answer>) -> Option<()> {
+    let pairs = [(LEAST, u64::MAX), (LEAST - 1, LEAST - 1), (LEAST, LEAST), (5, 0), (LEAST, 1), (7, 2)];
+    let loaded = [MARKS_MAX, MARKS_MAX & !V_LOADED, MARKS_MAX & !D_LOADED, 0];
+    for (op, (first, second)) in (MUL..=SRUI).flat_map(|op| pairs.map(|pair| (op, pair))) {
+        for (ra, marks) in ENABLES.iter().flat_map(|ra| loaded.map(|marks| (*ra, marks))) {
+            for [x, y, z] in REGISTERS {
+                let mut state = numbered();
+                (state.special[RA], state.marks, state.special[RD]) = (ra, marks, 4);
+                (state.general[y as usize], state.general[z as usize]) = (first, second);
+                let z = if op % 2 == 1 { second as u8 } else { z };
+                run(&Case::new(Call::Step(Instruction { op, x, y, z }), state, 0, Vec::new()))?;
             }
         }
     }

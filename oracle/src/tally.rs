@@ -16,7 +16,9 @@ fn replies(op: u8) -> &'static [usize] {
     match op {
         BN..=PBEVB | GO | GOI | JMP | JMPB | GETA | GETAB | SWYM => &[0],
         PUSHGO | PUSHGOI | PUSHJ | PUSHJB => &[0, 6],
-        _ if raises(op) => &[0, 6, 19],
+        MUL..=SRUI if raises(op) => &[0, 19],
+        MUL..=SRUI => &[0],
+        STB..=STOUI if raises(op) => &[0, 6, 19],
         LDB..=LDOUI | STB..=STOUI => &[0, 6],
         TRAP => &[4, 20],
         PUT => &[0, 7, 8, 9, 10, 11],

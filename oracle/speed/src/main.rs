@@ -5,9 +5,10 @@
 //! The subject is the proved library with the feature `library`, else the model. Columns: the Rust's arm in place;
 //! the same instruction fetched from the Rust's memory and decoded; the subject's step on parts, on a lent state
 //! and on an image (there exceptions too). A point of two instructions has the sum of both. Behind the times stand
-//! the ratios, each with its target and whether it is met. The Rust has no arm for loads and stores: they are checked
-//! by the model, and set against a branch; a subject that has no such arm either has no times there. Finding a field has a
-//! line of its own.
+//! the ratios, each with its target and whether it is met. The Rust has no arm for loads, stores and arithmetic: they are
+//! checked by the model, and set against a branch; a subject that has no such arm either has no times there. Arithmetic has
+//! in the Rust's column the operation alone, by Rust's own integers; a division there is one of 128 bits by 64, without
+//! the remainder. Finding a field has a line of its own.
 
 mod points;
 mod report;
@@ -17,10 +18,10 @@ use std::time::Instant;
 
 use oracle::case::{self, Instruction};
 use oracle::model::Model;
-use oracle::opcodes::{PUT, PUTI, RESUME, TRAP};
-use oracle::state::{STACK_START, State};
+use oracle::opcodes::{ADD, CMP, DIV, DIVU, MUL, MULU, PUT, PUTI, RESUME, SL, SRU, TRAP};
+use oracle::state::{RD, STACK_START, State};
 use oracle::subject::{Aim, Subject, chosen};
-use points::{BRANCH, Kind, Point, Work, points};
+use points::{BRANCH, OPERATION, Point, Work, points};
 use report::Row;
 use taken_plain::mmix::{Host, MMix};
 use taken_plain::mmixal::Opcode;
@@ -153,7 +154,34 @@ fn does(subject: &impl Subject, point: &Point) -> bool {
     code.iter().all(|i| subject.step_lent(STACK_START, *i, &mut state, &mut window) == 0)
 }
 
-/// A load or store that the subject does leaves what the model says.
+/// The same operation by Rust's own integers.
+fn rust_operation(point: &Point) -> f64 {
+    fn timed(state: &State, f: impl Fn(u64, u64, u64) -> u64) -> f64 {
+        let [_, y, z] = OPERATION.map(|r| state.general[r as usize]);
+        let operands = [state.special[RD], y, z];
+        least(|| {
+            let [rd, y, z] = black_box(operands);
+            black_box(f(rd, y, z));
+        })
+    }
+    let (Work::Steps(code), state) = (&point.work, &point.state) else { return Row::NO_TIME };
+    match code[0].op {
+        MUL => timed(state, |_, y, z| y.wrapping_mul(z)),
+        MULU => timed(state, |_, y, z| {
+            let product = y as u128 * z as u128;
+            black_box((product >> 64) as u64);
+            product as u64
+        }),
+        ADD => timed(state, |_, y, z| y.wrapping_add(z)),
+        CMP => timed(state, |_, y, z| (y as i64).cmp(&(z as i64)) as u64),
+        SL => timed(state, |_, y, z| if z < 64 { y << z } else { 0 }),
+        SRU => timed(state, |_, y, z| if z < 64 { y >> z } else { 0 }),
+        DIV | DIVU => timed(state, |rd, y, z| (((rd as u128) << 64 | y as u128) / z as u128) as u64),
+        _ => Row::NO_TIME,
+    }
+}
+
+/// A load, store or operation that the subject does leaves what the model says.
 fn check_by_model(subject: &impl Subject, point: &Point) {
     let left = |subject: &dyn Subject| {
         let (mut state, mut window) = (point.state.clone(), vec![0x9C; WINDOW_LEN]);
@@ -167,7 +195,7 @@ fn check_by_model(subject: &impl Subject, point: &Point) {
 
 /// After one round the Rust and the subject agree, and every instruction was done.
 fn check(subject: &impl Subject, point: &Point) {
-    if point.kind == Kind::Transfer {
+    if !point.kind.in_rust() {
         return check_by_model(subject, point);
     }
     let mut machine = machine(point);
@@ -186,9 +214,9 @@ fn measured(subject: &impl Subject, point: &Point) -> Row {
     if !does(subject, point) {
         return Row::NONE;
     }
-    let in_rust = point.kind != Kind::Transfer;
+    let in_rust = point.kind.in_rust();
     Row {
-        arm: if in_rust { rust_arm(point) } else { Row::NO_TIME },
+        arm: if in_rust { rust_arm(point) } else { rust_operation(point) },
         fetched: if in_rust { rust_fetched(point) } else { Row::NO_TIME },
         parts: on_state(point, |i, state, window| subject.step_parts(STACK_START, i, state.into(), window)),
         lent: on_state(point, |i, state, window| subject.step_lent(STACK_START, i, state, window)),

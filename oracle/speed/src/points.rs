@@ -3,7 +3,7 @@
 
 use oracle::case::Instruction;
 use oracle::opcodes::*;
-use oracle::state::{MARKS_MAX, RA, RG, RL, RO, RS, STACK_START, State};
+use oracle::state::{MARKS_MAX, RA, RD, RG, RL, RO, RS, STACK_START, State};
 
 pub enum Work {
     Steps(Vec<Instruction>),
@@ -21,6 +21,19 @@ pub enum Kind {
     },
     /// A load or store, for which the Rust has no arm: set against the branch `BRANCH`.
     Transfer,
+    /// Whole-number arithmetic, for which it has none either: set against that branch.
+    Operation,
+    /// A division, beside Rust's own of 128 bits; held to a multiple of it or not.
+    Division {
+        held: bool,
+    },
+}
+
+impl Kind {
+    /// Whether the Rust has an arm for the point.
+    pub fn in_rust(self) -> bool {
+        !matches!(self, Kind::Transfer | Kind::Operation | Kind::Division { .. })
+    }
 }
 
 pub struct Point {
@@ -74,7 +87,39 @@ fn transfer(name: &str, op: u8) -> Point {
     Point { kind: Kind::Transfer, ..steps(name, state, &[[op, 3, 5, 1]]) }
 }
 
-/// The name of the branch that loads and stores are set against.
+/// X, Y and Z of an operation in place.
+pub const OPERATION: [u8; 3] = [3, 5, 1];
+
+fn operation(name: &str, kind: Kind, op: u8, [rd, y, z]: [u64; 3]) -> Point {
+    let mut state = start(32, 10);
+    (state.special[RD], state.general[5], state.general[1]) = (rd, y, z);
+    let [x, y, z] = OPERATION;
+    Point { kind, ..steps(name, state, &[[op, x, y, z]]) }
+}
+
+/// Operations that overflow nowhere. A divisor is of 20 bits or of 64.
+fn operations() -> Vec<Point> {
+    let (small, large) = (1_000_003, 0xFEDC_BA98_7654_3211);
+    let (y, negative) = (0x0123_4567_89AB_CDEF, 0xFEDC_BA98_7654_3211);
+    let division = |name: &str, op: u8, operands: [u64; 3]| {
+        operation(name, Kind::Division { held: op == DIVU && operands[0] > 0 }, op, operands)
+    };
+    let operation = |name: &str, op: u8, y: u64, z: u64| operation(name, Kind::Operation, op, [0, y, z]);
+    vec![
+        operation("MUL", MUL, 0x1234_5678_9ABC, negative >> 50),
+        operation("MULU", MULU, y, negative),
+        operation("ADD", ADD, y, negative),
+        operation("CMP", CMP, y, negative),
+        operation("SL", SL, 0x1234_5678_9ABC, 9),
+        operation("SRU", SRU, negative, 9),
+        division("DIV", DIV, [0, negative, small]),
+        division("DIVU, rD 0", DIVU, [0, negative, small]),
+        division("DIVU, rD > 0, divisor small", DIVU, [small - 5, y, small]),
+        division("DIVU, rD > 0, divisor large", DIVU, [y, negative, large]),
+    ]
+}
+
+/// The name of the branch that loads, stores and operations are set against.
 pub const BRANCH: &str = "BN";
 
 pub fn points() -> Vec<Point> {
@@ -87,6 +132,9 @@ pub fn points() -> Vec<Point> {
         transfer("LDB", LDB),
         transfer("STO", STO),
         transfer("STB", STB),
+    ];
+    points.extend(operations());
+    points.extend([
         steps("JMP", plain(), &[[JMP, 0, 0, 5]]),
         steps("GETA", plain(), &[[GETA, 3, 0, 5]]),
         steps("GO", plain(), &[[GOI, 3, 1, 5]]),
@@ -98,7 +146,7 @@ pub fn points() -> Vec<Point> {
         steps("TRIP", plain(), &[[TRIP, 1, 2, 3]]),
         exceptions("exception taken", 0x80, 0x80),
         exceptions("exception not taken", 0, 0x80),
-    ];
+    ]);
     for (hole, rg) in [(0, 32), (8, 32), (31, 32), (0, 255), (8, 255), (31, 255), (200, 255)] {
         let (name, times) = (format!("PUSHJ + POP, H {hole}, rG {rg}"), if hole == 0 { 4 } else { 20 });
         points.push(memory(&name, times, start(rg, hole as u64), &[[PUSHJ, hole, 0, 5], [POP, 0, 0, 0]]));

@@ -52,8 +52,8 @@ fn at_least(bound: f64, what: &'static str, ratio: f64) -> Target {
     Target { what, ratio, bound, at_most: false }
 }
 
-/// What each kind of point is held to; a copy of the image is set against one instruction, and a branch's time against a
-/// load or store.
+/// What each kind of point is held to; a copy of the image is set against one instruction, a branch's time against a load,
+/// store or operation, and Rust's division against DIVU.
 fn targets(point: &Point, row: &Row, copy: f64, branch: f64) -> Vec<Target> {
     let copies = copy * point.instructions() as f64;
     match point.kind {
@@ -66,6 +66,9 @@ fn targets(point: &Point, row: &Row, copy: f64, branch: f64) -> Vec<Target> {
         Kind::Exception => vec![at_most(14.0, "image / memcpy", row.image / copies)],
         Kind::Memory { times } => vec![at_least(times as f64, "arm / parts", row.arm / row.parts)],
         Kind::Transfer => vec![at_most(2.5, "parts / BN", row.parts / branch)],
+        Kind::Operation => vec![at_most(2.0, "parts / BN", row.parts / branch)],
+        Kind::Division { held: true } => vec![at_most(5.0, "parts / Rust's", row.parts / row.arm)],
+        Kind::Division { held: false } => Vec::new(),
     }
 }
 

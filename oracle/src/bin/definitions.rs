@@ -1,4 +1,4 @@
-//! Answers of the Rust, and of the harness's model where the Rust has no arm (loads and stores), as points over the
+//! Answers of the Rust, and of the harness's model where the Rust has no arm (loads, stores, arithmetic), as points over the
 //! definitions of crate model, for antt to compute.
 //!
 //!     definitions DIR [CASES] [SEED]              write the crate DIR/crates/definitions
@@ -12,7 +12,7 @@ use std::process::ExitCode;
 use std::{env, fs};
 
 use oracle::case::{Call, Instruction};
-use oracle::opcodes::is_added;
+use oracle::opcodes::{is_arithmetic, is_transfer};
 use oracle::points::{Point, SHORT};
 use oracle::situations::{self, SITUATIONS};
 use oracle::state::{State, octabyte};
@@ -188,12 +188,14 @@ fn write(folder: &str, points: &[Point]) -> std::io::Result<()> {
 }
 
 fn summary(points: &mut [Point]) -> String {
-    let (mut kinds, mut items, mut transfers, mut replies, mut long) = ([0; 4], 0, 0, [0; 21], 0);
+    let (mut kinds, mut items, mut replies, mut long) = ([0; 4], 0, [0; 21], 0);
+    let (mut transfers, mut operations) = (0, 0);
     let mut counts = [0; SITUATIONS.len()];
     for point in points {
         if let Point::Single { case, answer, .. } = point {
             situations::count(case, answer, &mut counts);
-            transfers += matches!(case.call, Call::Step(i) if is_added(i.op)) as u64;
+            transfers += matches!(case.call, Call::Step(i) if is_transfer(i.op)) as u64;
+            operations += matches!(case.call, Call::Step(i) if is_arithmetic(i.op)) as u64;
         }
         let (kind, bytes) = match point {
             Point::Single { case, .. } => (0, case.window.len()),
@@ -211,8 +213,8 @@ fn summary(points: &mut [Point]) -> String {
     let [singles, lists, contexts, initials] = kinds;
     let (met, all) = (counts.iter().filter(|n| **n > 0).count(), SITUATIONS.len());
     format!(
-        "{singles} single steps with their needs, {transfers} loads and stores among them, in {met} of {all} situations at limits; {items} steps and exceptions in \
-         {lists} lists; {contexts} contexts; {initials} initial state; {long} windows above {} bytes; replies 0 to 20: \
+        "{singles} single steps with their needs, {transfers} loads and stores and {operations} of arithmetic among them, in \
+         {met} of {all} situations at limits; {items} steps and exceptions in {lists} lists; {contexts} contexts; {initials} initial state; {long} windows above {} bytes; replies 0 to 20: \
          {replies:?}",
         4 * SHORT
     )

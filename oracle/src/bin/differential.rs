@@ -1,5 +1,5 @@
-//! Compare with the Rust on many cases: the library where it is linked, and the model. For loads and stores the Rust has
-//! no arm: there the library is compared with the model alone.
+//! Compare with the Rust on many cases: the library where it is linked, and the model. For loads, stores and whole-number
+//! arithmetic the Rust has no arm: there the library is compared with the model alone.
 //!
 //!     differential [--cases N] [--seed S] [--threads T] [--guards pages|heap]
 //!     differential --replay LINE [--guards pages|heap]
@@ -121,6 +121,8 @@ impl Runner<'_> {
             sweep::operands(&mut |case| self.run(case))?;
             sweep::limits(&mut |case| self.run(case))?;
             fields::sweep(&mut |case| self.run(case))?;
+            sweep::results(&mut |case| self.run(case))?;
+            sweep::raised(&mut |case| self.run(case))?;
         }
         Some(())
     }
@@ -169,7 +171,7 @@ fn differential(options: &Options) -> bool {
     found.iter().for_each(|difference| println!("DIFFERS: {difference}"));
     let names: Vec<&str> = chosen(options.guard).iter().map(|subject| subject.name()).collect();
     println!(
-        "{} cases, {} of them loads and stores by the model, seed {}, Rust against {}, {:.1} s: {}",
+        "{} cases, {} of them loads, stores and arithmetic by the model, seed {}, Rust against {}, {:.1} s: {}",
         total.cases(),
         total.added(),
         options.seed,

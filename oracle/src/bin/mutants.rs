@@ -7,11 +7,18 @@
 //! the Rust has no arm, the fault is in a copy of the harness's model, compared with the model as it is. With no
 //! fault nothing may differ. TEXT is in the fault's name or file. The exit status is 1 if a fault is not found or can't be made.
 
+use std::os::unix::process::ExitStatusExt;
 use std::path::{Path, PathBuf};
 use std::process::{Command, ExitCode};
 use std::sync::atomic::{AtomicUsize, Ordering};
 use std::time::Instant;
 use std::{env, fs, thread};
+
+/// The verdict on a run in which nothing differs.
+const NOT_FOUND: &str = "not found";
+/// Signals that others send: a run that they end has found nothing.
+const SIGKILL: i32 = 9;
+const SIGTERM: i32 = 15;
 
 struct Fault {
     name: String,
@@ -121,6 +128,9 @@ impl Places {
             .args(["--threads", "1", "--cases", cases])
             .output()
             .map_err(|e| format!("differential: {e}"))?;
+        if let Some(number @ (SIGKILL | SIGTERM)) = ran.status.signal() {
+            return Err(format!("ended from outside, by signal {number}"));
+        }
         found(&String::from_utf8_lossy(&ran.stdout), &String::from_utf8_lossy(&ran.stderr))
     }
 }
@@ -129,7 +139,7 @@ impl Places {
 fn found(said: &str, complained: &str) -> Result<String, String> {
     let last = said.lines().last().unwrap_or_default();
     if last.ends_with("no difference") {
-        return Err("not found".to_string());
+        return Err(NOT_FOUND.to_string());
     }
     match said.lines().find_map(|line| line.strip_prefix("DIFFERS: ")) {
         Some(difference) => {
@@ -160,8 +170,10 @@ fn run() -> Result<bool, String> {
     let faults: Vec<Fault> = listed(&list)?.into_iter().filter(chosen).collect();
     let places = Places { oracle, rust, work };
 
-    if let Ok(said) = places.differs(0, None, &cases) {
-        return Err(format!("differs without a fault: {said}"));
+    match places.differs(0, None, &cases) {
+        Ok(said) => return Err(format!("differs without a fault: {said}")),
+        Err(why) if why != NOT_FOUND => return Err(format!("without a fault: {why}")),
+        Err(_) => {}
     }
 
     let began = Instant::now();

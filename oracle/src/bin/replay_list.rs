@@ -34,7 +34,7 @@ use oracle::subject::{Subject, chosen};
 /// two have no arm.
 const OPCODES: [u8; 40] = [
     PUSHJ, POP, SAVE, UNSAVE, PUT, POP, PUSHJB, UNSAVE, PUT, POP, SAVE, UNSAVE, PUSHGO, PUT, PUTI, GET, GETA, GETAB,
-    PUSHGOI, PUT, PUTI, SAVE, GO, GOI, JMP, JMPB, PUT, SYNC, SWYM, TRIP, TRAP, BN, BNB, BZ, BNZ, PBEVB, PUT, GET, 0x20,
+    PUSHGOI, PUT, PUTI, SAVE, GO, GOI, JMP, JMPB, PUT, SYNC, SWYM, TRIP, TRAP, BN, BNB, BZ, BNZ, PBEVB, PUT, GET, 0x01,
     RESUME,
 ];
 const RESULTS: usize = 10;

@@ -1,7 +1,7 @@
 //! The steps apart from the stack, and exceptions.
 
 use super::memory::Window;
-use super::{Changes, Outcome, loads, stack};
+use super::{Changes, Outcome, arithmetic, loads, stack};
 use crate::case::Instruction;
 use crate::opcodes::*;
 use crate::state::*;
@@ -47,6 +47,7 @@ pub fn step(state: &State, i: Instruction, window: &Window) -> Outcome {
     let second = if op % 2 == 1 { z as u64 } else { register(z) };
     match op {
         TRAP => trap(state, i),
+        MUL..=SRUI => arithmetic::step(state, i),
         BN..=PBEVB => {
             let taken = holds(op / 2 % 8, register(x));
             let pc = if taken { target(state, yz, 16, backward) } else { state.pc.wrapping_add(4) };

@@ -1,7 +1,8 @@
 //! Document 01 as a program, written from its sentences and not from the Rust. This file has the entries and
-//! what they judge; `memory` the window, `stack` frames and contexts, `loads` loads and stores (Fascicle 1), `arms` the
-//! other steps; `fields` which field reaches an address.
+//! what they judge; `memory` the window, `stack` frames and contexts, `loads` loads and stores and `arithmetic` whole-number
+//! arithmetic (Fascicle 1), `arms` the other steps; `fields` which field reaches an address.
 
+mod arithmetic;
 mod arms;
 mod fields;
 mod loads;
