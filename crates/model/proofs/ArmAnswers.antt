@@ -15,7 +15,7 @@ use Rattle.model.specs.Fill.{tab}
 use Rattle.model.specs.Registers.{rG, rL, rA, rJ, sp, reg, admissible, goes, following, next, halted, withSpecial, setRegister, putLocals, putGlobals}
 use Rattle.model.specs.Memory.{Windows, Shapes, shapesOf, ruled, inside, both}
 use Rattle.model.specs.Plan.{Plan, answer, read, Outcome, perform, worst, clear, looks, puts, named}
-use Rattle.model.specs.Opcodes.{Width, Sign, signed, unsigned, Arm, Way, forward, backward, Operand, register, immediate, branch, jump, getAddress, go, pushJump, pushGo, pop, put, get, save, unsave, sync, swym, trip, trap, load, store, none, armOf}
+use Rattle.model.specs.Opcodes.{Width, Sign, signed, unsigned, Arm, Way, forward, backward, Operand, register, immediate, branch, jump, getAddress, go, pushJump, pushGo, pop, put, get, save, unsave, sync, swym, trip, trap, load, store, arithmetic, none, armOf}
 use Rattle.model.specs.NoMemory.{say, Said, tell}
 use Rattle.model.specs.Control.{branchFields, jumpFields, targetOf, near, far, yzOf, xyzOf, sumOf, operandOf, holds}
 use Rattle.model.specs.Frames.{hole, framed, pushed, pushFrame, popped, popTo, popRule, noFrame, misplaced, popFrame}
@@ -23,9 +23,11 @@ use Rattle.model.specs.Contexts.{extent, saved, savedState, saveContext,
 use Rattle.model.specs.System.{isPrivileged, isIllegal, putRefusal, putState, putSpecial, got, syncOf}
 use Rattle.model.specs.Trips.{wordOf, tripped, trapped, isLoaded, tripRule, tripTo, trapOf, enabled, withAdded, raised}
 use Rattle.model.specs.LoadStore.{fits, loadFrom, flagV, storeSays, storeTo}
+use Rattle.model.specs.ArithmeticStep.{resultsIn, withResults, arithmeticSays}
 use Rattle.model.specs.Step.{isNamed, refusalOf, unruledBy, judged, refusing, planOf, guarded, fromThree, stepPlan, exceptionOf}
 use Rattle.model.specs.Numbers.{Early, Lost, Halting}
 use Rattle.model.specs.declared.State.{State}
+use Rattle.model.specs.declared.Operation.{Operation}
 use Rattle.model.proofs.LoadStore.{operand-small, extended-small}
 use Rattle.model.proofs.Bools.{and-left, and-right, or-left, or-right, eqb-swap, on}
 
@@ -50,6 +52,7 @@ pub record Meets (s : State) (W : ℕ → Type 0) (Read : List ℕ → Type 0) (
   pub saves : (x t : ℕ) → sp s rG ≤ x → W t → R 0 (goes (savedState s x) t) (tab 0 (extent s) (saved s))
   pub unsaves : (o g a l : ℕ) (vs : List ℕ) (t : ℕ) → W t → W o → 32 ≤ g → g ≤ 255 → a ≤ 0x3FFFF → l ≤ g → Read vs → R 0 (goes (unsaved s o g a l vs) t) []
   pub stores : (v a : ℕ) → W a → R 0 (goes s a) (v ∷ [])
+  pub computes : (f : Operation) (x u v a : ℕ) → W u → W v → W a → R 0 (goes (withResults s x (resultsIn s f u v)) a) []
 
 -- of an instruction of word n whose operands are u and v: the trip, the trip that finds no vector. What is stored is said elsewhere
 pub record MeetsTrip (s : State) (W : ℕ → Type 0) (R : ℕ → State → Type 0) (n u v : ℕ) : Type 0 where
@@ -61,11 +64,14 @@ pub record MeetsRaise (s : State) (W : ℕ → Type 0) (R : ℕ → State → Ty
   pub adds : (a : ℕ) → W a → R 0 (goes (withAdded s f) a)
   pub takes : MeetsTrip (withAdded s f) W R n u v
 
--- of an instruction op x y z of arm a: TRIP, TRAP, a store that raises V
+-- of an instruction op x y z of arm a: TRIP, TRAP, a store that raises V, an operation that raises V or D
 pub record MeetsInterrupt (s : State) (W : ℕ → Type 0) (R : ℕ → State → List ℕ → Type 0) (a : Arm) (op x y z : ℕ) : Type 0 where
   pub trips : a ≡ trip → MeetsTrip s W (λ r t. R r t []) (wordOf op x y z) (reg s y) (reg s z)
   pub traps : a ≡ trap → R 20 (halted (trapped s (wordOf op x y z) (reg s y) (reg s z))) []
   pub stores : (d : Width) (o : Operand) → a ≡ store d signed o → (v : ℕ) → MeetsRaise s W (λ r t. R r t (v ∷ [])) flagV (wordOf op x y z) (sumOf s o y z) (reg s x)
+  pub computes : (f : Operation) (p q : Operand) → a ≡ arithmetic f p q
+      → MeetsRaise (withResults s x (resultsIn s f (operandOf s p y) (operandOf s q z))) W (λ r t. R r t []) (resultsIn s f (operandOf s p y) (operandOf s q z) .flags)
+      (wordOf op x y z) (operandOf s p y) (operandOf s q z)
 
 small : (n : ℕ) → n % 2 ^ 64 < 2 ^ 64
 small n = omega arith
@@ -210,31 +216,40 @@ module _ (s : State) (W : ℕ → Type 0) (Read : List ℕ → Type 0) (R : ℕ 
   unfolding storeTo Answers
   store-meets d g x a n h = (refl, λ v j. says-meets d g x a n _ (λ e. h e _))
 
-  -- the eighteen arms
-  pub plan-meets : (a : Arm) (op x y z : ℕ) → W z → MeetsInterrupt s W R a op x y z → Answers Read R (planOf s a op x y z)
+  arithmetic-meets : (f : Operation) (x u v n : ℕ) → W u → W v
+      → MeetsRaise (withResults s x (resultsIn s f u v)) W (λ r t. R r t []) (resultsIn s f u v .flags) n u v → Tells (λ r t. R r t []) (arithmeticSays s f x u v n)
+  unfolding arithmeticSays
+  arithmetic-meets f x u v n wu wv h =
+      on {A = Said} (Tells (λ r t. R r t [])) (eqb (resultsIn s f u v .flags) 0) (λ e. m .computes f x u v _ wu wv (onward s W Read R m (withResults s x (resultsIn s f u v))))
+      (λ e. raised-meets (withResults s x (resultsIn s f u v)) W (λ r t. R r t []) (m .word) (resultsIn s f u v .flags) n u v h)
+
+  -- the nineteen arms
+  pub plan-meets : (a : Arm) (op x y z : ℕ) → W y → W z → MeetsInterrupt s W R a op x y z → Answers Read R (planOf s a op x y z)
   unfolding planOf tell Answers pushFrame trapOf got unsaveContext
-  plan-meets (branch c d) op x y z wz mi =
+  plan-meets (branch c d) op x y z wy wz mi =
       on (λ (t : State). R 0 t []) (holds c (reg s x)) (λ e. m .moves (near s d y z) (m .word _ (target-small (s .pc) d branchFields (yzOf y z))))
       (λ e. m .moves (following s) (onward s W Read R m s))
-  plan-meets (jump d) op x y z wz mi = m .moves (far s d x y z) (m .word _ (target-small (s .pc) d jumpFields (xyzOf x y z)))
-  plan-meets (getAddress d) op x y z wz mi =
+  plan-meets (jump d) op x y z wy wz mi = m .moves (far s d x y z) (m .word _ (target-small (s .pc) d jumpFields (xyzOf x y z)))
+  plan-meets (getAddress d) op x y z wy wz mi =
       m .writes x (near s d y z) _ (m .word _ (target-small (s .pc) d branchFields (yzOf y z))) (onward s W Read R m (setRegister s x (near s d y z)))
-  plan-meets (go o) op x y z wz mi = m .writes x (following s) (sumOf s o y z) (onward s W Read R m s) (m .word _ (small (reg s y + operandOf s o z)))
-  plan-meets (pushJump d) op x y z wz mi = m .pushes x (near s d y z) (m .word _ (target-small (s .pc) d branchFields (yzOf y z)))
-  plan-meets (pushGo o) op x y z wz mi = m .pushes x (sumOf s o y z) (m .word _ (small (reg s y + operandOf s o z)))
-  plan-meets pop op x y z wz mi = pop-meets s W Read R m x _ (m .word _ (small (sp s rJ + 4 * yzOf y z)))
-  plan-meets (put o) op x y z wz mi = put-meets s W Read R m x (operandOf s o z) (operand-is s W Read R m o z wz)
-  plan-meets get op x y z wz mi = m .writes x (sp s z) _ (m .special-is z) (onward s W Read R m (setRegister s x (sp s z)))
-  plan-meets save op x y z wz mi = save-meets s W Read R m x
-  plan-meets unsave op x y z wz mi =
+  plan-meets (go o) op x y z wy wz mi = m .writes x (following s) (sumOf s o y z) (onward s W Read R m s) (m .word _ (small (reg s y + operandOf s o z)))
+  plan-meets (pushJump d) op x y z wy wz mi = m .pushes x (near s d y z) (m .word _ (target-small (s .pc) d branchFields (yzOf y z)))
+  plan-meets (pushGo o) op x y z wy wz mi = m .pushes x (sumOf s o y z) (m .word _ (small (reg s y + operandOf s o z)))
+  plan-meets pop op x y z wy wz mi = pop-meets s W Read R m x _ (m .word _ (small (sp s rJ + 4 * yzOf y z)))
+  plan-meets (put o) op x y z wy wz mi = put-meets s W Read R m x (operandOf s o z) (operand-is s W Read R m o z wz)
+  plan-meets get op x y z wy wz mi = m .writes x (sp s z) _ (m .special-is z) (onward s W Read R m (setRegister s x (sp s z)))
+  plan-meets save op x y z wy wz mi = save-meets s W Read R m x
+  plan-meets unsave op x y z wy wz mi =
       context-meets (halted s) _ (reg s z) Read R (λ n a b. m .halts n (omega arith, omega arith)) (λ o g a l vs c. m .unsaves o g a l vs _ (onward s W Read R m (unsaved s o g a l vs)) (m .word o c))
-  plan-meets sync op x y z wz mi = sync-meets s W Read R m (xyzOf x y z)
-  plan-meets swym op x y z wz mi = m .moves (following s) (onward s W Read R m s)
-  plan-meets trip op x y z wz mi = trip-meets s W (λ r t. R r t []) (m .word) 0 (wordOf op x y z) (reg s y) (reg s z) (omega arith) (mi .trips refl)
-  plan-meets trap op x y z wz mi = mi .traps refl
-  plan-meets (load d g o) op x y z wz mi = load-meets d g x (sumOf s o y z)
-  plan-meets (store d g o) op x y z wz mi = store-meets d g x (sumOf s o y z) (wordOf op x y z) (λ e. mi .stores d o (ap (λ (h : Sign). store d h o) e))
-  plan-meets none op x y z wz mi = m .refuses 3 (omega arith, omega arith)
+  plan-meets sync op x y z wy wz mi = sync-meets s W Read R m (xyzOf x y z)
+  plan-meets swym op x y z wy wz mi = m .moves (following s) (onward s W Read R m s)
+  plan-meets trip op x y z wy wz mi = trip-meets s W (λ r t. R r t []) (m .word) 0 (wordOf op x y z) (reg s y) (reg s z) (omega arith) (mi .trips refl)
+  plan-meets trap op x y z wy wz mi = mi .traps refl
+  plan-meets (load d g o) op x y z wy wz mi = load-meets d g x (sumOf s o y z)
+  plan-meets (store d g o) op x y z wy wz mi = store-meets d g x (sumOf s o y z) (wordOf op x y z) (λ e. mi .stores d o (ap (λ (h : Sign). store d h o) e))
+  plan-meets (arithmetic f p q) op x y z wy wz mi =
+      arithmetic-meets f x (operandOf s p y) (operandOf s q z) (wordOf op x y z) (operand-is s W Read R m p y wy) (operand-is s W Read R m q z wz) (mi .computes f p q refl)
+  plan-meets none op x y z wy wz mi = m .refuses 3 (omega arith, omega arith)
 
 refusal-most : (a : Arm) (x y z : ℕ) → refusalOf a x y z ≤ 5
 unfolding refusalOf
@@ -256,6 +271,7 @@ refusal-most swym x y z = omega arith
 refusal-most trip x y z = omega arith
 refusal-most (load d g o) x y z = omega arith
 refusal-most (store d g o) x y z = omega arith
+refusal-most (arithmetic f p q) x y z = omega arith
 
 pub judged-most : (s : State) (w : Shapes) (a : Arm) (x y z : ℕ) → judged s w a x y z ≤ 5
 unfolding judged unruledBy

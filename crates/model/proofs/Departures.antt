@@ -7,7 +7,7 @@ use native.Mathlib.Omega.{arith}
 use lib.ListN.{set}
 use lib.Seq.{set-getD, getD-set-other}
 use Rattle.model.specs.Registers.{withParts, rC, rO, rS, rI, rU, rK, sp, Words, MarginalZero, goes, halted, withSpecial, spilled}
-use Rattle.model.specs.Opcodes.{register, immediate, Arm, branch, jump, getAddress, go, pushJump, pushGo, pop, put, get, save, unsave, sync, swym, trip, trap, load, store, none}
+use Rattle.model.specs.Opcodes.{register, immediate, Arm, branch, jump, getAddress, go, pushJump, pushGo, pop, put, get, save, unsave, sync, swym, trip, trap, load, store, arithmetic, none}
 use Rattle.model.specs.Trips.{trapped, trapRule, trapOf}
 use Rattle.model.specs.Rules.{counted}
 use Rattle.model.specs.Departures.{ReadsAlike, Departures}
@@ -48,6 +48,10 @@ all-read s (load d g register) x y z m = (read-zero s y m, read-zero s z m)
 all-read s (load d g immediate) x y z m = read-zero s y m
 all-read s (store d g register) x y z m = (read-zero s x m, read-zero s y m, read-zero s z m)
 all-read s (store d g immediate) x y z m = (read-zero s x m, read-zero s y m)
+all-read s (arithmetic f register register) x y z m = (read-zero s y m, read-zero s z m)
+all-read s (arithmetic f register immediate) x y z m = read-zero s y m
+all-read s (arithmetic f immediate register) x y z m = read-zero s z m
+all-read s (arithmetic f immediate immediate) x y z m = tt
 all-read s none x y z m = tt
 
 -- ---- traps

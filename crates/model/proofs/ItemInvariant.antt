@@ -1,10 +1,10 @@
 -- A property of states that every state builder keeps is kept by every step and every exception.
-use mathlib.Core.Path.{_≡_}
+use mathlib.Core.Path.{_≡_, refl}
 use mathlib.Core.Bool.{true, false}
 use mathlib.Core.List.{List}
 use Prim.Native.Nat.{ℕ, _≤_}
 use lib.Dec.{eqb}
-use Rattle.model.specs.Registers.{rG, rL, rA, sp, admissible, goes, halted, withSpecial, setRegister, putLocals, putGlobals}
+use Rattle.model.specs.Registers.{rH, rR, rG, rL, rA, sp, admissible, goes, halted, withSpecial, setRegister, putLocals, putGlobals}
 use Rattle.model.specs.Memory.{Windows, Shapes, both}
 use Rattle.model.specs.Plan.{Plan, answer, read}
 use Rattle.model.specs.Opcodes.{Arm, armOf}
@@ -13,9 +13,12 @@ use Rattle.model.specs.Frames.{hole, pushed, popped}
 use Rattle.model.specs.Contexts.{savedState, unsaved}
 use Rattle.model.specs.Trips.{tripped, trapped, withAdded}
 use Rattle.model.specs.LoadStore.{flagV}
+use Rattle.model.specs.Control.{operandOf}
+use Rattle.model.specs.ArithmeticStep.{resultsIn, withResults}
 use Rattle.model.specs.Lists.{stepOn}
 use Rattle.model.specs.Step.{planOf, stepPlan, Item, step, exception, itemPlan, mmix}
 use Rattle.model.specs.declared.State.{State}
+use Rattle.model.specs.declared.Results.{Results}
 use Rattle.model.proofs.Memory.{one-lawful}
 use Rattle.model.proofs.Plan.{Always, perform-always}
 use Rattle.model.proofs.ArmAnswers.{Answers, Meets, MeetsTrip, MeetsRaise, MeetsInterrupt, plan-meets, step-meets, exception-meets}
@@ -50,6 +53,10 @@ answers-map P Q f (answer r t a vs) h = f t h
 answers-map P Q f (read q a n k) h = (h .0, λ vs u. answers-map P Q f (k vs) (h .1 vs u))
 
 module _ (P : State → Type 0) (k : Keeps P) where
+  results-kept : (s : State) (x : ℕ) (r : Results) → P s → P (withResults s x r)
+  unfolding withResults
+  results-kept s x r h = k .other _ rR (r .rr) refl refl refl (k .other _ rH (r .rh) refl refl refl (k .write s x (r .x) h))
+
   meets : (s : State) → P s → Meets s Any Any (λ r t vs. P t)
   meets s h = record {
     word = λ n b. tt;
@@ -68,6 +75,7 @@ module _ (P : State → Type 0) (k : Keeps P) where
     saves = λ x t b w. k .at-pc _ t (k .saves s x b h);
     unsaves = λ o g a l vs t u w b c d e r. k .at-pc _ t (k .unsaves s o g a l vs b c d e h);
     stores = λ v a w. k .at-pc s a h;
+    computes = λ f x u v a wu wv w. k .at-pc _ a (results-kept s x (resultsIn s f u v) h);
   }
 
   meets-trip : (s : State) (n u v : ℕ) → P s → MeetsTrip s Any (λ r t. P t) n u v
@@ -81,6 +89,7 @@ module _ (P : State → Type 0) (k : Keeps P) where
     trips = λ e. meets-trip s _ _ _ h;
     traps = λ e. k .at-halt _ (k .traps s _ _ _ h);
     stores = λ d o e v. meets-raise s flagV _ _ _ h;
+    computes = λ f p q e. meets-raise (withResults s x (resultsIn s f (operandOf s p y) (operandOf s q z))) _ _ _ _ (results-kept s x (resultsIn s f (operandOf s p y) (operandOf s q z)) h);
   }
 
 raise-map : (P Q : State → Type 0) → ((t : State) → Q t → P t) → (s : State) (f n u v : ℕ) → MeetsRaise s Any (λ r t. Q t) f n u v → MeetsRaise s Any (λ r t. P t) f n u v
@@ -92,7 +101,7 @@ pub item-keeps : (P Q : State → Type 0) → Keeps Q → ((t : State) → Q t �
 unfolding itemPlan tell Always
 item-keeps P Q k f s w (step op x y z) q h =
     answers-always P (stepPlan s w op x y z) (step-meets s w Any (λ r t vs. P t) (λ n a. h) op x y z (λ e. answers-map P Q f (planOf s (armOf op) op x y z)
-    (plan-meets s Any Any (λ r t vs. Q t) (meets Q k s (q e)) (armOf op) op x y z tt (meets-interrupt Q k s (armOf op) op x y z (q e)))))
+    (plan-meets s Any Any (λ r t vs. Q t) (meets Q k s (q e)) (armOf op) op x y z tt tt (meets-interrupt Q k s (armOf op) op x y z (q e)))))
 item-keeps P Q k f s w (exception g op x y z u v) q h =
     exception-meets s Any (λ r t. P t) g op x y z u v (λ n b. tt) h (λ e. raise-map P Q f s g _ u v (meets-raise Q k s g _ u v (q e)))
 

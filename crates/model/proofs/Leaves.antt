@@ -3,22 +3,23 @@ use mathlib.Core.Path.{_≡_, refl, _∙_}
 use mathlib.Core.Logic.{_⊎_, inl, inr, ⊎-elim, _≢_}
 use mathlib.Core.Bool.{Bool, true, false}
 use mathlib.Core.List.{List, []}
-use Prim.Native.Nat.{ℕ, _≤_, _<_}
+use Prim.Native.Nat.{ℕ, _+_, _≤_, _<_}
 use native.Mathlib.Omega.{arith}
 use lib.Dec.{eqb}
 use lib.ListN.{length, set, length-set}
 use lib.Seq.{getD-set-same, getD-set-other}
 use borrow.Author.Tests.{eqb-true, eqb-false}
-use Rattle.model.specs.Registers.{rB, rJ, rBB, rA, rW, rX, rY, rZ, rWW, rXX, rYY, rZZ, sp, reg, following, Sized, goes, halted, withSpecial, cleared, claimLocal, stored, setRegister, putLocals, putGlobals, isMarginal, spilled}
+use Rattle.model.specs.Registers.{rB, rH, rJ, rR, rL, rBB, rA, rW, rX, rY, rZ, rWW, rXX, rYY, rZZ, sp, reg, following, Sized, goes, halted, withSpecial, cleared, claimLocal, stored, setRegister, putLocals, putGlobals, isMarginal, spilled}
 use Rattle.model.specs.Memory.{Windows, shapesOf, ruled, putOcta, both, one}
 use Rattle.model.specs.Plan.{Plan, Outcome, perform, worst, clear, named, look, looks, puts}
-use Rattle.model.specs.Opcodes.{Width, Sign, signed, Operand, Arm, trip, store, armOf}
+use Rattle.model.specs.Opcodes.{Width, Sign, signed, Operand, Arm, trip, store, arithmetic, armOf}
 use Rattle.model.specs.Frames.{slide, pushedRule, pushed, unslide, popped}
 use Rattle.model.specs.Contexts.{contextAt, savedUnspilled, savedState, unsavedUnspilled, unsaved}
 use Rattle.model.specs.NoMemory.{Said, tell}
-use Rattle.model.specs.Control.{sumOf}
+use Rattle.model.specs.Control.{operandOf, sumOf}
 use Rattle.model.specs.Trips.{interrupted, tripped, trapped, wordOf, withAdded}
 use Rattle.model.specs.LoadStore.{merged, fits, flagV, storeSays, storeTo}
+use Rattle.model.specs.ArithmeticStep.{resultsIn, withResults}
 use Rattle.model.specs.Step.{judged, refusing, planOf, stepPlan, stepOf, exceptionOf}
 use Rattle.model.specs.Reader.{Part, emptyPart, partAt, readContext}
 use Rattle.model.specs.Leaves.{Interrupted, Tripped, Trapped, StoreLeaves, StepLeaves, ExceptionLeaves, ReaderLeaves, FieldLeaves, RepliesLeave}
@@ -27,7 +28,11 @@ use Rattle.model.specs.Field.{answerOf, fieldOf}
 use Rattle.model.specs.declared.State.{State}
 use Rattle.model.specs.declared.Reach.{Reach}
 use Rattle.model.specs.declared.Reach.the-variants.{Forward, Backward, Neither}
+use Rattle.model.specs.declared.Operation.{Operation}
+use Rattle.model.specs.declared.Results.{Results}
+use Rattle.model.specs.Fill.{over}
 use Rattle.model.proofs.Bools.{on}
+use Rattle.model.proofs.Fill.{length-over}
 use Rattle.model.proofs.ItemInvariant.{Any}
 use Rattle.model.proofs.ArmAnswers.{Meets, MeetsInterrupt, plan-meets, judged-most, step-judged, step-meets, raised-meets, exception-meets, context-meets, worst-six, perform-meets}
 use Rattle.model.proofs.LoadStore.{store-made}
@@ -79,12 +84,28 @@ record IsStore (m : Arm) : Type 0 where
   last : Operand
   is-it : m ≡ store width signed last
 
+-- an operation that has raised its flag
+record Computed (s : State) (op x y z : ℕ) (t : State) (vs : List ℕ) : Type 0 where
+  operation : Operation
+  first : Operand
+  last : Operand
+  is-it : armOf op ≡ arithmetic operation first last
+  registers : Tripped
+      (withAdded (withResults s x (resultsIn s operation (operandOf s first y) (operandOf s last z))) (resultsIn s operation (operandOf s first y) (operandOf s last z) .flags))
+      t (wordOf op x y z) (operandOf s first y) (operandOf s last z)
+  none : vs ≡ []
+
+-- TRIP, a store, an operation
+abbrev Nineteen : State → ℕ → ℕ → ℕ → ℕ → State → List ℕ → Type 0
+Nineteen s op x y z t vs =
+    ((armOf op ≡ trip) × Tripped s t (wordOf op x y z) (reg s y) (reg s z) × (vs ≡ [])) ⊎ (IsStore (armOf op) ⊎ Computed s op x y z t vs)
+
 record Answered (s : State) (op x y z : ℕ) (r : ℕ) (t : State) (vs : List ℕ) : Type 0 where
   most : r ≤ 20
   early : Early r → (t ≡ s) × (vs ≡ [])
   lost : Lost r → (t ≡ s) × (vs ≡ [])
   halting : Halting r → (t ≡ halted s) × (vs ≡ [])
-  nineteen : r ≡ 19 → ((armOf op ≡ trip) × Tripped s t (wordOf op x y z) (reg s y) (reg s z) × (vs ≡ [])) ⊎ IsStore (armOf op)
+  nineteen : r ≡ 19 → Nineteen s op x y z t vs
   twenty : r ≡ 20 → Trapped s t (wordOf op x y z) (reg s y) (reg s z) × (vs ≡ [])
   done : r ≡ 0 → t .halt ≡ s .halt
 
@@ -122,8 +143,8 @@ module _ (s : State) (op x y z : ℕ) where
     done = λ p. absurd (omega arith);
   }
 
-  -- 19, of TRIP and of a store
-  as-nineteen : (t : State) (vs : List ℕ) → ((armOf op ≡ trip) × Tripped s t (wordOf op x y z) (reg s y) (reg s z) × (vs ≡ [])) ⊎ IsStore (armOf op) → Answered s op x y z 19 t vs
+  -- 19
+  as-nineteen : (t : State) (vs : List ℕ) → Nineteen s op x y z t vs → Answered s op x y z 19 t vs
   as-nineteen t vs h = record {
     most = omega arith;
     early = λ p. absurd (omega arith);
@@ -150,6 +171,21 @@ set-halt : (s : State) (x v : ℕ) → setRegister s x v .halt ≡ s .halt
 unfolding setRegister stored claimLocal withSpecial cleared
 set-halt s x v = on (λ (t : State). t .halt ≡ s .halt) (isMarginal s x) (λ e. refl) (λ e. refl)
 
+pub added-sized : (s : State) (f : ℕ) → Sized s → Sized (withAdded s f)
+unfolding withAdded withSpecial
+added-sized s f n = record { generals = n .generals; specials = length-set (s .special) rA _ ∙ n .specials }
+
+results-halt : (s : State) (x : ℕ) (r : Results) → withResults s x r .halt ≡ s .halt
+unfolding withResults withSpecial
+results-halt s x r = set-halt s x (r .x)
+
+pub results-sized : (s : State) (x : ℕ) (r : Results) → Sized s → Sized (withResults s x r)
+unfolding withResults withSpecial setRegister stored claimLocal cleared
+results-sized s x r n =
+    on (λ (t : State). Sized (withSpecial (withSpecial (stored t x (r .x)) rH (r .rh)) rR (r .rr))) (isMarginal s x)
+    (λ e. record { generals = length-set (over (λ k. 0) (sp s rL) (x + 1) (s .general)) x (r .x) ∙ length-over (λ k. 0) (sp s rL) (x + 1) (s .general) ∙ n .generals; specials = simp length-set (n .specials) })
+    (λ e. record { generals = length-set (s .general) x (r .x) ∙ n .generals; specials = simp length-set (n .specials) })
+
 answered : (s : State) (op x y z : ℕ) → Meets s Any Any (Answered s op x y z)
 unfolding goes pushed pushedRule slide popped unslide savedState savedUnspilled stored unsaved unsavedUnspilled spilled withSpecial putLocals putGlobals cleared
 answered s op x y z = record {
@@ -169,6 +205,7 @@ answered s op x y z = record {
   saves = λ k t b w. as-done s op x y z _ _ refl;
   unsaves = λ o g a l vs t u w b c d e r. as-done s op x y z _ [] refl;
   stores = λ v a w. as-done s op x y z _ _ refl;
+  computes = λ f k u v a wu wv w. as-done s op x y z _ [] (results-halt s k (resultsIn s f u v));
 }
 
 answered-interrupt : (s : State) (op x y z : ℕ) → Sized s → MeetsInterrupt s Any (Answered s op x y z) (armOf op) op x y z
@@ -181,8 +218,25 @@ answered-interrupt s op x y z n = record {
   traps = λ e. as-trapped s op x y z _ (traps s (wordOf op x y z) (reg s y) (reg s z) n);
   stores = λ d o e v. record {
     adds = λ a w. as-done s op x y z _ _ refl;
-    takes = record { trips = λ a w. as-done s op x y z _ _ refl; trips-not = as-nineteen s op x y z _ _ (inr (record { width = d; last = o; is-it = e })) };
+    takes = record { trips = λ a w. as-done s op x y z _ _ refl; trips-not = as-nineteen s op x y z _ _ (inr (inl (record { width = d; last = o; is-it = e }))) };
   };
+  computes = λ f p q e.
+      let r : Results = resultsIn s f (operandOf s p y) (operandOf s q z) in
+      let t : State = withResults s x r in
+      record {
+        adds = λ a w. as-done s op x y z _ [] (results-halt s x r);
+        takes = record {
+          trips = λ a w. as-done s op x y z _ [] (results-halt s x r);
+          trips-not = as-nineteen s op x y z _ [] (inr (inr (record {
+            operation = f;
+            first = p;
+            last = q;
+            is-it = e;
+            registers = trips (withAdded t (r .flags)) (wordOf op x y z) (operandOf s p y) (operandOf s q z) (added-sized t (r .flags) (results-sized s x r n));
+            none = refl;
+          })));
+        };
+      };
 }
 
 stored-none : (w : Windows) (a : ℕ) (vs : List ℕ) → vs ≡ [] → puts both w a vs ≡ w
@@ -200,16 +254,13 @@ leaves-of w s op x y z r t a vs h st = record {
   early = λ p. (h .early p .0, stored-none w a vs (h .early p .1));
   lost = λ p. (h .lost p .0, stored-none w a vs (h .lost p .1));
   halting = λ p. (h .halting p .0, stored-none w a vs (h .halting p .1));
-  nineteen = λ p. ⊎-elim (λ k. inl (record { arm-is = k .0; registers = k .1; window = stored-none w a vs (k .2) })) (λ k. inr (st k p)) (h .nineteen p);
+  nineteen = λ p. ⊎-elim (λ k. inl (record { arm-is = k .0; registers = k .1; window = stored-none w a vs (k .2) })) (⊎-elim (λ k. inr (inl (st k p)))
+      (λ k. inr (inr (record { operation = k .operation; first = k .first; last = k .last; arm-is = k .is-it; registers = k .registers; window = stored-none w a vs (k .none) })))) (h .nineteen p);
   twenty = λ p. (h .twenty p .0, stored-none w a vs (h .twenty p .1));
   done = h .done;
 }
 
 -- ---- 19 of a store
-
-added-sized : (s : State) (f : ℕ) → Sized s → Sized (withAdded s f)
-unfolding withAdded withSpecial
-added-sized s f n = record { generals = n .generals; specials = length-set (s .special) rA _ ∙ n .specials }
 
 module _ (w : Windows) (s : State) (d : Width) (g : Sign) (x a n : ℕ) where
   abbrev left : State
@@ -276,7 +327,7 @@ step-leaves w s op x y z n = unfold Leaves in (leaves (store-leaves w s op x y z
         }))
         (leaves-of w s op x y z) (λ a k. tt) (stepPlan s (shapesOf w) op x y z)
         (step-meets s (shapesOf w) Any (Answered s op x y z) (as-refused s op x y z) op x y z
-        (λ e. plan-meets s Any Any (Answered s op x y z) (answered s op x y z) (armOf op) op x y z tt (answered-interrupt s op x y z n))))
+        (λ e. plan-meets s Any Any (Answered s op x y z) (answered s op x y z) (armOf op) op x y z tt tt (answered-interrupt s op x y z n))))
 
 -- ---- an exception
 

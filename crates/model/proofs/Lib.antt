@@ -10,6 +10,9 @@ pub mod Lists
 pub mod Numbers
 pub mod AdmissibleKept
 pub mod LoadStore
+pub mod Whole
+pub mod Arithmetic
+pub mod ArithmeticWords
 pub mod ArmAnswers
 pub mod ItemInvariant
 pub mod MarginalKept

@@ -21,7 +21,7 @@ use Rattle.model.proofs.Bools.{and-left, and-right, on-both}
 use Rattle.model.proofs.ItemInvariant.{Any}
 use Rattle.model.proofs.Memory.{bytes-octa, one-lawful}
 use Rattle.model.proofs.Plan.{All-map, Same, worst-head, worst-tail, touches, touches-off, perform-agree, needs-agree, perform-kept, perform-shape}
-use Rattle.model.proofs.ArmAnswers.{Answers, Meets, MeetsTrip, worst-six, plan-meets, step-meets}
+use Rattle.model.proofs.ArmAnswers.{Answers, Meets, MeetsTrip, MeetsRaise, worst-six, plan-meets, step-meets}
 use Rattle.model.proofs.Entry.{sound-at, judged-inside, inside-judged}
 
 -- ---- octabytes among the needs
@@ -112,15 +112,19 @@ never-six s = record {
   saves = λ x t b w e. omega arith;
   unsaves = λ o g a l vs t u w b c d f r e. omega arith;
   stores = λ v a w e. omega arith;
+  computes = λ f x u v a wu wv w e. omega arith;
 }
 
 step-never-six : (s : State) (w : Shapes) (op x y z : ℕ) → Answers Any (λ r t vs. r ≢ 6) (stepPlan s w op x y z)
 step-never-six s w op x y z =
     step-meets s w Any (λ r t vs. r ≢ 6) (λ n a e. omega arith) op x y z
-    (λ e. plan-meets s Any Any (λ r t vs. r ≢ 6) (never-six s) (armOf op) op x y z tt (record { trips = λ m. never; traps = λ m e. omega arith; stores = λ d o m v. record { adds = λ a w e. omega arith; takes = never } }))
+    (λ e. plan-meets s Any Any (λ r t vs. r ≢ 6) (never-six s) (armOf op) op x y z tt tt (record { trips = λ m. never; traps = λ m e. omega arith; stores = λ d o m v. raised; computes = λ f p q m. raised }))
   where
     never : {t : State} {n u v : ℕ} → MeetsTrip t Any (λ r t. r ≢ 6) n u v
     never = record { trips = λ a w e. omega arith; trips-not = λ e. omega arith }
+
+    raised : {t : State} {f n u v : ℕ} → MeetsRaise t Any (λ r t. r ≢ 6) f n u v
+    raised = record { adds = λ a w e. omega arith; takes = never }
 
 inside-front : (w : Shapes) (xs ys : List ℕ) → allInside w xs ≡ true → allInside w (xs ++ ys) ≡ allInside w ys
 unfolding allInside

@@ -1,21 +1,22 @@
--- Outside the departures Knuth's exception is the exception: what is added to rA, the trip, both; and of V alone, which a store raises.
+-- Outside the departures Knuth's exception is the exception: what is added to rA, the trip, both; and of one flag alone, V or D, which stores and operations raise.
 use mathlib.Core.Path.{_≡_, refl, ap, sym, _∙_}
-use mathlib.Core.Bool.{Bool, true, false, cond}
+use mathlib.Core.Logic.{inl, inr}
+use mathlib.Core.Bool.{Bool, true, false, cond, not, _&&_}
 use Prim.Native.Nat.{ℕ, zero, suc, _+_, _-_, _*_, _/_, _%_, _^_, _≤_, _<_, min}
 use native.Mathlib.Omega.{arith}
 use lib.Dec.{eqb}
 use lib.Bits.{bitAnd, and-step, and-le-r}
 use lib.Count.{leadingZeros}
-use borrow.Author.Tests.{eqb-true}
+use borrow.Author.Tests.{eqb-true, not-true}
 use Rattle.model.specs.Registers.{admissible, next, withSpecial}
 use Rattle.model.specs.NoMemory.{Said, say}
 use Rattle.model.specs.Trips.{wordOf, isLoaded, tripRule, tripTo, enables, enabled, leftmost, added, exactUnderflow, addedRule, withAdded, raised}
-use Rattle.model.specs.LoadStore.{flagV}
 use Rattle.model.specs.Step.{exceptionOf}
 use Rattle.model.specs.Rules.{withAddedRule, raisedRule, exceptionRule}
 use Rattle.model.specs.Departures.{OutsideException}
 use Rattle.model.specs.declared.State.{State}
-use Rattle.model.proofs.Bools.{each, at-each, on-both}
+use Rattle.model.proofs.Bools.{and-left, and-right, each, at-each, on-both}
+use Rattle.model.proofs.ArithmeticWords.{OneFlag}
 
 -- ---- what is added
 
@@ -70,16 +71,21 @@ pub exception-same : (s : State) (f op x y z u v : ℕ) → OutsideException s f
 unfolding exceptionOf exceptionRule
 exception-same s f op x y z u v h = on-both (λ (a b : Said). a ≡ b) (admissible s) (λ p. raised-same s f (wordOf op x y z) u v h) (λ p. refl)
 
--- ---- one flag, V
+-- ---- one flag, V or D
 
-one-flag : each 256 (λ e. eqb (bitAnd flagV e) (leftmost (bitAnd flagV e))) ≡ true
-unfolding each leftmost leadingZeros
-one-flag = refl
+-- no flag, V and D: each is at most one that is enabled, and not U
+oneFlag : ℕ → ℕ → Bool
+oneFlag f e = eqb (bitAnd (f % 256) e) (leftmost (bitAnd (f % 256) e)) && not (eqb (f / 4 % 2) 1)
 
-pub outside-overflow : (s : State) → (eqb (enabled s flagV) 0 ≡ false → isLoaded s (leadingZeros 8 (enabled s flagV) + 1) ≡ true) → OutsideException s flagV
-unfolding exactUnderflow
-outside-overflow s h = record {
-  one-enabled = eqb-true _ _ (at-each 256 (λ e. eqb (bitAnd flagV e) (leftmost (bitAnd flagV e))) one-flag (enables s) (omega arith));
-  inexact = refl;
-  loaded = h;
-}
+one-flag : (f : ℕ) → OneFlag f → each 256 (oneFlag f) ≡ true
+unfolding each oneFlag leftmost leadingZeros
+one-flag f (inl e) = rw e
+one-flag f (inr (inl e)) = rw e
+one-flag f (inr (inr e)) = rw e
+
+pub outside-one : (s : State) (f : ℕ) → OneFlag f → (eqb (enabled s f) 0 ≡ false → isLoaded s (leadingZeros 8 (enabled s f) + 1) ≡ true) → OutsideException s f
+unfolding oneFlag exactUnderflow
+outside-one s f o h =
+    let k : oneFlag f (enables s) ≡ true = at-each 256 (oneFlag f) (one-flag f o) (enables s) (omega arith) in
+    let u : eqb (f / 4 % 2) 1 ≡ false = not-true _ (and-right (eqb (enabled s f) (leftmost (enabled s f))) _ k) in
+    record { one-enabled = eqb-true _ _ (and-left (eqb (enabled s f) (leftmost (enabled s f))) _ k); inexact = rw u; loaded = h }

@@ -1,5 +1,6 @@
 -- Outside the departures the rule of each arm is its plan, and so Knuth's step is the step. Rules has the laws of each rule.
 use mathlib.Core.Path.{_≡_, refl, sym, ap, _∙_}
+use mathlib.Core.Logic.{inl, inr}
 use mathlib.Core.Bool.{Bool, true, false, cond}
 use mathlib.Core.List.{[], _∷_}
 use Prim.Native.Nat.{ℕ, _+_, _-_, _*_, _%_, _^_, _≤_}
@@ -14,7 +15,7 @@ use Rattle.model.specs.Octa.{octa}
 use Rattle.model.specs.Registers.{withParts, rJ, rO, rS, rG, sp, reg, admissible, next, withSpecial, spilled}
 use Rattle.model.specs.Memory.{Windows, shapesOf, both}
 use Rattle.model.specs.Plan.{Plan, answer, read, Outcome, perform, mapPlan, mapOutcome}
-use Rattle.model.specs.Opcodes.{Width, Sign, Operand, register, immediate, Arm, branch, jump, getAddress, go, pushJump, pushGo, pop, put, get, save, unsave, sync, swym, trip, trap, load, store, none, armOf}
+use Rattle.model.specs.Opcodes.{Width, Sign, Operand, register, immediate, Arm, branch, jump, getAddress, go, pushJump, pushGo, pop, put, get, save, unsave, sync, swym, trip, trap, load, store, arithmetic, none, armOf}
 use Rattle.model.specs.NoMemory.{Said, say, tell}
 use Rattle.model.specs.Control.{near, yzOf, xyzOf, sumOf, operandOf, isNegative}
 use Rattle.model.specs.Frames.{popRule, noFrame, misplaced, popFrame}
@@ -22,13 +23,16 @@ use Rattle.model.specs.Contexts.{extent, saved, savedState, saveContext}
 use Rattle.model.specs.System.{putRefusal, putState, putSpecial, syncOf}
 use Rattle.model.specs.Trips.{wordOf, isLoaded, enabled}
 use Rattle.model.specs.LoadStore.{merged, fits, loadFrom, flagV, storeSays, storeTo}
+use Rattle.model.specs.ArithmeticStep.{operandsOf, resultsIn, withResults, arithmeticSays}
 use Rattle.model.specs.Step.{refusalOf, unruledBy, refusing, planOf, guarded, fromThree, stepPlan, stepOf}
-use Rattle.model.specs.Rules.{operandRule, sumRule, After, goesOn, interrupts, unsaveRestRule, unsaveCountRule, unsaveRule, loadRule, storeState, storeRule, ruleOf, stepRule, settled, settledRule}
+use Rattle.model.specs.Rules.{operandRule, sumRule, After, goesOn, interrupts, unsaveRestRule, unsaveCountRule, unsaveRule, loadRule, storeState, storeRule, arithmeticRule, ruleOf, stepRule, settled, settledRule}
 use Rattle.model.specs.Departures.{ReadsZero, ReadsAlike, contextTaken, Outside, AtTop}
 use Rattle.model.specs.declared.State.{State}
+use Rattle.model.specs.declared.Operation.{Operation}
 use Rattle.model.proofs.Bools.{on-both}
 use Rattle.model.proofs.Plan.{perform-map, perform-left}
-use Rattle.model.proofs.RaisedRule.{trip-same, raised-same, outside-overflow}
+use Rattle.model.proofs.RaisedRule.{trip-same, raised-same, outside-one}
+use Rattle.model.proofs.ArithmeticWords.{flags-one}
 use Rattle.model.proofs.Rules.{got-same, pop-plans, push-plans, unsave-same}
 
 -- ---- each arm
@@ -54,6 +58,19 @@ operand-same : (s : State) (o : Operand) (x y z : ℕ) → ReadsAlike s (put o) 
 unfolding ReadsAlike
 operand-same s register x y z h = sym h
 operand-same s immediate x y z h = refl
+
+-- the two operands of an operation
+first-same : (s : State) (f : Operation) (p q : Operand) (x y z : ℕ) → ReadsAlike s (arithmetic f p q) x y z → operandOf s p y ≡ operandRule s p y
+unfolding ReadsAlike
+first-same s f register register x y z h = h .0
+first-same s f register immediate x y z h = h
+first-same s f immediate q x y z h = refl
+
+last-same : (s : State) (f : Operation) (p q : Operand) (x y z : ℕ) → ReadsAlike s (arithmetic f p q) x y z → operandOf s q z ≡ operandRule s q z
+unfolding ReadsAlike
+last-same s f register register x y z h = h .1
+last-same s f immediate register x y z h = h
+last-same s f p immediate x y z h = refl
 
 put-done : (s : State) (x v : ℕ) → putRefusal s x v ≡ 0 → putSpecial s x v ≡ say 0 (next (putState s x v))
 unfolding putSpecial
@@ -84,7 +101,16 @@ unfolding storeRule storeTo mapPlan
 store-plans s d g x a word e h = rw e (ap (λ (q : Said). read 6 a 1 (λ v. answer (q .reply) (goesOn (q .state)) a (merged d a (getD v 0 0) (reg s x) ∷ []))) (sym says))
   where
     says : storeSays s d g x a word ≡ say 0 (storeState s d g (reg s x) a word)
-    says = unfold storeSays storeState in (on-both (λ (q : Said) (t : State). q ≡ say 0 t) (fits d g (reg s x)) (λ f. refl) (λ f. raised-same s flagV word a (reg s x) (outside-overflow s (h f))))
+    says = unfold storeSays storeState in (on-both (λ (q : Said) (t : State). q ≡ say 0 t) (fits d g (reg s x)) (λ f. refl) (λ f. raised-same s flagV word a (reg s x) (outside-one s flagV (inr (inl refl)) (h f))))
+
+arithmetic-says : (s : State) (f : Operation) (x u v word : ℕ)
+    → (eqb (enabled (withResults s x (resultsIn s f u v)) (resultsIn s f u v .flags)) 0 ≡ false
+    → isLoaded (withResults s x (resultsIn s f u v)) (leadingZeros 8 (enabled (withResults s x (resultsIn s f u v)) (resultsIn s f u v .flags)) + 1) ≡ true)
+    → arithmeticSays s f x u v word ≡ say 0 (arithmeticRule s f x u v word)
+unfolding arithmeticSays arithmeticRule
+arithmetic-says s f x u v word h =
+    on-both (λ (q : Said) (t : State). q ≡ say 0 t) (eqb (resultsIn s f u v .flags) 0) (λ e. refl)
+    (λ e. raised-same (withResults s x (resultsIn s f u v)) (resultsIn s f u v .flags) word u v (outside-one (withResults s x (resultsIn s f u v)) (resultsIn s f u v .flags) (flags-one f (operandsOf s u v)) h))
 
 arm-same : (w : Windows) (s : State) (a : Arm) (op x y z : ℕ) → Outside w s a x y z → ArmSame w s a op x y z
 unfolding ruleOf planOf refusalOf fromThree mapPlan settled tell ReadsAlike
@@ -111,6 +137,8 @@ arm-same w s (store d g register) op x y z h = by-plans w s (store d g register)
     (rw (sum-same s register y z (h .reads .1) (h .reads .2), ← h .reads .0) (store-plans s d g x (sumOf s register y z) (wordOf op x y z) (h .store-low d g register refl) (h .store-loaded d g register refl)))
 arm-same w s (store d g immediate) op x y z h = by-plans w s (store d g immediate) op x y z
     (rw (sum-same s immediate y z (h .reads .1) refl, ← h .reads .0) (store-plans s d g x (sumOf s immediate y z) (wordOf op x y z) (h .store-low d g immediate refl) (h .store-loaded d g immediate refl)))
+arm-same w s (arithmetic f p q) op x y z h = by-plans w s (arithmetic f p q) op x y z
+    (rw (← first-same s f p q x y z (h .reads), ← last-same s f p q x y z (h .reads), arithmetic-says s f x (operandOf s p y) (operandOf s q z) (wordOf op x y z) (h .arithmetic-loaded f p q refl)))
 arm-same w s none op x y z h = by-plans w s none op x y z refl
 
 -- ---- the step
@@ -163,6 +191,7 @@ settled-top trip t h = refl
 settled-top trap t h = refl
 settled-top (load d g o) t h = refl
 settled-top (store d g o) t h = refl
+settled-top (arithmetic f p q) t h = refl
 settled-top none t h = refl
 
 pub rule-settled : (w : Windows) (s : State) (op x y z : ℕ) → AtTop (stepRule w s op x y z .state) → settledRule w s op x y z ≡ stepRule w s op x y z

@@ -9,7 +9,7 @@ use Rattle.model.specs.Fill.{tab}
 use Rattle.model.specs.Registers.{rO, rG, rL, sp, reg, admissible, goes, next, halted}
 use Rattle.model.specs.Memory.{Windows, shapesOf, ruled, inside, both, one}
 use Rattle.model.specs.Plan.{Plan, answer, read, Outcome, perform, ups, worst, clear, missing, look, looks, needs}
-use Rattle.model.specs.Opcodes.{Width, Sign, Arm, forward, backward, register, immediate, branch, jump, getAddress, go, pushJump, pushGo, pop, put, get, save, unsave, sync, swym, trip, trap, load, store, none, armOf}
+use Rattle.model.specs.Opcodes.{Width, Sign, Arm, forward, backward, register, immediate, branch, jump, getAddress, go, pushJump, pushGo, pop, put, get, save, unsave, sync, swym, trip, trap, load, store, arithmetic, none, armOf}
 use Rattle.model.specs.NoMemory.{Said, say, refuse, tell}
 use Rattle.model.specs.Control.{near, sumOf}
 use Rattle.model.specs.Frames.{hole, framed, pushed, pushFrame, popTo, popRule, noFrame, misplaced, popFrame}
@@ -118,6 +118,7 @@ module _ (w : Windows) where
   arm-needs s trap op x y z = tell-none _
   arm-needs s (load d g o) op x y z = load-needs s d g x (sumOf s o y z)
   arm-needs s (store d g o) op x y z = store-needs s d g x (sumOf s o y z) (wordOf op x y z)
+  arm-needs s (arithmetic f p q) op x y z = tell-none _
   arm-needs s none op x y z = tell-none _
 
 step-needs : (w : Windows) (s : State) (op x y z : ℕ)

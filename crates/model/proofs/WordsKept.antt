@@ -14,20 +14,24 @@ use lib.Bits.{bitOr, or-lt}
 use borrow.Author.Tests.{ltb-true}
 use Rattle.model.specs.Fill.{over}
 use Rattle.model.specs.Octa.{part, written, valueOf, bytesOf}
-use Rattle.model.specs.Registers.{rB, rJ, rBB, rO, rS, rG, rL, rA, rR, rP, rW, rX, rY, rZ, rWW, rXX, rYY, rZZ, sp, reg, following, Words, goes, halted, withSpecial, cleared, claimLocal, isMarginal, stored, setRegister, putLocals, putGlobals, spilled}
+use Rattle.model.specs.Registers.{rB, rD, rH, rJ, rBB, rO, rS, rG, rL, rA, rR, rP, rW, rX, rY, rZ, rWW, rXX, rYY, rZZ, sp, reg, following, Words, goes, halted, withSpecial, cleared, claimLocal, isMarginal, stored, setRegister, putLocals, putGlobals, spilled}
 use Rattle.model.specs.Memory.{Windows, shapesOf, offset, octaBytes, writeOcta, both, one}
 use Rattle.model.specs.Plan.{Plan, answer, read, Outcome, perform, clear, look, looks, puts}
-use Rattle.model.specs.Opcodes.{Arm, armOf}
-use Rattle.model.specs.Control.{sumOf}
+use Rattle.model.specs.Opcodes.{Operand, register, immediate, Arm, armOf}
+use Rattle.model.specs.Control.{operandOf, sumOf}
 use Rattle.model.specs.NoMemory.{tell}
 use Rattle.model.specs.Frames.{hole, slid, slide, pushedRule, pushed, countOf, lastOutput, restored, unslide, popped}
 use Rattle.model.specs.Contexts.{extent, contextAddress, savedUnspilled, savedState, unsavedGeneral, unsavedSpecial, unsavedUnspilled, unsaved}
 use Rattle.model.specs.Trips.{wordOf, interrupted, added, withAdded}
 use Rattle.model.specs.LoadStore.{flagV}
+use Rattle.model.specs.ArithmeticStep.{operandsOf, resultsIn, withResults}
 use Rattle.model.specs.Lists.{stepOn}
 use Rattle.model.specs.Step.{stepPlan, exceptionOf, Item, step, exception, itemPlan, mmix}
 use Rattle.model.specs.Invariants.{InstructionFits, Fits, Bytes}
 use Rattle.model.specs.declared.State.{State}
+use Rattle.model.specs.declared.Operation.{Operation}
+use Rattle.model.specs.declared.Results.{Results}
+use Rattle.model.proofs.ArithmeticWords.{ResultWords, results-words}
 use Rattle.model.proofs.Bools.{on, and-right}
 use Rattle.model.proofs.Fill.{length-over, over-in, over-below, over-above, lt-or-le}
 use Rattle.model.proofs.AdmissibleKept.{added-byte}
@@ -249,6 +253,14 @@ word-small : (op x y z : ℕ) → InstructionFits op x y z → Word (wordOf op x
 word-small op x y z f =
     let a : op < 256 = f .op-byte in let b : x < 256 = f .x-byte in let c : y < 256 = f .y-byte in let d : z < 256 = f .z-byte in omega arith
 
+results-kept-words : (s : State) (x : ℕ) (r : Results) → ResultWords r → Words s → Words (withResults s x r)
+unfolding withResults
+results-kept-words s x r b h = special-words _ rR (r .rr) (b .r-word) (special-words _ rH (r .rh) (b .h-word) (set-words s x (r .x) (b .x-word) h))
+
+computed-words : (s : State) (f : Operation) (x u v : ℕ) → Word u → Word v → Words s → Words (withResults s x (resultsIn s f u v))
+computed-words s f x u v a b h = results-kept-words s x _ (results-words (operandsOf s u v)
+    (record { y-word = a; z-word = b; d-word = h .special-word rD; h-word = h .special-word rH; r-word = h .special-word rR }) f) h
+
 meets-words : (s : State) → Words s → Meets s Word (Below (2 ^ 64)) (λ r t vs. Words t)
 meets-words s h = record {
   word = λ n b. b;
@@ -267,6 +279,7 @@ meets-words s h = record {
   saves = λ x t b w. goes-words _ t w (saved-words s x h);
   unsaves = λ o g a l vs t u w b c d e r. goes-words _ t u (unsaved-words s o g a l vs w c d e r h);
   stores = λ v a w. goes-words s a w h;
+  computes = λ f x u v a wu wv w. goes-words _ a w (computed-words s f x u v wu wv h);
 }
 
 meets-trip : (s : State) (n u v : ℕ) → Word n → Word u → Word v → Words s → MeetsTrip s Word (λ r t. Words t) n u v
@@ -285,15 +298,24 @@ meets-interrupt s m op x y z f h =
       trips = λ e. meets-trip s (wordOf op x y z) (reg s y) (reg s z) n (h .general-word y) (h .general-word z) h;
       traps = λ e. halted-words _ (interrupted-words s rBB rWW rXX rYY rZZ (wordOf op x y z) (reg s y) (reg s z) n (h .general-word y) (h .general-word z) h);
       stores = λ d o e v. meets-raise s flagV (wordOf op x y z) (sumOf s o y z) (reg s x) n (omega arith) (h .general-word x) h;
+      computes = λ k p q e.
+          let a : Word (operandOf s p y) = operand-word p y (f .y-byte) in
+          let b : Word (operandOf s q z) = operand-word q z (f .z-byte) in
+          meets-raise (withResults s x _) _ (wordOf op x y z) (operandOf s p y) (operandOf s q z) n a b (computed-words s k x (operandOf s p y) (operandOf s q z) a b h);
     }
+  where
+    operand-word : (o : Operand) (k : ℕ) → k < 256 → Word (operandOf s o k)
+    operand-word register k b = h .general-word k
+    operand-word immediate k b = omega arith
 
 pub item-words : (w : Windows) (s : State) (i : Item) → Fits i → Bytes w → Words s → Words (stepOn both mmix s w i .state)
 unfolding stepOn mmix itemPlan Fits one
 item-words w s (step op x y z) f b h =
     perform-meets w s (Below (2 ^ 64)) (λ r t vs. Words t) (λ o. Words (o .state)) h (λ r t a vs k. k) (λ a n. looks-words n w a b) (stepPlan s (shapesOf w) op x y z)
     (step-meets s (shapesOf w) (Below (2 ^ 64)) (λ r t vs. Words t) (λ n c. h) op x y z
-    (λ e. let z-word : Word z = let c : z < 256 = f .z-byte in omega arith in
-    plan-meets s Word (Below (2 ^ 64)) (λ r t vs. Words t) (meets-words s h) (armOf op) op x y z z-word (meets-interrupt s (armOf op) op x y z f h)))
+    (λ e. let y-word : Word y = let c : y < 256 = f .y-byte in omega arith in
+    let z-word : Word z = let c : z < 256 = f .z-byte in omega arith in
+    plan-meets s Word (Below (2 ^ 64)) (λ r t vs. Words t) (meets-words s h) (armOf op) op x y z y-word z-word (meets-interrupt s (armOf op) op x y z f h)))
 item-words w s (exception g op x y z u v) f b h =
     perform-meets w s (Below (2 ^ 64)) (λ r t vs. Words t) (λ o. Words (o .state)) h (λ r t a vs k. k) (λ a n. looks-words n w a b) (tell (exceptionOf s g op x y z u v))
     (unfold tell Answers in (exception-meets s Word (λ r t. Words t) g op x y z u v (λ n c. c) h

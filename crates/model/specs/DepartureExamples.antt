@@ -5,7 +5,7 @@ use mathlib.Core.Bool.{Bool, true, false, _&&_}
 use mathlib.Core.List.{List, [], _∷_, _++_}
 use lib.Dec.{eqb}
 use lib.ListN.{replicate}
-use Rattle.model.specs.Registers.{rB, rJ, rO, rS, rT, rK, rG, rL, rA, rW, rX, rY, rZ, rWW, rXX, stackStart, sp, fresh, goes, halted, withSpecial, stored, rC, rI, rU}
+use Rattle.model.specs.Registers.{rB, rJ, rR, rO, rS, rT, rK, rG, rL, rA, rW, rX, rY, rZ, rWW, rXX, stackStart, sp, fresh, goes, halted, withSpecial, stored, rC, rI, rU}
 use Rattle.model.specs.Memory.{Windows, putOcta}
 use Rattle.model.specs.Plan.{Outcome}
 use Rattle.model.specs.NoMemory.{Said}
@@ -231,9 +231,19 @@ loadStoreExamples =
     ∷ example overflowing (zeros stackStart 8) 0xA1 254 255 0 19 (halted overflown) (holding (zeros stackStart 8) 0 (2 ^ 63))
     (goesOn (goes overflown 0x20)) (holding (zeros stackStart 8) 0 (2 ^ 63)) ∷ []
 
+-- arithmetic: DIV $254 by 0 with D enabled and no vector loaded
+abbrev dividing : ℕ → State
+dividing u = stored (withSpecial fresh rA 0x8000) 254 u
+
+abbrev checked : State
+checked = withSpecial (withSpecial (tripRegisters (dividing 0) 0x1DFEFE00) rY 5) rR 5
+
+abbrev arithmeticExample : Example
+arithmeticExample = plain (dividing 5) nowhere 0x1D 254 254 0 19 (halted checked) (goesOn (goes checked 0x10))
+
 unfoldable pub examples : List Example
 examples =
-    spillExample ∷ getExample ∷ thresholdExample
+    spillExample ∷ getExample ∷ thresholdExample ∷ arithmeticExample
     ∷ (popExamples ++ (marginalExamples ++ (unsaveExamples ++ (byteExamples ++ (interruptExamples ++ (tripExamples ++ loadStoreExamples))))))
 
 -- flags of which none is enabled, rA before, and rA after here and there

@@ -11,7 +11,7 @@ use Rattle.model.specs.Octa.{octa}
 use Rattle.model.specs.Registers.{rC, rO, rS, rI, rU, rG, rL, rK, sp, reg, Sized, Words, MarginalZero, isMarginal, spilled}
 use Rattle.model.specs.Memory.{Windows, shapesOf, inside, both}
 use Rattle.model.specs.Plan.{look, mapOutcome, perform}
-use Rattle.model.specs.Opcodes.{Operand, register, immediate, Width, Sign, Arm, branch, jump, getAddress, go, pushJump, pushGo, pop, put, get, save, unsave, sync, swym, trip, trap, load, store, none, armOf}
+use Rattle.model.specs.Opcodes.{Operand, register, immediate, Width, Sign, Arm, branch, jump, getAddress, go, pushJump, pushGo, pop, put, get, save, unsave, sync, swym, trip, trap, load, store, arithmetic, none, armOf}
 use Rattle.model.specs.NoMemory.{say}
 use Rattle.model.specs.Control.{xyzOf, sumOf, operandOf, isNegative}
 use Rattle.model.specs.Frames.{hole, framed, framedRule, noFrame, misplaced, popRule, popFrame}
@@ -19,9 +19,11 @@ use Rattle.model.specs.Contexts.{below, unsaveContext, countBelow}
 use Rattle.model.specs.System.{putRefusal, got, gotRule}
 use Rattle.model.specs.Trips.{isLoaded, tripRule, tripTo, trapRule, trapOf, enabled, leftmost, added, exactUnderflow, addedRule}
 use Rattle.model.specs.LoadStore.{fits, flagV}
+use Rattle.model.specs.ArithmeticStep.{resultsIn, withResults}
 use Rattle.model.specs.Step.{refusing, stepOf, exceptionOf}
 use Rattle.model.specs.Rules.{readRule, After, goesOn, interrupts, unsaveRule, stepRule, settledRule, exceptionRule, counted}
 use Rattle.model.specs.declared.State.{State}
+use Rattle.model.specs.declared.Operation.{Operation}
 
 -- ---- conditions
 
@@ -54,6 +56,10 @@ ReadsAlike s (load d g register) x y z = ReadsZero s y × ReadsZero s z
 ReadsAlike s (load d g immediate) x y z = ReadsZero s y
 ReadsAlike s (store d g register) x y z = ReadsZero s x × ReadsZero s y × ReadsZero s z
 ReadsAlike s (store d g immediate) x y z = ReadsZero s x × ReadsZero s y
+ReadsAlike s (arithmetic f register register) x y z = ReadsZero s y × ReadsZero s z
+ReadsAlike s (arithmetic f register immediate) x y z = ReadsZero s y
+ReadsAlike s (arithmetic f immediate register) x y z = ReadsZero s z
+ReadsAlike s (arithmetic f immediate immediate) x y z = Unit {0}
 ReadsAlike s none x y z = Unit {0}
 
 -- the context whose packed octabyte is at p passes what UNSAVE asks of the octabytes that it finds: 14, 15 and 16 are not met
@@ -68,6 +74,10 @@ contextTaken w p =
     cond (inside (shapesOf w) p)
     (leb 32 (savedThreshold w p) && (leb (savedThreshold w p) 255 && (leb (look both w p % 2 ^ 56) 0x3FFFF && countTaken w p (savedThreshold w p))))
     true
+
+-- the state in which an operation raises its flag
+abbrev computed : State → Operation → Operand → Operand → ℕ → ℕ → ℕ → State
+computed s f p q x y z = withResults s x (resultsIn s f (operandOf s p y) (operandOf s q z))
 
 -- No departure is met by arm a with X, Y, Z in state s on window w, but that rS moves with rO. One field a condition.
 pub record Outside (w : Windows) (s : State) (a : Arm) (x y z : ℕ) : Type 0 where
@@ -101,6 +111,10 @@ pub record Outside (w : Windows) (s : State) (a : Arm) (x y z : ℕ) : Type 0 wh
   -- the vector of a store that raises V, where that is enabled, is loaded
   pub store-loaded : (d : Width) (g : Sign) (o : Operand) → a ≡ store d g o → fits d g (reg s x) ≡ false → eqb (enabled s flagV) 0 ≡ false
       → isLoaded s (leadingZeros 8 (enabled s flagV) + 1) ≡ true
+  -- and so is that of an operation that raises D or V
+  pub arithmetic-loaded : (f : Operation) (p q : Operand) → a ≡ arithmetic f p q
+      → eqb (enabled (computed s f p q x y z) (resultsIn s f (operandOf s p y) (operandOf s q z) .flags)) 0 ≡ false
+      → isLoaded (computed s f p q x y z) (leadingZeros 8 (enabled (computed s f p q x y z) (resultsIn s f (operandOf s p y) (operandOf s q z) .flags)) + 1) ≡ true
 
 -- The same of an exception
 pub record OutsideException (s : State) (f : ℕ) : Type 0 where

@@ -5,16 +5,18 @@ use mathlib.Core.Logic.{_⊎_, _≢_}
 use Rattle.model.specs.Memory.{Windows, putOcta, both}
 use Rattle.model.specs.Plan.{Outcome, look}
 use Rattle.model.specs.Registers.{rB, rJ, rBB, rW, rX, rY, rZ, rWW, rXX, rYY, rZZ, sp, reg, following, Sized, halted}
-use Rattle.model.specs.Opcodes.{Operand, Width, signed, trip, store, armOf}
+use Rattle.model.specs.Opcodes.{Operand, Width, signed, trip, store, arithmetic, armOf}
 use Rattle.model.specs.NoMemory.{Said}
-use Rattle.model.specs.Control.{sumOf}
+use Rattle.model.specs.Control.{operandOf, sumOf}
 use Rattle.model.specs.Trips.{wordOf, withAdded}
 use Rattle.model.specs.LoadStore.{valuesOf, unitAt, operandIn, merged, flagV}
+use Rattle.model.specs.ArithmeticStep.{resultsIn, withResults}
 use Rattle.model.specs.Step.{stepOf, exceptionOf}
 use Rattle.model.specs.Reader.{Part, emptyPart, readContext}
 use Rattle.model.specs.Numbers.{Early, Lost, Halting}
 use Rattle.model.specs.Field.{FieldAnswer, fieldOf, answerOf}
 use Rattle.model.specs.declared.State.{State}
+use Rattle.model.specs.declared.Operation.{Operation}
 
 -- 19, 20: t is s with the trip or trap registers set, under the numbers b, w, x, y, z, "PC unmoved, halt code 1"
 pub record Interrupted (s t : State) (b w x y z word u v : ℕ) : Type 0 where
@@ -50,6 +52,17 @@ pub record StoreLeaves (w : Windows) (s : State) (op x y z : ℕ) (o : Outcome S
   pub registers : Tripped (withAdded s flagV) (o .state) (wordOf op x y z) (sumOf s last y z) (reg s x)
   pub window : o .memory ≡ putOcta w (sumOf s last y z) (merged width (sumOf s last y z) (look both w (sumOf s last y z)) (reg s x))
 
+-- 19 of an operation "leaves $X, rH and rR as written"; rY and rZ are its operands
+pub record ArithmeticLeaves (w : Windows) (s : State) (op x y z : ℕ) (o : Outcome State Windows) : Type 0 where
+  pub operation : Operation
+  pub first : Operand
+  pub last : Operand
+  pub arm-is : armOf op ≡ arithmetic operation first last
+  pub registers : Tripped
+      (withAdded (withResults s x (resultsIn s operation (operandOf s first y) (operandOf s last z))) (resultsIn s operation (operandOf s first y) (operandOf s last z) .flags))
+      (o .state) (wordOf op x y z) (operandOf s first y) (operandOf s last z)
+  pub window : o .memory ≡ w
+
 -- a store of u at a makes of an octabyte v one that differs in the operand's bytes alone: those left of it, those right of it, the operand
 pub record StoreMade (d : Width) (a v u : ℕ) : Type 0 where
   pub left : merged d a v u / (unitAt d a * valuesOf d) ≡ v / (unitAt d a * valuesOf d)
@@ -64,7 +77,7 @@ pub record StepLeaves (w : Windows) (s : State) (op x y z : ℕ) (o : Outcome St
   pub lost : Lost (o .reply) → (o .state ≡ s) × (o .memory ≡ w)
   -- 7 to 18
   pub halting : Halting (o .reply) → (o .state ≡ halted s) × (o .memory ≡ w)
-  pub nineteen : o .reply ≡ 19 → TripLeaves w s op x y z o ⊎ StoreLeaves w s op x y z o
+  pub nineteen : o .reply ≡ 19 → TripLeaves w s op x y z o ⊎ (StoreLeaves w s op x y z o ⊎ ArithmeticLeaves w s op x y z o)
   pub twenty : o .reply ≡ 20 → Trapped s (o .state) (wordOf op x y z) (reg s y) (reg s z) × (o .memory ≡ w)
   pub done : o .reply ≡ 0 → o .state .halt ≡ s .halt
 

@@ -7,11 +7,14 @@ pub mod Plan
 pub mod Opcodes
 pub mod NoMemory
 pub mod Control
+pub mod Whole
 pub mod Frames
 pub mod Contexts
 pub mod System
 pub mod Trips
 pub mod LoadStore
+pub mod Arithmetic
+pub mod ArithmeticStep
 pub mod Lists
 pub mod Step
 pub mod Reader
@@ -29,6 +32,9 @@ pub mod Demand
 pub mod Bench
 pub mod Points
 pub mod LoadStorePoints
+pub mod ArithmeticMeant
+pub mod ArithmeticPoints
+pub mod ArithmeticStepPoints
 pub mod Roundtrip
 pub mod Departures
 pub mod DepartureExamples

@@ -19,7 +19,7 @@ abbrev figure : ℕ
 figure = 0x0123456789ABCDEF
 
 -- −n
-abbrev minus : ℕ → ℕ
+abbrev pub minus : ℕ → ℕ
 minus n = 2 ^ 64 - n
 
 -- four locals: $1 = u, $2 = a, $3 = k

@@ -1,9 +1,11 @@
 -- An opcode, decoded once: which arm of control.rs or system.rs it is.
-use Prim.Native.Nat.{ℕ, _/_, _%_}
+use Prim.Native.Nat.{ℕ, _-_, _/_, _%_}
 use mathlib.Core.Bool.{Bool, cond, _&&_}
 use mathlib.Core.List.{List, [], _∷_}
 use lib.Dec.{leb, eqb}
 use lib.ListN.{getD}
+use Rattle.model.specs.declared.Operation.{Operation}
+use Rattle.model.specs.declared.Operation.the-variants.{Mul, Mulu, Div, Divu, Add, Addu, Sub, Subu, Addu2, Addu4, Addu8, Addu16, Cmp, Cmpu, Neg, Negu, Sl, Slu, Sr, Sru}
 
 pub data Condition : Type 0 where
   negative : Condition
@@ -54,6 +56,7 @@ pub data Arm : Type 0 where
   trap : Arm
   load : Width → Sign → Operand → Arm
   store : Width → Sign → Operand → Arm
+  arithmetic : Operation → Operand → Operand → Arm
   none : Arm
 
 -- ---- opcode bytes (mmixal.rs), each once
@@ -117,6 +120,19 @@ opGET = 0xFE
 
 abbrev pub opTRIP : ℕ
 opTRIP = 0xFF
+
+-- MUL to SRU, each with $Z and then with Z; of NEG to NEGUI, Y is a constant
+abbrev pub firstArithmetic : ℕ
+firstArithmetic = 0x18
+
+abbrev pub lastArithmetic : ℕ
+lastArithmetic = 0x3F
+
+abbrev pub firstNegation : ℕ
+firstNegation = 0x34
+
+abbrev pub lastNegation : ℕ
+lastNegation = 0x37
 
 -- the branches, plain and probable, each forward and then backward: from BN to PBEVB
 abbrev pub firstBranch : ℕ
@@ -192,10 +208,21 @@ conditionOf op = getD conditions (op / 2 % 8) even
 abbrev pub among : ℕ → ℕ → ℕ → Bool
 among a b op = leb a op && leb op b
 
+abbrev pub operations : List Operation
+operations = Mul ∷ Mulu ∷ Div ∷ Divu ∷ Add ∷ Addu ∷ Sub ∷ Subu ∷ Addu2 ∷ Addu4 ∷ Addu8 ∷ Addu16 ∷ Cmp ∷ Cmpu ∷ Neg ∷ Negu ∷ Sl ∷ Slu ∷ Sr ∷ Sru ∷ []
+
+unfoldable pub operationOf : ℕ → Operation
+operationOf op = getD operations ((op - firstArithmetic) / 2) Mul
+
+-- the first operand: $Y, or Y itself
+unfoldable pub firstOf : ℕ → Operand
+firstOf op = cond (among firstNegation lastNegation op) immediate register
+
 -- 0x40 to 0x4F are the branches, each forward and then backward; "P-branches act as their plain kin": 0x50 to 0x5F in the same order
 unfoldable pub armOf : ℕ → Arm
 armOf op =
     cond (among firstBranch lastBranch op) (branch (conditionOf op) (wayOf op))
     (cond (among firstLoad lastLoad op) (load (widthOf op) (signOf op) (lastOf op))
     (cond (among firstStore lastStore op) (store (widthOf op) (signOf op) (lastOf op))
-    (find op arms)))
+    (cond (among firstArithmetic lastArithmetic op) (arithmetic (operationOf op) (firstOf op) (lastOf op))
+    (find op arms))))

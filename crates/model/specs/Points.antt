@@ -199,7 +199,7 @@ noArm op = refused start (step op 0 0 0) 3
 -- the opcodes beside those that have an arm, and RESUME
 abbrev noArmPoints : List Point
 noArmPoints =
-    noArm 0x01 ∷ noArm 0x3F ∷ noArm 0x60 ∷ noArm 0x7F ∷ noArm 0x90 ∷ noArm 0x9D ∷ noArm 0xB0 ∷ noArm 0xBD ∷ noArm 0xC0 ∷ noArm 0xEF ∷ noArm 0xF9 ∷ noArm 0x100 ∷ []
+    noArm 0x01 ∷ noArm 0x17 ∷ noArm 0x60 ∷ noArm 0x7F ∷ noArm 0x90 ∷ noArm 0x9D ∷ noArm 0xB0 ∷ noArm 0xBD ∷ noArm 0xC0 ∷ noArm 0xEF ∷ noArm 0xF9 ∷ noArm 0x100 ∷ []
 
 -- ---- PUTI 33 to each special register, and to number 32
 

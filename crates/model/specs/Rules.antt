@@ -12,7 +12,7 @@ use Rattle.model.specs.Octa.{octa}
 use Rattle.model.specs.Registers.{withParts, rJ, rC, rO, rI, rU, rG, rL, sp, reg, following, admissible, goes, next, withSpecial, isMarginal, setRegister, spilled}
 use Rattle.model.specs.Memory.{Windows, shapesOf, both}
 use Rattle.model.specs.Plan.{Plan, answer, read, Outcome, mapPlan, perform}
-use Rattle.model.specs.Opcodes.{Operand, register, immediate, Width, Sign, Arm, branch, jump, getAddress, go, pushJump, pushGo, pop, put, get, save, unsave, sync, swym, trip, trap, load, store, none, armOf}
+use Rattle.model.specs.Opcodes.{Operand, register, immediate, Width, Sign, Arm, branch, jump, getAddress, go, pushJump, pushGo, pop, put, get, save, unsave, sync, swym, trip, trap, load, store, arithmetic, none, armOf}
 use Rattle.model.specs.NoMemory.{Said, say, tell}
 use Rattle.model.specs.Control.{near, far, yzOf, xyzOf, isNegative, holds}
 use Rattle.model.specs.Frames.{hole, framedRule, pushedRule, unslide}
@@ -20,8 +20,10 @@ use Rattle.model.specs.Contexts.{extent, saved, savedState, below, unsav
 use Rattle.model.specs.System.{putRefusal, putState, gotRule}
 use Rattle.model.specs.Trips.{wordOf, tripRule, trapRule, enabled, addedRule, flagged}
 use Rattle.model.specs.LoadStore.{merged, fits, loadFrom, flagV}
+use Rattle.model.specs.ArithmeticStep.{resultsIn, withResults}
 use Rattle.model.specs.Step.{refusing, guarded}
 use Rattle.model.specs.declared.State.{State}
+use Rattle.model.specs.declared.Operation.{Operation}
 
 -- ---- reading
 
@@ -116,6 +118,13 @@ unfoldable pub storeRule : State → Width → Sign → ℕ → ℕ → ℕ → 
 storeRule s d g u a word =
     cond (isNegative a) interrupt (going (read 6 a 1 (λ v. answer 0 (storeState s d g u a word) a (merged d a (getD v 0 0) u ∷ []))))
 
+-- ---- arithmetic
+
+unfoldable pub arithmeticRule : State → Operation → ℕ → ℕ → ℕ → ℕ → State
+arithmeticRule s f x u v word =
+    cond (eqb (resultsIn s f u v .flags) 0) (next (withResults s x (resultsIn s f u v)))
+    (raisedRule (withResults s x (resultsIn s f u v)) (resultsIn s f u v .flags) word u v)
+
 -- ---- the rule of each arm
 
 unfoldable pub ruleOf : State → Arm → ℕ → ℕ → ℕ → ℕ → Plan After
@@ -143,6 +152,7 @@ ruleOf s trip op x y z = done (tripRule s 0 (wordOf op x y z) (readRule s y) (re
 ruleOf s trap op x y z = done (trapRule s (wordOf op x y z) (readRule s y) (readRule s z))
 ruleOf s (load d g o) op x y z = loadRule s d g x (sumRule s o y z)
 ruleOf s (store d g o) op x y z = storeRule s d g (readRule s x) (sumRule s o y z) (wordOf op x y z)
+ruleOf s (arithmetic f p q) op x y z = done (arithmeticRule s f x (operandRule s p y) (operandRule s q z) (wordOf op x y z))
 -- not an instruction of this machine
 ruleOf s none op x y z = going (tell (say 3 s))
 
@@ -173,6 +183,7 @@ settled trip t = t
 settled trap t = t
 settled (load d g o) t = t
 settled (store d g o) t = t
+settled (arithmetic f p q) t = t
 settled none t = t
 
 unfoldable pub settledRule : Windows → State → ℕ → ℕ → ℕ → ℕ → Outcome After Windows

@@ -7,7 +7,7 @@ use Rattle.model.specs.Memory.{Windows, Shapes, shapesOf, ruled, inside,
 use Rattle.model.specs.Plan.{Plan, answer, Outcome, perform, needs}
 use Rattle.model.specs.Lists.{Machine}
 use Rattle.model.specs.Registers.{rJ, sp, reg, admissible, goes, following, next, setRegister}
-use Rattle.model.specs.Opcodes.{Arm, branch, jump, getAddress, go, pushJump, pushGo, pop, put, get, save, unsave, sync, swym, trip, trap, load, store, none, armOf}
+use Rattle.model.specs.Opcodes.{Arm, branch, jump, getAddress, go, pushJump, pushGo, pop, put, get, save, unsave, sync, swym, trip, trap, load, store, arithmetic, none, armOf}
 use Rattle.model.specs.NoMemory.{Said, say, tell}
 use Rattle.model.specs.Control.{near, far, yzOf, xyzOf, sumOf, operandOf, holds}
 use Rattle.model.specs.Frames.{hole, pushFrame, popFrame}
@@ -15,6 +15,7 @@ use Rattle.model.specs.Contexts.{saveContext, unsaveContext}
 use Rattle.model.specs.System.{putSpecial, got, syncOf}
 use Rattle.model.specs.Trips.{wordOf, tripTo, trapOf, raised}
 use Rattle.model.specs.LoadStore.{loadFrom, storeTo}
+use Rattle.model.specs.ArithmeticStep.{arithmeticSays}
 use Rattle.model.specs.declared.State.{State}
 
 -- ---- judging
@@ -44,6 +45,7 @@ refusalOf swym x y z = 0
 refusalOf trip x y z = 0
 refusalOf (load d g o) x y z = 0
 refusalOf (store d g o) x y z = 0
+refusalOf (arithmetic f p q) x y z = 0
 
 -- 2: "window length or base breaks its rule"; 0 where it does not
 unfoldable pub unruledBy : Shapes → ℕ
@@ -84,6 +86,7 @@ planOf s trap op x y z = tell (trapOf s (wordOf op x y z) (reg s y) (reg s z))
 -- "A is ($Y + $Z or Z) modulo 2^64"
 planOf s (load d g o) op x y z = loadFrom s d g x (sumOf s o y z)
 planOf s (store d g o) op x y z = storeTo s d g x (sumOf s o y z) (wordOf op x y z)
+planOf s (arithmetic f p q) op x y z = tell (arithmeticSays s f x (operandOf s p y) (operandOf s q z) (wordOf op x y z))
 planOf s none op x y z = tell (say 3 s)
 
 -- "Order: 1, 2, ..", `bad` where one of them is met; ..

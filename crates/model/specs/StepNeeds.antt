@@ -8,7 +8,7 @@ use Rattle.model.specs.Memory.{Windows, shapesOf, inside, both}
 use Rattle.model.specs.Plan.{ups, clear, missing, look}
 use Rattle.model.specs.Lists.{needsOf}
 use Rattle.model.specs.Registers.{rO, rG, sp, reg}
-use Rattle.model.specs.Opcodes.{Arm, branch, jump, getAddress, go, pushJump, pushGo, pop, put, get, save, unsave, sync, swym, trip, trap, load, store, none, armOf, opPUSHJ, opPUSHJB, opPUSHGO, opPUSHGOI, opSAVE, opUNSAVE, opPUT, opPUTI, opGET, opSWYM}
+use Rattle.model.specs.Opcodes.{Arm, branch, jump, getAddress, go, pushJump, pushGo, pop, put, get, save, unsave, sync, swym, trip, trap, load, store, arithmetic, none, armOf, opPUSHJ, opPUSHJB, opPUSHGO, opPUSHGOI, opSAVE, opUNSAVE, opPUT, opPUTI, opGET, opSWYM}
 use Rattle.model.specs.Control.{sumOf}
 use Rattle.model.specs.Frames.{hole, noFrame, misplaced}
 use Rattle.model.specs.Contexts.{extent, below, packedAt, octasOf, countBelow}
@@ -63,6 +63,7 @@ armNeeds w s trap x y z = []
 -- "A step needs the octabyte around its operand", done or not; a store reads it and then stores it
 armNeeds w s (load d g o) x y z = sumOf s o y z ∷ []
 armNeeds w s (store d g o) x y z = cond (inside (shapesOf w) (sumOf s o y z)) (sumOf s o y z ∷ sumOf s o y z ∷ []) (sumOf s o y z ∷ [])
+armNeeds w s (arithmetic f p q) x y z = []
 armNeeds w s none x y z = []
 
 -- two ways to write an instruction that come to the same

@@ -1,4 +1,5 @@
-//! What MMIX is: the state of the machine, the reply of a step, and which field reaches an address. specs/ defines the rest.
+//! What MMIX is: the state of the machine, the reply of a step, which field reaches an address, what a whole-number operation takes and gives.
+//! specs/ defines the rest.
 
 ghost use mathlib.Core.Path.{_≡_};
 ghost use Rattle.model.specs.Registers.{fresh};
@@ -50,6 +51,48 @@ pub enum Reach {
     Backward(u32),
     // No field of either direction does.
     Neither,
+}
+
+/// The whole-number operations in the order of their opcodes, 0x18 to 0x3F: each with $Z, then with Z.
+pub enum Operation {
+    Mul,
+    Mulu,
+    Div,
+    Divu,
+    Add,
+    Addu,
+    Sub,
+    Subu,
+    // The scaled sums, 2ADDU to 16ADDU.
+    Addu2,
+    Addu4,
+    Addu8,
+    Addu16,
+    Cmp,
+    Cmpu,
+    Neg,
+    Negu,
+    Sl,
+    Slu,
+    Sr,
+    Sru,
+}
+
+/// What an operation takes: $Y (of NEG and NEGU the constant Y), $Z or Z, and the special registers rD, rH and rR.
+pub struct Operands {
+    pub y: u64,
+    pub z: u64,
+    pub rd: u64,
+    pub rh: u64,
+    pub rr: u64,
+}
+
+/// What it gives: $X, rH, rR and the exception flag: D (0x80), V (0x40) or none (0).
+pub struct Results {
+    pub x: u64,
+    pub rh: u64,
+    pub rr: u64,
+    pub flags: u8,
 }
 
 impl State {
