@@ -8,9 +8,9 @@ use lib.Dec.{leb, eqb}
 use borrow.Author.Tests.{leb-true, lt-leb, eqb-true, ne-eqb}
 use mir.Val.{hasKey}
 use Rattle.model.specs.Opcodes.{opTRAP, opGO, opGOI, opPUSHGO, opPUSHGOI, opJMP, opJMPB, opPUSHJ, opPUSHJB, opGETA, opGETAB}
-use Rattle.model.specs.Opcodes.{opPUT, opPUTI, opPOP, opSAVE, opUNSAVE, opSYNC, opSWYM, opGET, opTRIP, firstBranch, lastBranch, firstLoad, lastLoad, firstStore, lastStore}
-use Rattle.model.specs.Opcodes.{branch, load, store, none, wayOf, conditionOf, widthOf, signOf, lastOf, among, armOf}
-use Rattle.model.proofs.Bools.{and-left}
+use Rattle.model.specs.Opcodes.{opPUT, opPUTI, opPOP, opSAVE, opUNSAVE, opSYNC, opSWYM, opGET, opTRIP, firstBranch, lastBranch, firstLoad, lastLoad, firstStore, lastStore, firstArithmetic, lastArithmetic}
+use Rattle.model.specs.Opcodes.{branch, load, store, arithmetic, none, operationOf, firstOf, wayOf, conditionOf, widthOf, signOf, lastOf, among, armOf}
+use Rattle.model.proofs.Bools.{and-left, and-right}
 
 -- what a match has learnt, after N, where it met none of its keys
 abbrev MissedAfter : Type 0 → List ℕ → ℕ → Type 0
@@ -28,7 +28,7 @@ missed-after N (k ∷ ks) op m = let r = missed-after (N × (op ≡ k → ⊥)) 
     go n u r true e h = ne-eqb op n (λ q. u (q ∙ sym (eqb-true k n e)))
     go n u r false e h = r h
 
-missed : (ks : List ℕ) (op : ℕ) → Missed ks op → (n : ℕ) → hasKey ks n ≡ true → eqb op n ≡ false
+pub missed : (ks : List ℕ) (op : ℕ) → Missed ks op → (n : ℕ) → hasKey ks n ≡ true → eqb op n ≡ false
 missed ks op m = missed-after (Unit {0}) ks op m .1
 
 -- the keys in code, in their order
@@ -38,12 +38,15 @@ keys = opTRAP ∷ opGO ∷ opGOI ∷ opPUSHGO ∷ opPUSHGOI ∷ opJMP ∷ opJMPB
 
 module _ (op : ℕ) where
   -- two ranges of which one ends before the other begins
-  apart : (a b c d : ℕ) → b < c → among c d op ≡ true → among a b op ≡ false
-  apart a b c d l h = let k : c ≤ op = leb-true c op (and-left (leb c op) _ h) in ap (λ (t : Bool). leb a op && t) (lt-leb op b (omega arith)) ∙ off (leb a op)
+  above : (a b c d : ℕ) → b < c → among c d op ≡ true → among a b op ≡ false
+  above a b c d l h = let k : c ≤ op = leb-true c op (and-left (leb c op) _ h) in ap (λ (t : Bool). leb a op && t) (lt-leb op b (omega arith)) ∙ off (leb a op)
     where
       off : (t : Bool) → (t && false) ≡ false
       off true = refl
       off false = refl
+
+  below : (a b c d : ℕ) → d < a → among c d op ≡ true → among a b op ≡ false
+  below a b c d l h = let k : op ≤ d = leb-true op d (and-right (leb c op) _ h) in ap (λ (t : Bool). t && leb op b) (lt-leb a op (omega arith))
 
   pub branch-arm : among firstBranch lastBranch op ≡ true → armOf op ≡ branch (conditionOf op) (wayOf op)
   unfolding armOf
@@ -51,12 +54,18 @@ module _ (op : ℕ) where
 
   pub load-arm : among firstLoad lastLoad op ≡ true → armOf op ≡ load (widthOf op) (signOf op) (lastOf op)
   unfolding armOf
-  load-arm h = rw (apart firstBranch lastBranch firstLoad lastLoad (omega arith) h, h)
+  load-arm h = rw (above firstBranch lastBranch firstLoad lastLoad (omega arith) h, h)
 
   pub store-arm : among firstStore lastStore op ≡ true → armOf op ≡ store (widthOf op) (signOf op) (lastOf op)
   unfolding armOf
-  store-arm h = rw (apart firstBranch lastBranch firstStore lastStore (omega arith) h, apart firstLoad lastLoad firstStore lastStore (omega arith) h, h)
+  store-arm h = rw (above firstBranch lastBranch firstStore lastStore (omega arith) h, above firstLoad lastLoad firstStore lastStore (omega arith) h, h)
 
-  pub no-arm : among firstBranch lastBranch op ≡ false → among firstLoad lastLoad op ≡ false → among firstStore lastStore op ≡ false → Missed keys op → armOf op ≡ none
+  -- it ends before the others begin
+  pub arithmetic-arm : among firstArithmetic lastArithmetic op ≡ true → armOf op ≡ arithmetic (operationOf op) (firstOf op) (lastOf op)
   unfolding armOf
-  no-arm b c d m = simp (b, c, d, missed keys op m)
+  arithmetic-arm h = rw (below firstBranch lastBranch firstArithmetic lastArithmetic (omega arith) h, below firstLoad lastLoad firstArithmetic lastArithmetic (omega arith) h, below firstStore lastStore firstArithmetic lastArithmetic (omega arith) h, h)
+
+  pub no-arm : among firstBranch lastBranch op ≡ false → among firstLoad lastLoad op ≡ false → among firstStore lastStore op ≡ false → among firstArithmetic lastArithmetic op ≡ false
+      → Missed keys op → armOf op ≡ none
+  unfolding armOf
+  no-arm b c d e m = simp (b, c, d, e, missed keys op m)

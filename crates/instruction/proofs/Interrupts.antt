@@ -80,22 +80,25 @@ zeros-small n = (leading-le 8 n, trailing-le 8 n)
 pub vector-small : (n : ℕ) → n < 256 → 0 < n → leadingZeros 8 n + 1 ≤ 8
 vector-small n h p = let top = leading-top 8 n p h in omega (arith, top .1)
 
+module _ (s : State) (f word u v : ℕ) (b : f < 256) (l : List ℕ) (e : withParts s (s .general) l ≡ withAdded s f) where
+  byte : f % 256 ≡ f
+  byte = omega arith
+
+  pub none-taken : (n : ℕ) → bitAnd f (enables s) ≡ 0 → n ≡ (s .pc + 4) % 2 ^ 64 → Told (raised s f word u v) Done (made (s .general) l n (s .halt) (s .marks))
+  unfolding raised replyOf
+  none-taken n q h = rw (byte, q) (record { reply-is = refl; state-is = next-is s _ (s .general) l e n h })
+
+  pub one-taken : (k : ℕ) (r : Reply) (t : State) → (bitAnd f (enables s) ≡ 0 → ⊥) → k ≡ leadingZeros 8 (bitAnd f (enables s)) + 1
+      → Told (tripTo (withParts s (s .general) l) k word u v) r t → Told (raised s f word u v) r t
+  unfolding raised
+  one-taken k r t q i h = rw (byte, ne-eqb _ 0 q) (rw (e, i) at h)
+
+-- the entry: 1, then what is raised
 module _ (s : State) (f op x y z u v : ℕ) where
   pub not-admissible : admissible s ≡ false → Told (exceptionOf s f op x y z u v) NotAdmissible s
   unfolding exceptionOf replyOf
   not-admissible a = rw a (record { reply-is = refl; state-is = refl })
 
-  module _ (b : f < 256) (a : admissible s ≡ true) (l : List ℕ) (e : withParts s (s .general) l ≡ withAdded s f) where
-    byte : f % 256 ≡ f
-    byte = omega arith
-
-    pub none-taken : (n : ℕ) → bitAnd f (enables s) ≡ 0 → n ≡ (s .pc + 4) % 2 ^ 64 → Told (exceptionOf s f op x y z u v) Done (made (s .general) l n (s .halt) (s .marks))
-    unfolding exceptionOf raised replyOf
-    none-taken n q h = rw (a, byte, q) (record { reply-is = refl; state-is = next-is s _ (s .general) l e n h })
-
-    pub one-taken : (k word : ℕ) (r : Reply) (t : State) → (bitAnd f (enables s) ≡ 0 → ⊥)
-        → k ≡ leadingZeros 8 (bitAnd f (enables s)) + 1 → word ≡ wordOf op x y z
-        → Told (tripTo (withParts s (s .general) l) k word u v) r t
-        → Told (exceptionOf s f op x y z u v) r t
-    unfolding exceptionOf raised
-    one-taken k word r t q i w h = rw (a, byte, ne-eqb _ 0 q) (rw (e, i, w) at h)
+  pub exception-told : (word : ℕ) (r : Reply) (t : State) → admissible s ≡ true → word ≡ wordOf op x y z → Told (raised s f word u v) r t → Told (exceptionOf s f op x y z u v) r t
+  unfolding exceptionOf
+  exception-told word r t a w h = rw a (rw w at h)

@@ -11,5 +11,6 @@ pub mod ArmSteps
 pub mod ControlArms
 pub mod SaveUnsaveSent
 pub mod SystemArms
+pub mod ArithmeticArms
 pub mod LoadStoreArms
 pub mod EarlyRefusals

@@ -10,11 +10,11 @@ use borrow.Author.Tests.{eq-eqb, ne-eqb}
 use Rattle.model.specs.Memory.{Windows, shapesOf, ruled, putOcta, both, one}
 use Rattle.model.specs.Plan.{Plan, answer, read, perform, worst, named, look, looks, puts}
 use Rattle.model.specs.Registers.{withParts, reg, admissible, setRegister}
-use Rattle.model.specs.Opcodes.{firstBranch, lastBranch, firstLoad, lastLoad, firstStore, lastStore, among, widthOf, signOf, lastOf, load, store, armOf}
+use Rattle.model.specs.Opcodes.{firstBranch, lastBranch, firstLoad, lastLoad, firstStore, lastStore, firstArithmetic, lastArithmetic, operationOf, firstOf, among, widthOf, signOf, lastOf, load, store, arithmetic, armOf}
 use Rattle.model.specs.Control.{sumOf}
-use Rattle.model.specs.Trips.{wordOf}
+use Rattle.model.specs.Trips.{wordOf, raised}
 use Rattle.model.specs.LoadStore.{operandIn, merged, extended, fits, loadFrom, flagV, storeSays, storeTo}
-use Rattle.model.specs.Step.{refusing, refusalOf, planOf, stepOf, exceptionOf}
+use Rattle.model.specs.Step.{refusing, refusalOf, planOf, stepOf}
 use Rattle.model.specs.Numbers.{replyOf}
 use Rattle.model.specs.Parts.{made}
 use Rattle.model.specs.declared.State.{State}
@@ -22,12 +22,12 @@ use Rattle.model.specs.declared.Reply.{Reply}
 use Rattle.model.specs.declared.Reply.the-variants.{Done, Missing}
 use Rattle.model.proofs.ArmAnswers.{worst-six}
 use Rattle.model.proofs.Entry.{step-open}
-use Rattle.model.proofs.StepByArm.{step-refused}
-use Rattle.instruction.specs.NoMemoryArms.{Told}
+use Rattle.model.proofs.StepByArm.{step-told, step-refused}
+use Rattle.instruction.specs.NoMemoryArms.{arithmeticOf, Told}
 use Rattle.instruction.specs.StepAnswer.{Whole}
 use Rattle.instruction.specs.Arms.{carriedOut, loadOf, storeOf, rangedOf}
 use Rattle.instruction.proofs.NoMemoryReplies.{next-is}
-use Rattle.instruction.proofs.Groups.{Missed, keys, load-arm, store-arm, no-arm}
+use Rattle.instruction.proofs.Groups.{Missed, keys, load-arm, store-arm, arithmetic-arm, no-arm}
 
 -- ---- one octabyte, read first
 
@@ -76,9 +76,10 @@ module _ (w : Windows) (s : State) (op x y z a : ℕ) (h : a ≡ sumOf s (lastOf
     unfolding storeSays replyOf
     store-fits n f i = rw (store-says, f) (record { reply-is = refl; state-is = next-is s s (s .general) (s .special) refl n i; window-is = refl })
 
-    pub store-raises : (k : Reply) (t : State) → admissible s ≡ true → fits (widthOf op) (signOf op) (reg s x) ≡ false → Told (exceptionOf s flagV op x y z a (reg s x)) k t → Whole (storeOf w s op x y z) k t u
-    unfolding storeSays exceptionOf
-    store-raises k t b f i = rw (store-says, f) (record { reply-is = (rw b at i) .reply-is; state-is = (rw b at i) .state-is; window-is = refl })
+    pub store-raises : (word : ℕ) (k : Reply) (t : State) → fits (widthOf op) (signOf op) (reg s x) ≡ false → word ≡ wordOf op x y z → Told (raised s flagV word a (reg s x)) k t
+        → Whole (storeOf w s op x y z) k t u
+    unfolding storeSays
+    store-raises word k t f i h = rw (store-says, f, ← i) (record { reply-is = h .reply-is; state-is = h .state-is; window-is = refl })
 
 -- ---- the step
 
@@ -91,13 +92,21 @@ module _ (w : Windows) (s : State) (a : admissible s ≡ true) (u : ruled (shape
   unfolding refusalOf planOf
   step-store v e h = rw (step-open w s op x y z a u (rw e), e) h
 
+  step-arithmetic : (v : Windows) → armOf op ≡ arithmetic (operationOf op) (firstOf op) (lastOf op)
+      → Whole (record { reply = arithmeticOf s op x y z .reply; state = arithmeticOf s op x y z .state; memory = w }) r t v → Whole (stepOf w s op x y z) r t v
+  unfolding refusalOf planOf
+  step-arithmetic v e h = rw (step-told w s a u op x y z (arithmeticOf s op x y z) (rw e) (rw e)) h
+
   -- an opcode that is no branch and no key of the choice
   pub ranged-step : (v : Windows) → among firstBranch lastBranch op ≡ false → Missed keys op → Whole (rangedOf w s op x y z) r t v → Whole (stepOf w s op x y z) r t v
   unfolding rangedOf
-  ranged-step v b m = go (among firstLoad lastLoad op) (among firstStore lastStore op) refl refl
+  ranged-step v b m = go (among firstLoad lastLoad op) (among firstStore lastStore op) (among firstArithmetic lastArithmetic op) refl refl refl
     where
-      go : (p q : Bool) → among firstLoad lastLoad op ≡ p → among firstStore lastStore op ≡ q
-          → Whole (cond p (loadOf w s op x y z) (cond q (storeOf w s op x y z) (record { reply = 3; state = s; memory = w }))) r t v → Whole (stepOf w s op x y z) r t v
-      go true q e f h = step-load v (load-arm op e) h
-      go false true e f h = step-store v (store-arm op f) h
-      go false false e f h = rw (step-refused w s a u op x y z 3 (unfold refusalOf in (rw (no-arm op b e f m))) (omega arith)) h
+      go : (p q k : Bool) → among firstLoad lastLoad op ≡ p → among firstStore lastStore op ≡ q → among firstArithmetic lastArithmetic op ≡ k
+          → Whole (cond p (loadOf w s op x y z) (cond q (storeOf w s op x y z)
+          (cond k (record { reply = arithmeticOf s op x y z .reply; state = arithmeticOf s op x y z .state; memory = w }) (record { reply = 3; state = s; memory = w })))) r t v
+          → Whole (stepOf w s op x y z) r t v
+      go true q k e f g h = step-load v (load-arm op e) h
+      go false true k e f g h = step-store v (store-arm op f) h
+      go false false true e f g h = step-arithmetic v (arithmetic-arm op g) h
+      go false false false e f g h = rw (step-refused w s a u op x y z 3 (unfold refusalOf in (rw (no-arm op b e f g m))) (omega arith)) h

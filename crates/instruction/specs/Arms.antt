@@ -4,7 +4,7 @@ use mathlib.Core.Bool.{cond}
 use Rattle.model.specs.Memory.{Windows, shapesOf, both}
 use Rattle.model.specs.Plan.{Plan, Outcome, perform}
 use Rattle.model.specs.Registers.{rJ, sp, reg, goes, next, following, setRegister}
-use Rattle.model.specs.Opcodes.{firstLoad, lastLoad, firstStore, lastStore, widthOf, signOf, lastOf, wayOf, conditionOf, among}
+use Rattle.model.specs.Opcodes.{firstLoad, lastLoad, firstStore, lastStore, firstArithmetic, lastArithmetic, widthOf, signOf, lastOf, wayOf, conditionOf, among}
 use Rattle.model.specs.Control.{near, far, sumOf, yzOf, holds}
 use Rattle.model.specs.Frames.{hole, pushFrame, popFrame}
 use Rattle.model.specs.Trips.{wordOf}
@@ -13,6 +13,7 @@ use Rattle.model.specs.Step.{refusing}
 use Rattle.model.specs.declared.State.{State}
 use Rattle.stack.specs.GivenBack.{guardedOn}
 use Rattle.stack.specs.SaveUnsave.{unsaveOf}
+use Rattle.instruction.specs.NoMemoryArms.{arithmeticOf}
 
 -- a branch
 unfoldable pub branchOf : State → ℕ → ℕ → ℕ → ℕ → State
@@ -67,4 +68,5 @@ unfoldable pub rangedOf : Windows → State → ℕ → ℕ → ℕ → ℕ → 
 rangedOf w s op x y z =
     cond (among firstLoad lastLoad op) (loadOf w s op x y z)
     (cond (among firstStore lastStore op) (storeOf w s op x y z)
-    (record { reply = 3; state = s; memory = w }))
+    (cond (among firstArithmetic lastArithmetic op) (record { reply = arithmeticOf s op x y z .reply; state = arithmeticOf s op x y z .state; memory = w })
+    (record { reply = 3; state = s; memory = w })))

@@ -5,7 +5,7 @@ ghost use mathlib.Core.List.{List};
 ghost use Prim.Native.Nat.{ℕ, _+_, _/_, _%_, _^_, _<_, _≤_};
 ghost use lib.Dec.{eqb};
 ghost use lib.Count.{leadingZeros};
-ghost use Rattle.model.specs.Trips.{wordOf, interrupted, tripTo, withAdded};
+ghost use Rattle.model.specs.Trips.{wordOf, interrupted, tripTo, withAdded, raised};
 ghost use Rattle.model.specs.Step.{isNamed, exceptionOf};
 ghost use Rattle.model.specs.Parts.{made};
 ghost use Rattle.instruction.specs.NoMemoryArms.{tripOf, trapStep, Told};
@@ -195,7 +195,34 @@ fn vector_of(taken: u8) -> u64
     u8::leading_zeros(taken) as u64 + 1
 }
 
-/// A byte of flags is raised by the instruction op X Y Z with two operands; 1 where the state is not admissible.
+/// A byte of flags is raised by an instruction of word `word` with two operands.
+pub(crate) fn raise(
+    general: &mut [u64; 256],
+    special: &mut [u64; 32],
+    pc: &mut u64,
+    halt: &mut u64,
+    marks: u64,
+    flags: u8,
+    word: u64,
+    u: u64,
+    v: u64,
+) -> Reply
+    ensures { λ r. ⌜ Told
+        (raised (made (now (general .entry)) (now (special .entry)) (now (pc .entry)) (now (halt .entry)) marks) flags word u v)
+        r (made (now (general .exit)) (now (special .exit)) (now (pc .exit)) (now (halt .exit)) marks) ⌝ }
+{
+    let ra = special[State::RA];
+    let taken = flags & (((ra / 256) % 256) as u8);
+    add_disabled(special, flags);
+    if taken == 0 {
+        *pc = super::target::following(*pc);
+        return Reply::Done;
+    }
+    let k = vector_of(taken);
+    trip(general, special, pc, halt, marks, k, word, u, v)
+}
+
+/// The exceptions entry: a byte of flags is raised by the instruction op X Y Z with two operands; 1 where the state is not admissible.
 pub fn raise_exceptions(
     general: &mut [u64; 256],
     special: &mut [u64; 32],
@@ -218,14 +245,6 @@ pub fn raise_exceptions(
     if !stack::pass::admissible(special, marks) {
         return Reply::NotAdmissible;
     }
-    let ra = special[State::RA];
-    let taken = flags & (((ra / 256) % 256) as u8);
-    add_disabled(special, flags);
-    if taken == 0 {
-        *pc = super::target::following(*pc);
-        return Reply::Done;
-    }
-    let k = vector_of(taken);
     let word = word_of(op, x, y, z);
-    trip(general, special, pc, halt, marks, k, word, y_val, z_val)
+    raise(general, special, pc, halt, marks, flags, word, y_val, z_val)
 }

@@ -2,6 +2,7 @@
 //!
 //! - `step`: one step; 1 and 2 judged, then the choice by opcode
 //! - `control`, `system`: the arms of control.rs and system.rs that are more than a call of another file's
+//! - `operations`: whole-number operations in a step, by crate arithmetic
 //! - `load_store`: loads and stores; `operand`: sizes, places and signs of what they move
 //! - `opcode`: the opcodes by name, and their ranges
 //! - `target`: addresses and conditions
@@ -20,6 +21,7 @@ pub mod field;
 mod load_store;
 pub mod opcode;
 mod operand;
+mod operations;
 pub mod registers;
 pub mod step;
 mod system;

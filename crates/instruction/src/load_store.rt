@@ -1,8 +1,5 @@
 // Loads and stores, once 1 and 2 have passed.
-ghost use mathlib.Core.Path.{_≡_};
-ghost use mathlib.Core.Bool.{true};
 ghost use Prim.Native.Nat.{ℕ};
-ghost use Rattle.model.specs.Registers.{admissible};
 ghost use Rattle.model.specs.Parts.{made, lent};
 ghost use Rattle.instruction.specs.StepAnswer.{Whole};
 ghost use Rattle.instruction.specs.Arms.{loadOf, storeOf};
@@ -57,7 +54,6 @@ pub(crate) fn store(
     y: u8,
     z: u8,
 ) -> Reply
-    requires { ⌜ admissible (made (now general) (now special) (now pc) (now halt) marks) ≡ true ⌝ }
     ensures { λ r. ⌜ Whole
         (storeOf (lent base (now (window .entry)))
         (made (now (general .entry)) (now (special .entry)) (now (pc .entry)) (now (halt .entry)) marks) op x y z)
@@ -74,18 +70,6 @@ pub(crate) fn store(
         *pc = target::following(*pc);
         return Reply::Done;
     }
-    exceptions::raise_exceptions(
-        general,
-        special,
-        pc,
-        halt,
-        marks,
-        FLAG_V,
-        op,
-        x,
-        y,
-        z,
-        addr,
-        u,
-    )
+    let word = exceptions::word_of(op, x, y, z);
+    exceptions::raise(general, special, pc, halt, marks, FLAG_V, word, addr, u)
 }

@@ -3,6 +3,14 @@ ghost use mathlib.Core.Path.{_≡_};
 ghost use Rattle.model.specs.Opcodes.{among};
 
 pub const TRAP: u8 = 0x00;
+/// MUL to SRU, each with $Z and then with Z; of NEG to NEGUI, Y is a constant.
+pub const FIRST_ARITHMETIC: u8 = 0x18;
+
+pub const FIRST_NEGATION: u8 = 0x34;
+
+pub const LAST_NEGATION: u8 = 0x37;
+
+pub const LAST_ARITHMETIC: u8 = 0x3F;
 /// BN to BEV, then PBN to PBEV, each forward and then backward.
 pub const FIRST_BRANCH: u8 = 0x40;
 

@@ -13,6 +13,7 @@ use super::control;
 use super::exceptions;
 use super::load_store;
 use super::opcode;
+use super::operations;
 use super::registers;
 use super::system;
 use model::Reply;
@@ -31,7 +32,6 @@ fn by_range(
     y: u8,
     z: u8,
 ) -> Reply
-    requires { ⌜ admissible (made (now general) (now special) (now pc) (now halt) marks) ≡ true ⌝ }
     ensures { λ r. ⌜ Whole
         (rangedOf (lent base (now (window .entry)))
         (made (now (general .entry)) (now (special .entry)) (now (pc .entry)) (now (halt .entry)) marks) op x y z)
@@ -42,6 +42,9 @@ fn by_range(
     }
     if opcode::is_among(op, opcode::FIRST_STORE, opcode::LAST_STORE) {
         return load_store::store(general, special, pc, halt, marks, window, base, op, x, y, z);
+    }
+    if opcode::is_among(op, opcode::FIRST_ARITHMETIC, opcode::LAST_ARITHMETIC) {
+        return operations::compute(general, special, pc, halt, marks, op, x, y, z);
     }
     Reply::NoArm
 }

@@ -66,16 +66,19 @@ returns-2 c =
     (reads .read-octa .ensures ∙ octa-read w _ there) (writes .before .merged .ensures) (writes .write-octa .ensures ∙ octa-written w _ there _)
     _ (sym (asks .fits2 .ensures) ∙ then .if2 .taken) (c .following .ensures)
 
-raise-exceptions-requires : tie.Need-raise-exceptions-requires
-raise-exceptions-requires c κs = search needs
+word-of-requires : tie.Need-word-of-requires
+word-of-requires c κs = search needs
+
+raise-requires : tie.Need-raise-requires
+raise-requires c κs = search needs
 
 same-length-3 : tie.Need-same-length-3
 same-length-3 c = search needs
 
 returns-3 : tie.Need-returns-3
 returns-3 c =
-    let raises = c .before in
-    let left = c .before .before .before .before .before in
+    let words = c .before .before .before .before .before in
+    let left = words .before in
     let asks = left .before in
     let writes = asks .before .before .before in
     let reads = writes .before .before .before .before in
@@ -89,7 +92,7 @@ returns-3 c =
     let there = rw (test .run-refusal .ensures) at (else .if1 .left) in
     store-raises w s _ _ _ _ _ (sums .sum .ensures (a .special .now) (a .pc .now) (a .halt .now) (a .marks)) there _ _ _
     (reads .read-octa .ensures ∙ octa-read w _ there) (writes .before .merged .ensures) (writes .write-octa .ensures ∙ octa-written w _ there _)
-    _ _ (start .pre) (sym (asks .fits2 .ensures) ∙ left .if2 .left) (c .raise-exceptions .ensures)
+    _ _ _ (sym (asks .fits2 .ensures) ∙ left .if2 .left) (words .word-of .ensures) (c .raise .ensures)
 
 pub store-spec : {M : Type 1} → statement M
 store-spec =
@@ -108,6 +111,7 @@ store-spec =
     following-requires
     same-length-2
     returns-2
-    raise-exceptions-requires
+    word-of-requires
+    raise-requires
     same-length-3
     returns-3)

@@ -1,5 +1,5 @@
 -- `by_range` meets its contract: each question is one of the ranges', in their order.
-use mathlib.Core.Path.{sym, _∙_}
+use mathlib.Core.Path.{refl, sym, _∙_}
 use borrow.Author.Needs.{needs}
 use Rattle.model.specs.Numbers.{replyOf}
 use Rattle.instruction.specs.Arms.{rangedOf}
@@ -39,11 +39,27 @@ returns-2 c =
     let first = then .before .before in
     rw (sym (first .before .is-among .ensures) ∙ first .if1 .left, sym (then .before .is-among2 .ensures) ∙ then .if2 .taken) (call .store .ensures)
 
+is-among-requires-3 : tie.Need-is-among-requires-3
+is-among-requires-3 c κs = search needs
+
+compute-requires : tie.Need-compute-requires
+compute-requires c κs = search needs
+
 returns-3 : tie.Need-returns-3
-unfolding rangedOf replyOf
+unfolding rangedOf
 returns-3 c =
-    let first = c .before .before in
-    rw (sym (first .before .is-among .ensures) ∙ first .if1 .left, sym (c .before .is-among2 .ensures) ∙ c .if2 .left) (search needs)
+    let then = c .before .before .before .before .before in
+    let second = then .before .before in
+    let first = second .before .before in
+    rw (sym (first .before .is-among .ensures) ∙ first .if1 .left, sym (second .before .is-among2 .ensures) ∙ second .if2 .left, sym (then .before .is-among3 .ensures) ∙ then .if3 .taken)
+    (record { reply-is = c .compute .ensures .reply-is; state-is = c .compute .ensures .state-is; window-is = refl })
+
+returns-4 : tie.Need-returns-4
+unfolding rangedOf replyOf
+returns-4 c =
+    let second = c .before .before in
+    let first = second .before .before in
+    rw (sym (first .before .is-among .ensures) ∙ first .if1 .left, sym (second .before .is-among2 .ensures) ∙ second .if2 .left, sym (c .before .is-among3 .ensures) ∙ c .if3 .left) (search needs)
 
 pub by-range-spec : {M : Type 1} → statement M
 by-range-spec =
@@ -57,4 +73,7 @@ by-range-spec =
     store-requires
     same-length-2
     returns-2
-    returns-3)
+    is-among-requires-3
+    compute-requires
+    returns-3
+    returns-4)

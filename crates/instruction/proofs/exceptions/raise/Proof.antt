@@ -1,0 +1,48 @@
+-- `raise` meets its contract: the disabled flags are added, and with a flag left its vector is taken.
+use borrow.Author.Needs.{needs}
+use Rattle.model.specs.Parts.{made}
+use Rattle.instruction.proofs.Interrupts.{none-taken, one-taken}
+use Rattle.instruction.proofs.exceptions.raise.Statement.{statement}
+use Rattle.instruction.proofs.exceptions.raise.Tie as tie
+
+element-copy-out-ra : tie.Need-element-copy-out-ra
+element-copy-out-ra c = search needs
+
+cast-taken : tie.Need-cast-taken
+cast-taken c = search needs
+
+add-disabled-requires : tie.Need-add-disabled-requires
+add-disabled-requires c κs = search needs
+
+following-requires : tie.Need-following-requires
+following-requires c κs = search needs
+
+returns : tie.Need-returns
+returns c =
+    let then = c .before .before in
+    let adds = then .before in
+    let start = adds .before .before .before in
+    let a = start .args in
+    let s = made (a .general .now) (a .special .now) (a .pc .now) (a .halt .now) (a .marks) in
+    none-taken s _ _ _ _ (start .fits .flags .fits) _ (adds .add-disabled .ensures (s .general) (s .pc) (s .halt) (s .marks)) _ (then .if1 .taken) (c .following .ensures)
+
+vector-of-requires : tie.Need-vector-of-requires
+vector-of-requires c κs = search needs
+
+trip-requires : tie.Need-trip-requires
+trip-requires c κs = search needs
+
+returns-2 : tie.Need-returns-2
+returns-2 c =
+    let vector = c .before .before .before .before .before in
+    let else = vector .before in
+    let adds = else .before in
+    let start = adds .before .before .before in
+    let a = start .args in
+    let s = made (a .general .now) (a .special .now) (a .pc .now) (a .halt .now) (a .marks) in
+    let last = c .trip .last in
+    let t = made (last .0) (last .1 .0) (last .1 .1 .0) (last .1 .1 .1 .0) (a .marks) in
+    one-taken s _ _ _ _ (start .fits .flags .fits) _ (adds .add-disabled .ensures (s .general) (s .pc) (s .halt) (s .marks)) (vector .vector-of .result) (c .trip .result) t (else .if1 .left) (vector .vector-of .ensures .0) (c .trip .ensures)
+
+pub raise-spec : {M : Type 1} → statement M
+raise-spec = tie.close (tie.spec element-copy-out-ra cast-taken add-disabled-requires following-requires returns vector-of-requires trip-requires returns-2)

@@ -1,0 +1,21 @@
+-- `last` meets its contract: an even opcode's last operand is $Z, an odd one's Z.
+use borrow.Author.Needs.{needs}
+use Rattle.model.specs.Parts.{made}
+use Rattle.instruction.proofs.ArithmeticArms.{last-register, last-constant}
+use Rattle.instruction.proofs.operations.last.Statement.{statement}
+use Rattle.instruction.proofs.operations.last.Tie as tie
+
+mul-result : tie.Need-mul-result
+mul-result c = search needs
+
+element-copy-out-result : tie.Need-element-copy-out-result
+element-copy-out-result c = search needs
+
+returns : tie.Need-returns
+returns c = λ special pc halt marks. let a = c .before .before .args in last-register (made (a .general .now) special pc halt marks) (a .op) (a .z) (c .before .if1 .taken)
+
+returns-2 : tie.Need-returns-2
+returns-2 c = λ special pc halt marks. let a = c .before .args in last-constant (made (a .general .now) special pc halt marks) (a .op) (a .z) (c .if1 .left)
+
+pub last-spec : {M : Type 1} → statement M
+last-spec = tie.close (tie.spec mul-result element-copy-out-result returns returns-2)
