@@ -14,15 +14,17 @@ use Rattle.model.specs.Lists.{stepOn}
 use Rattle.model.specs.NoMemory.{Said, say, tell}
 use Rattle.model.specs.Control.{sumOf}
 use Rattle.model.specs.LoadStore.{flagV}
+use Rattle.model.specs.ArithmeticStep.{withResults}
 use Rattle.model.specs.Step.{step, exception, stepOf, exceptionOf, itemPlan, mmix}
 use Rattle.model.specs.Registers.{rB, rBB, rA, rW, rX, rY, rZ, rWW, rXX, rYY, rZZ, sp, reg, Sized}
 use Rattle.model.specs.Trips.{withAdded, wordOf}
 use Rattle.model.specs.Field.{fieldOf, answerOf}
 use Rattle.model.specs.Leaves.{Interrupted, StepLeaves, ExceptionLeaves, FieldLeaves}
-use Rattle.model.proofs.Leaves.{replies-leave}
+use Rattle.model.proofs.Leaves.{replies-leave, added-sized, results-sized}
 use Rattle.model.proofs.Invariants.{items-keep}
 use Rattle.model.proofs.Numbers.{step-number}
 use Rattle.model.specs.declared.State.{State}
+use Rattle.model.specs.declared.Results.{Results}
 use Rattle.mmix.specs.Image.{imageLength, imageOf, stateOf}
 use Rattle.mmix.specs.Entries.{isImage, Stepped, Raised, SteppedState, RaisedState, FieldTold}
 use Rattle.mmix.specs.Leaves.{replaced, atSpecial, atHalt, haltBytes, tripOctas, trapOctas, StepCallLeaves, ExceptionCallLeaves, CallsLeave}
@@ -55,6 +57,9 @@ module _ (l : List ℕ) (n : length l ≡ imageLength) (b : (i : ℕ) → getD l
       ∙ after-special s zs rA _ (omega arith) (λ e. omega arith) rB rW rX rY rZ word u v
       ∙ ap (λ (c : List ℕ). replaced c ((atSpecial rA, sp (withAdded s f) rA) ∷ tripOctas s word u v)) back
 
+  raised-sized : (s : State) (x : ℕ) (r : Results) (f : ℕ) → Sized s → Sized (withAdded (withResults s x r) f)
+  raised-sized s x r f n = added-sized (withResults s x r) f (results-sized s x r n)
+
   step-leaves : (w : Windows) (op x y z r : ℕ) (m : List ℕ) (v : Windows) → Left s w (step op x y z) r (image m) v → StepCallLeaves l w op x y z r m v
   unfolding HeldIs stepOn mmix itemPlan one stepOf replaced
   step-leaves w op x y z r m v g =
@@ -76,13 +81,22 @@ module _ (l : List ℕ) (n : length l ≡ imageLength) (b : (i : ℕ) → getD l
                   ∙ ap (λ (c : List ℕ). replaced c (tripOctas s (wordOf op x y z) (reg s y) (reg s z))) back;
               window-is = g .window-is ∙ h .window;
             }))
-            (λ h. inr (record {
+            (⊎-elim
+            (λ h. inr (inl (record {
               width = h .width;
               last = h .last;
               arm-is = h .arm-is;
               image-is = g .held-is ∙ tripped-image flagV (wordOf op x y z) (sumOf s (h .last) y z) (reg s x) (o .state) zt (h .registers);
               window-is = g .window-is ∙ h .window;
-            }))
+            })))
+            (λ h. inr (inr (record {
+              operation = h .operation;
+              first = h .first;
+              last = h .last;
+              arm-is = h .arm-is;
+              image-is = g .held-is ∙ interrupt-image _ (raised-sized s _ _ _ zs) rB rW rX rY rZ _ _ _ (o .state) zt (h .registers) (omega arith) (omega arith) (omega arith) (omega arith) (omega arith);
+              window-is = g .window-is ∙ h .window;
+            }))))
             (k .nineteen (sym e ∙ p));
         twenty = λ p.
             let h = k .twenty (sym e ∙ p) in (

@@ -9,17 +9,19 @@ use Rattle.model.specs.Octa.{part, written, bytesOf}
 use Rattle.model.specs.Memory.{Windows, putOcta, both}
 use Rattle.model.specs.Plan.{look}
 use Rattle.model.specs.Registers.{rB, rJ, rBB, rA, rW, rX, rY, rZ, rWW, rXX, rYY, rZZ, sp, reg, following, Sized}
-use Rattle.model.specs.Opcodes.{Operand, Width, signed, trip, store, armOf}
+use Rattle.model.specs.Opcodes.{Operand, Width, signed, trip, store, arithmetic, armOf}
 use Rattle.model.specs.NoMemory.{say}
-use Rattle.model.specs.Control.{sumOf}
+use Rattle.model.specs.Control.{operandOf, sumOf}
 use Rattle.model.specs.Trips.{wordOf, withAdded}
 use Rattle.model.specs.LoadStore.{merged, flagV}
+use Rattle.model.specs.ArithmeticStep.{resultsIn, withResults}
 use Rattle.model.specs.Numbers.{Early, Lost, Halting}
 use Rattle.model.specs.Field.{fieldOf, answerOf}
 use Rattle.model.specs.Leaves.{StepLeaves, ExceptionLeaves, FieldLeaves}
 use Rattle.model.specs.declared.State.{State}
-use Rattle.mmix.specs.Image.{stateOf}
+use Rattle.mmix.specs.Image.{stateOf, imageOf}
 use Rattle.mmix.specs.Entries.{Stepped, Raised, SteppedState, RaisedState, FieldTold}
+use Rattle.model.specs.declared.Operation.{Operation}
 
 -- the image with octabytes replaced, one after another: by its number among the 291, and what it becomes
 unfoldable pub replaced : List ℕ → List (ℕ × ℕ) → List ℕ
@@ -48,6 +50,10 @@ tripOctas s word u v = interruptOctas s rB rW rX rY rZ word u v
 abbrev pub trapOctas : State → ℕ → ℕ → ℕ → List (ℕ × ℕ)
 trapOctas s word u v = interruptOctas s rBB rWW rXX rYY rZZ word u v
 
+-- the state with an operation's results written and its flag raised
+abbrev pub raisedIn : State → Operation → Operand → Operand → ℕ → ℕ → ℕ → State
+raisedIn s f p q x y z = withAdded (withResults s x (resultsIn s f (operandOf s p y) (operandOf s q z))) (resultsIn s f (operandOf s p y) (operandOf s q z) .flags)
+
 -- 19 of TRIP leaves the window
 pub record TripCallLeaves (l : List ℕ) (w : Windows) (op x y z : ℕ) (m : List ℕ) (v : Windows) : Type 0 where
   pub arm-is : armOf op ≡ trip
@@ -62,6 +68,16 @@ pub record StoreCallLeaves (l : List ℕ) (w : Windows) (op x y z : ℕ) (m : Li
   pub image-is : m ≡ replaced l ((atSpecial rA, sp (withAdded (stateOf l) flagV) rA) ∷ tripOctas (stateOf l) (wordOf op x y z) (sumOf (stateOf l) last y z) (reg (stateOf l) x))
   pub window-is : v ≡ putOcta w (sumOf (stateOf l) last y z) (merged width (sumOf (stateOf l) last y z) (look both w (sumOf (stateOf l) last y z)) (reg (stateOf l) x))
 
+-- 19 of an operation leaves $X, rH and rR as written
+pub record ArithmeticCallLeaves (l : List ℕ) (w : Windows) (op x y z : ℕ) (m : List ℕ) (v : Windows) : Type 0 where
+  pub operation : Operation
+  pub first : Operand
+  pub last : Operand
+  pub arm-is : armOf op ≡ arithmetic operation first last
+  pub image-is : m ≡ replaced (imageOf (raisedIn (stateOf l) operation first last x y z))
+      (tripOctas (raisedIn (stateOf l) operation first last x y z) (wordOf op x y z) (operandOf (stateOf l) first y) (operandOf (stateOf l) last z))
+  pub window-is : v ≡ w
+
 -- what mmix_step leaves
 pub record StepCallLeaves (l : List ℕ) (w : Windows) (op x y z r : ℕ) (m : List ℕ) (v : Windows) : Type 0 where
   pub most : r ≤ 20
@@ -70,7 +86,7 @@ pub record StepCallLeaves (l : List ℕ) (w : Windows) (op x y z r : ℕ) (m : L
   pub lost : Lost r → (m ≡ l) × (v ≡ w)
   -- 7 to 18
   pub halting : Halting r → (m ≡ replaced l ((atHalt, 1) ∷ [])) × (v ≡ w)
-  pub nineteen : r ≡ 19 → TripCallLeaves l w op x y z m v ⊎ StoreCallLeaves l w op x y z m v
+  pub nineteen : r ≡ 19 → TripCallLeaves l w op x y z m v ⊎ (StoreCallLeaves l w op x y z m v ⊎ ArithmeticCallLeaves l w op x y z m v)
   pub twenty : r ≡ 20 → (m ≡ replaced l (trapOctas (stateOf l) (wordOf op x y z) (reg (stateOf l) y) (reg (stateOf l) z))) × (v ≡ w)
   pub done : r ≡ 0 → haltBytes m ≡ haltBytes l
 
