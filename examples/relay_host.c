@@ -109,7 +109,7 @@ static void work_another_case(void)
     printf("%-28s all 256 general and 32 special ones\n", "registers as before");
 }
 
-/* A margin of a relay's curve, kept in the window as a tetra and read back with its sign. */
+/* A margin of a relay's curve, kept in the window as a tetra and read back with its sign; and a seventh of it. */
 static void keep_a_margin(void)
 {
     set_octabyte(MMIX_AT_GENERAL(253), MMIX_STACK_START + CURVE_AT);
@@ -122,6 +122,8 @@ static void keep_a_margin(void)
     printf("\n");
     if (general(252) != general(254))
         end("the margin is CHANGED");
+    step("DIV $251,$252,7: a seventh", MMIX_OP_DIVI, 251, 252, 7);
+    printf("%-28s %" PRId64 ", remainder %" PRId64 "\n", "rounded down", (int64_t)general(251), (int64_t)special(MMIX_RR));
 }
 
 /* Integer overflow, which rA enables: a trip through the vector at 32. There is no RESUME, so the host goes back itself. */

@@ -43,11 +43,12 @@ extern "C" {
  * was written for an earlier minor version compiles, links and means the same. Major: a function, a struct, the image or a
  * number has another meaning; look before you link. */
 #define MMIX_VERSION_MAJOR 1
-#define MMIX_VERSION_MINOR 2
+#define MMIX_VERSION_MINOR 3
 
 /* The replies. 1 to 6 leave every byte as it was; 7 to 18 set the halt code to 1 and leave all else; 19 and 20 set the
  * halt code to 1 and the trip or trap registers, with PC where it was (an exception refused by 19 has also added to rA; a
- * store refused by 19 is made). 21 is the number of mmix_branch_field and mmix_jump_field alone, which are given no state. */
+ * store refused by 19 is made, and $X, rH and rR of an operation are written). 21 is the number of mmix_branch_field and
+ * mmix_jump_field alone, which are given no state. */
 enum mmix_reply {
     MMIX_DONE = 0,                /* The step or the exception was done. */
     MMIX_NOT_ADMISSIBLE = 1,      /* rG, rL, rA or the marks are out of range, or the image is not MMIX_IMAGE_LEN bytes. */
@@ -68,7 +69,7 @@ enum mmix_reply {
     MMIX_SAVED_COUNT = 16,        /* UNSAVE of a context with more locals than its rG. */
     MMIX_SYNC_PRIVILEGED = 17,    /* SYNC 4 to 7. */
     MMIX_SYNC_ILLEGAL = 18,       /* SYNC above 7. */
-    MMIX_NOT_LOADED = 19,         /* A trip whose vector is not marked loaded: of TRIP, an exception, a store that overflows. */
+    MMIX_NOT_LOADED = 19,         /* A trip whose vector is not marked loaded: of TRIP, an exception, a store or an operation. */
     MMIX_TRAPPED = 20,            /* TRAP that names no system call. */
     MMIX_OUT_OF_REACH = 21        /* No field of either direction leads from the one address to the other. */
 };
@@ -77,6 +78,11 @@ enum mmix_reply {
  * at the end, the last operand is Z itself. */
 enum mmix_opcode {
     MMIX_OP_TRAP = 0x00,
+    MMIX_OP_MUL = 0x18, MMIX_OP_MULI, MMIX_OP_MULU, MMIX_OP_MULUI, MMIX_OP_DIV, MMIX_OP_DIVI, MMIX_OP_DIVU, MMIX_OP_DIVUI,
+    MMIX_OP_ADD, MMIX_OP_ADDI, MMIX_OP_ADDU, MMIX_OP_ADDUI, MMIX_OP_SUB, MMIX_OP_SUBI, MMIX_OP_SUBU, MMIX_OP_SUBUI,
+    MMIX_OP_2ADDU, MMIX_OP_2ADDUI, MMIX_OP_4ADDU, MMIX_OP_4ADDUI, MMIX_OP_8ADDU, MMIX_OP_8ADDUI, MMIX_OP_16ADDU, MMIX_OP_16ADDUI,
+    MMIX_OP_CMP, MMIX_OP_CMPI, MMIX_OP_CMPU, MMIX_OP_CMPUI, MMIX_OP_NEG, MMIX_OP_NEGI, MMIX_OP_NEGU, MMIX_OP_NEGUI,
+    MMIX_OP_SL, MMIX_OP_SLI, MMIX_OP_SLU, MMIX_OP_SLUI, MMIX_OP_SR, MMIX_OP_SRI, MMIX_OP_SRU, MMIX_OP_SRUI,
     MMIX_OP_BN = 0x40, MMIX_OP_BNB, MMIX_OP_BZ, MMIX_OP_BZB, MMIX_OP_BP, MMIX_OP_BPB, MMIX_OP_BOD, MMIX_OP_BODB,
     MMIX_OP_BNN, MMIX_OP_BNNB, MMIX_OP_BNZ, MMIX_OP_BNZB, MMIX_OP_BNP, MMIX_OP_BNPB, MMIX_OP_BEV, MMIX_OP_BEVB,
     MMIX_OP_PBN, MMIX_OP_PBNB, MMIX_OP_PBZ, MMIX_OP_PBZB, MMIX_OP_PBP, MMIX_OP_PBPB, MMIX_OP_PBOD, MMIX_OP_PBODB,
