@@ -105,7 +105,7 @@ pub fn round(seed: u64, number: u64, run: &mut dyn FnMut(&Case) -> Option<Answer
         run(&exception(random))?;
     }
     run(&context(random))?;
-    run(&if number.is_multiple_of(3) { initialize(random) } else { context(random) })?;
+    run(&if number.is_multiple_of(2) { initialize(random) } else { context(random) })?;
     chain(random, run)?;
     run(&fields::single(random, Kind::Branch))?;
     run(&fields::single(random, Kind::Jump))?;
