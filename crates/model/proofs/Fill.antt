@@ -8,7 +8,7 @@ use Prim.Native.Nat.{ℕ, zero, suc, max, _+_, _≤_, _<_}
 use native.Mathlib.Nat.{not-suc-le-zero, le-of-suc-le-suc, eq-or-lt-of-le}
 use native.Mathlib.Omega.{arith}
 use lib.Dec.{ltb}
-use lib.ListN.{length, getD, set, length-set}
+use lib.ListN.{length, getD, set, length-set, List·getD-eq-default}
 use lib.Seq.{ext-getD, getD-set-same, getD-set-other}
 use borrow.Author.Tests.{lt-ltb, le-ltb, le-leb, lt-leb, ltb-true, ltb-false}
 use Rattle.model.specs.Fill.{within, indexed, over}
@@ -68,7 +68,17 @@ module _ (f : ℕ → ℕ) (a b : ℕ) (l : List ℕ) where
   pub over-above : (k : ℕ) → b ≤ k → k < length l → getD (over f a b l) k 0 ≡ getD l k 0
   over-above k h n = at k n ∙ simp (within-above a b k h)
 
--- an emptyPart range
+  -- what lies out of a range, at any index
+  past : (k : ℕ) → length l ≤ k → getD (over f a b l) k 0 ≡ getD l k 0
+  past k h = List·getD-eq-default (over f a b l) 0 (omega (arith, length-over)) ∙ sym (List·getD-eq-default l 0 h)
+
+  pub over-after : (k : ℕ) → b ≤ k → getD (over f a b l) k 0 ≡ getD l k 0
+  over-after k h = ⊎-elim (over-above k h) (past k) (lt-or-le k (length l))
+
+  pub over-before : (k : ℕ) → k < a → getD (over f a b l) k 0 ≡ getD l k 0
+  over-before k h = ⊎-elim (over-below k h) (past k) (lt-or-le k (length l))
+
+-- an empty range
 pub over-none : (f : ℕ → ℕ) (a b : ℕ) (l : List ℕ) → b ≤ a → over f a b l ≡ l
 over-none f a b l h =
     ext-getD 0 (over f a b l) l (length-over f a b l)

@@ -35,3 +35,4 @@ pub mod SaveUnsave
 pub mod Reader
 pub mod Roundtrip
 pub mod Reaches
+pub mod PopOrder

@@ -40,4 +40,5 @@ pub mod Departures
 pub mod DepartureExamples
 pub mod Order
 pub mod Reaches
+pub mod PopOrder
 pub mod FieldPoints
