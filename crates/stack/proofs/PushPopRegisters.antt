@@ -12,23 +12,24 @@ use lib.ListN.{length, getD, set, length-set, List·getD-eq-default}
 use lib.Seq.{ext-getD, getD-set-same, getD-set-other}
 use borrow.Author.Tests.{lt-ltb, le-ltb, lt-leb, le-leb, eq-eqb, ne-eqb, ltb-true}
 use Rattle.model.specs.Fill.{over, tab}
-use Rattle.model.specs.Registers.{rJ, rO, rS, rG, rL, stackStart, sp, reg, admissible, withSpecial, spilled}
+use Rattle.model.specs.Registers.{rJ, rO, rS, rG, rL, stackStart, sp, reg, admissible, withParts, withSpecial, cleared, spilled}
 use Rattle.model.specs.Memory.{Windows, shapesOf, both}
 use Rattle.model.specs.Plan.{worst, looks, puts}
 use Rattle.model.specs.Frames.{framed, slid, slide, pushedRule, pushed, countOf, lastOutput, restored, unslide, popped, misplaced}
+use Rattle.model.specs.PopOrder.{lowered, between}
 use Rattle.model.specs.Parts.{made}
 use Rattle.model.specs.Step.{refusing}
 use Rattle.model.specs.declared.State.{State}
-use Rattle.model.proofs.Fill.{lt-or-le, length-over, over-in, over-below, over-above}
+use Rattle.model.proofs.Fill.{lt-or-le, length-over, over-in, over-below, over-above, over-after}
+use Rattle.model.proofs.PopOrder.{first-general, then-clears}
 use Rattle.model.proofs.Bools.{and-right}
 use Rattle.model.proofs.Memory.{one-lawful}
 use Rattle.model.proofs.Runs.{getD-looks}
 use Rattle.model.proofs.AdmissibleKept.{adm, spec-other}
 use Rattle.machine.specs.Octas.{readOcta, writtenOcta, writtenRange}
 use Rattle.machine.proofs.Octas.{puts-none, puts-tab, puts-run, run-read}
-use Rattle.stack.specs.PushPop.{Held, Placed, bottomOf, restoredBy}
+use Rattle.stack.specs.PushPop.{Held, Placed, bottomOf, betweenBy}
 use Rattle.stack.proofs.Judged.{granted}
-use Rattle.stack.proofs.SlidRanges.{over-before, over-alike}
 
 -- ---- what judging gives
 
@@ -124,96 +125,99 @@ pub misplaced-odd : (s : State) (ro : ℕ) → sp s rO ≡ ro → (ro % 8 ≡ 0 
 unfolding misplaced
 misplaced-odd s ro e a = rw (e, ne-eqb _ _ a)
 
--- the caller's registers, part by part: those above the outputs cleared, the outputs moved above the hole, the last one in it, the locals
-module _ (w : Windows) (bottom last h count rg : ℕ) (g : List ℕ) where
-  abbrev by-rule : ℕ → ℕ
-  by-rule = restoredBy w bottom last h count g
+-- the caller's registers below the new rL, part by part: the outputs moved above the hole, the last one in it, the locals
+module _ (w : Windows) (bottom h low x : ℕ) (s : State) (el : low ≡ lowered s x h) (pass : worst (refusing (shapesOf w)) bottom (min h low) ≡ 0) where
+  abbrev g : List ℕ
+  g = s .general
 
-  abbrev low : ℕ
-  low = min (h + count) rg
+  abbrev ls : List ℕ
+  ls = looks both w bottom (min h (sp s rG))
+
+  abbrev by-rule : ℕ → ℕ
+  by-rule = restored s x h ls
 
   abbrev reads : ℕ → ℕ
   reads k = readOcta w (bottom + 8 * (k - 0))
 
-  abbrev cleared : List ℕ
-  cleared = over (λ (k : ℕ). 0) low rg g
-
   abbrev moves : ℕ → ℕ
-  moves k = getD cleared (k - (h + 1)) 0
+  moves k = getD g (k - (h + 1)) 0
 
   abbrev moved : List ℕ
-  moved = over moves (h + 1) low cleared
-
-  length-cleared : length cleared ≡ length g
-  length-cleared = length-over (λ (k : ℕ). 0) low rg g
+  moved = over moves (h + 1) low g
 
   length-moved : length moved ≡ length g
-  length-moved = length-over moves (h + 1) low cleared ∙ length-cleared
+  length-moved = length-over moves (h + 1) low g
 
-  reads-local : (k : ℕ) → k < h → reads k ≡ by-rule k
-  reads-local k l = let e : k - 0 ≡ k = omega arith in rw (e, lt-ltb k h l)
+  reads-local : (k : ℕ) → k < h → k < low → reads k ≡ by-rule k
+  unfolding restored
+  reads-local k a b =
+      let e : k - 0 ≡ k = omega arith in
+      let m : min h low ≡ min h (sp s rG) = omega arith in
+      let n : k < min h low = omega arith in
+      rw (e, lt-ltb k h a) (run-read w bottom (min h low) pass k (bottom + 8 * k) n refl
+      ∙ sym (ap (λ (j : ℕ). getD (looks both w bottom j) k 0) (sym m) ∙ getD-looks both one-lawful (min h low) w bottom k n))
 
-  moved-in : (k : ℕ) → k < length g → h < k → k < rg → getD moved k 0 ≡ by-rule k
+  moved-in : (k : ℕ) → k < length g → h < k → k < low → getD moved k 0 ≡ by-rule k
+  unfolding restored
   moved-in k n a b =
-      let m : k < length cleared = omega (arith, length-cleared) in
       let e : k - (h + 1) ≡ k - h - 1 = omega arith in
-      ⊎-elim
-      (λ out. over-in moves (h + 1) low cleared k (omega arith) (omega arith) m ∙ over-before (λ (k : ℕ). 0) low rg g (k - (h + 1)) (omega arith)
-      ∙ rw (e, le-ltb k h (omega arith), ne-eqb k h (omega arith), lt-ltb k (h + count) out))
-      (λ past. over-above moves (h + 1) low cleared k (omega arith) m ∙ over-in (λ (k : ℕ). 0) low rg g k (omega arith) b n
-      ∙ rw (le-ltb k h (omega arith), ne-eqb k h (omega arith), le-ltb k (h + count) past))
-      (lt-or-le k (h + count))
+      over-in moves (h + 1) low g k (omega arith) b n ∙ rw (e, le-ltb k h (omega arith), ne-eqb k h (omega arith), lt-ltb k (h + countOf s x) (omega arith))
 
-  moved-out : (k : ℕ) → k < length g → rg ≤ k → getD moved k 0 ≡ getD g k 0
-  moved-out k n b =
-      over-above moves (h + 1) low cleared k (omega arith) (omega (arith, length-cleared)) ∙ over-above (λ (k : ℕ). 0) low rg g k b n
+  moved-out : (k : ℕ) → low ≤ k → getD moved k 0 ≡ getD g k 0
+  moved-out k b = over-after moves (h + 1) low g k b
 
-  -- a local hole
-  hole-below : h < rg → over reads 0 h (set moved h last) ≡ over by-rule 0 rg g
-  hole-below b =
-      ext-getD 0 (over reads 0 h (set moved h last)) (over by-rule 0 rg g) (lengths ∙ sym (length-over by-rule 0 rg g))
+  -- a hole below the new rL
+  hole-below : h < low → (last : ℕ) → last ≡ lastOutput s x → over reads 0 h (set moved h last) ≡ over by-rule 0 low g
+  hole-below b last e =
+      ext-getD 0 (over reads 0 h (set moved h last)) (over by-rule 0 low g) (lengths ∙ sym (length-over by-rule 0 low g))
       (λ k m. let n : k < length g = omega (arith, lengths) in
       let q : k < length (set moved h last) = omega (arith, length-set moved h last, length-moved) in
       ⊎-elim
-      (λ lo. over-in reads 0 h (set moved h last) k (omega arith) lo q ∙ reads-local k lo ∙ sym (over-in by-rule 0 rg g k (omega arith) (omega arith) n))
+      (λ lo. over-in reads 0 h (set moved h last) k (omega arith) lo q ∙ reads-local k lo (omega arith) ∙ sym (over-in by-rule 0 low g k (omega arith) (omega arith) n))
       (λ ge. over-above reads 0 h (set moved h last) k ge q
       ∙ ⊎-elim
-      (λ here. ap (λ (j : ℕ). getD (set moved h last) j 0) (sym here) ∙ getD-set-same moved h last 0 (omega (arith, length-moved))
-      ∙ sym (over-in by-rule 0 rg g k (omega arith) (omega arith) n ∙ rw (le-ltb k h ge, eq-eqb k h (sym here))))
+      (λ here. ap (λ (j : ℕ). getD (set moved h last) j 0) (sym here) ∙ getD-set-same moved h last 0 (omega (arith, length-moved)) ∙ e
+      ∙ sym (over-in by-rule 0 low g k (omega arith) (omega arith) n ∙ at-hole k here))
       (λ gt. getD-set-other moved h k last 0 (λ z. let e : k ≡ h = z in omega arith)
-      ∙ ⊎-elim (λ in-b. moved-in k n gt in-b ∙ sym (over-in by-rule 0 rg g k (omega arith) in-b n))
-      (λ out. moved-out k n out ∙ sym (over-above by-rule 0 rg g k out n))
-      (lt-or-le k rg))
+      ∙ ⊎-elim (λ in-b. moved-in k n gt in-b ∙ sym (over-in by-rule 0 low g k (omega arith) in-b n))
+      (λ out. moved-out k out ∙ sym (over-above by-rule 0 low g k out n))
+      (lt-or-le k low))
       (eq-or-lt-of-le ge))
       (lt-or-le k h))
     where
       lengths : length (over reads 0 h (set moved h last)) ≡ length g
       lengths = length-over reads 0 h (set moved h last) ∙ length-set moved h last ∙ length-moved
 
-  -- a hole at or above rG: the locals are all that is below
-  hole-above : rg ≤ h → over reads 0 rg moved ≡ over by-rule 0 rg g
+      at-hole : (k : ℕ) → h ≡ k → by-rule k ≡ lastOutput s x
+      at-hole k here = unfold restored in rw (le-ltb k h (omega arith), eq-eqb k h (sym here))
+
+  -- a hole from there up: the locals are all that is below
+  hole-above : low ≤ h → over reads 0 low moved ≡ over by-rule 0 low g
   hole-above b =
-      ext-getD 0 (over reads 0 rg moved) (over by-rule 0 rg g) (lengths ∙ sym (length-over by-rule 0 rg g))
+      ext-getD 0 (over reads 0 low moved) (over by-rule 0 low g) (lengths ∙ sym (length-over by-rule 0 low g))
       (λ k m. let n : k < length g = omega (arith, lengths) in
       let q : k < length moved = omega (arith, length-moved) in
       ⊎-elim
-      (λ lo. over-in reads 0 rg moved k (omega arith) lo q ∙ reads-local k (omega arith) ∙ sym (over-in by-rule 0 rg g k (omega arith) lo n))
-      (λ out. over-above reads 0 rg moved k out q ∙ moved-out k n out ∙ sym (over-above by-rule 0 rg g k out n))
-      (lt-or-le k rg))
+      (λ lo. over-in reads 0 low moved k (omega arith) lo q ∙ reads-local k (omega arith) lo ∙ sym (over-in by-rule 0 low g k (omega arith) lo n))
+      (λ out. over-above reads 0 low moved k out q ∙ moved-out k out ∙ sym (over-above by-rule 0 low g k out n))
+      (lt-or-le k low))
     where
-      lengths : length (over reads 0 rg moved) ≡ length g
-      lengths = length-over reads 0 rg moved ∙ length-moved
+      lengths : length (over reads 0 low moved) ≡ length g
+      lengths = length-over reads 0 low moved ∙ length-moved
 
-  module _ (g₁ g₂ g₃ : List ℕ) (b d : ℕ) (eb : b ≡ low) (ed : d ≡ h + 1) (e₁ : g₁ ≡ over (λ (k : ℕ). 0) b rg g)
-      (e₂ : g₂ ≡ over (λ (k : ℕ). getD g₁ (k - d) 0) d b g₁) where
-    moved-is : g₂ ≡ moved
-    moved-is = e₂ ∙ rw (e₁, eb, ed)
+  module _ (g₁ g₂ : List ℕ) (d : ℕ) (ed : d ≡ h + 1) (e₁ : g₁ ≡ over (λ (k : ℕ). getD g (k - d) 0) d low g) where
+    moved-is : g₁ ≡ moved
+    moved-is = e₁ ∙ rw ed
 
-    pub restored-hole : h < rg → g₃ ≡ over reads 0 h (set g₂ h last) → g₃ ≡ over by-rule 0 rg g
-    restored-hole l e = e ∙ rw moved-is (hole-below l)
+    written : g₂ ≡ over by-rule 0 low g → withParts s g₂ (s .special) ≡ betweenBy w bottom s x h
+    unfolding between
+    written e = rw (e ∙ ap (λ (j : ℕ). over by-rule 0 j g) el ∙ sym (first-general s x h ls))
 
-    pub restored-all : rg ≤ h → g₃ ≡ over reads 0 rg g₂ → g₃ ≡ over by-rule 0 rg g
-    restored-all l e = e ∙ rw moved-is (hole-above l)
+    pub written-hole : (last : ℕ) → last ≡ lastOutput s x → h < low → g₂ ≡ over reads 0 h (set g₁ h last) → withParts s g₂ (s .special) ≡ betweenBy w bottom s x h
+    written-hole last v l e = written (e ∙ rw moved-is (hole-below l last v))
+
+    pub written-all : low ≤ h → g₂ ≡ over reads 0 low g₁ → withParts s g₂ (s .special) ≡ betweenBy w bottom s x h
+    written-all l e = written (e ∙ rw moved-is (hole-above l))
 
 -- a frame's place below rO, as code has it
 pub below : (ro d : ℕ) → stackStart < ro → ro < 0x8000000000000000 → d ≤ 2048 → (ro + (2 ^ 64 - d)) % 2 ^ 64 ≡ ro - d
@@ -238,34 +242,31 @@ module _ (w : Windows) (l : List ℕ) (placed : Placed l) where
       q ∙ rw (z, f)
 
 -- what code has done is what POP does
-module _ (w : Windows) (g l g′ : List ℕ) (x h bottom count last low : ℕ) (held : Held l) (placed : Placed l) (small : h ≤ 255)
-    (pass : worst (refusing (shapesOf w)) (bottomOf l h) (min h (getD l rG 0)) ≡ 0)
+module _ (w : Windows) (l : List ℕ) (x h bottom count low : ℕ) (held : Held l) (placed : Placed l) (small : h ≤ 255)
     (eb : bottom ≡ (getD l rO 0 + (2 ^ 64 - 8 * (h + 1))) % 2 ^ 64) (ec : (s : State) → sp s rL ≡ getD l rL 0 → count ≡ countOf s x)
-    (el : (special : List ℕ) (pc halt marks : ℕ) → getD special rL 0 ≡ getD l rL 0 → last ≡ lastOutput (made g special pc halt marks) x)
-    (ew : low ≡ min (h + count) (getD l rG 0)) (eg : g′ ≡ over (restoredBy w bottom last h count g) 0 (getD l rG 0) g) where
+    (ew : low ≡ min (h + count) (getD l rG 0)) where
   at-bottom : bottom ≡ bottomOf l h
   at-bottom = eb ∙ below (getD l rO 0) (8 * (h + 1)) (placed .above) (placed .beneath) (omega arith)
 
-  module _ (pc halt marks : ℕ) where
+  pub low-is : (g : List ℕ) (pc halt marks : ℕ) → low ≡ lowered (made g l pc halt marks) x h
+  low-is g pc halt marks = ew ∙ ap (λ (n : ℕ). min (h + n) (getD l rG 0)) (ec (made g l pc halt marks) refl)
+
+  -- the frame is there
+  pub frame-read : worst (refusing (shapesOf w)) (bottomOf l h) (min h (getD l rG 0)) ≡ 0 → worst (refusing (shapesOf w)) bottom (min h low) ≡ 0
+  frame-read pass = let m : min h low ≡ min h (getD l rG 0) = omega arith in rw (at-bottom, m) pass
+
+  module _ (g g₁ g₂ : List ℕ) (pc halt marks : ℕ) (e₁ : made g₁ l pc halt marks ≡ betweenBy w bottom (made g l pc halt marks) x h) (e₂ : g₂ ≡ over (λ (k : ℕ). 0) low (getD l rG 0) g₁) where
     abbrev s : State
     s = made g l pc halt marks
 
-    counts : count ≡ countOf s x
-    counts = ec s refl
+    abbrev locals : List ℕ
+    locals = looks both w (bottomOf l h) (min h (getD l rG 0))
 
-    same : (k : ℕ) → k < getD l rG 0 → restoredBy w bottom last h count g k ≡ restored s x h (looks both w (bottomOf l h) (min h (getD l rG 0))) k
-    unfolding restored
-    same k m =
-        rw at-bottom (⊎-elim
-        (λ lo. let n : k < min h (getD l rG 0) = omega arith in
-        rw (lt-ltb k h lo) (run-read w (bottomOf l h) (min h (getD l rG 0)) pass k (bottomOf l h + 8 * k) n refl ∙ sym (getD-looks both one-lawful (min h (getD l rG 0)) w (bottomOf l h) k n)))
-        (λ hi. rw (le-ltb k h hi, counts, el l pc halt marks refl))
-        (lt-or-le k h))
-
-    pub left : made g′ (set (set (set l rL low) rO bottom) rS bottom) pc halt marks ≡ popped s x h (looks both w (bottomOf l h) (min h (getD l rG 0)))
-    unfolding popped unslide spilled withSpecial
+    pub left : made g₂ (set (set (set l rL low) rO bottom) rS bottom) pc halt marks ≡ popped s x h locals
+    unfolding popped unslide spilled withSpecial cleared
     left =
-        let gs : g′ ≡ over (restored s x h (looks both w (bottomOf l h) (min h (getD l rG 0)))) 0 (getD l rG 0) g = eg ∙ over-alike _ _ (getD l rG 0) g same in
+        let first : g₁ ≡ between s x h locals .general = ap (λ (t : State). t .general) e₁ ∙ ap (λ (a : ℕ). betweenBy w a s x h .general) at-bottom in
+        let gs : g₂ ≡ popped s x h locals .general = e₂ ∙ rw (first, low-is g pc halt marks) (then-clears s x h locals) in
         let at : getD (set (set l rL low) rO bottom) rO 0 ≡ bottom = getD-set-same (set l rL low) rO bottom 0 (simp length-set (held .long)) in
         let top : set (set (set l rL low) rO bottom) rS bottom ≡ set (set (set l rL low) rO bottom) rS (getD (set (set l rL low) rO bottom) rO 0) = ap (set (set (set l rL low) rO bottom) rS) (sym at) in
-        rw (gs, top, ew, counts, at-bottom)
+        rw (gs, top, low-is g pc halt marks, at-bottom)

@@ -1,35 +1,15 @@
--- Laws of a range of registers, `over`, for loops that read the registers that they write: what lies out of a range, two functions alike
--- in it, a loop that goes down and where it ends. Those of any loop are in crate machine, RegisterRanges.
+-- Laws of a range of registers, `over`, for loops that read the registers that they write: a loop that goes down
+-- and where it ends. Those of any loop are in crate machine, RegisterRanges; what lies out of a range is in model's Fill.
 use mathlib.Core.Path.{_≡_, sym, ap, _∙_}
 use mathlib.Core.Logic.{⊎-elim}
 use mathlib.Core.List.{List}
 use Prim.Native.Nat.{ℕ, _+_, _≤_, _<_, min}
 use native.Mathlib.Nat.{eq-or-lt-of-le}
 use native.Mathlib.Omega.{arith}
-use lib.ListN.{length, getD, set, length-set, List·getD-eq-default}
+use lib.ListN.{length, getD, set, length-set}
 use lib.Seq.{ext-getD, getD-set-same, getD-set-other}
 use Rattle.model.specs.Fill.{over}
 use Rattle.model.proofs.Fill.{lt-or-le, length-over, over-in, over-below, over-above, over-none}
-
--- what lies out of a range, at any index
-module _ (f : ℕ → ℕ) (a b : ℕ) (l : List ℕ) (k : ℕ) where
-  past : length l ≤ k → getD (over f a b l) k 0 ≡ getD l k 0
-  past h = List·getD-eq-default (over f a b l) 0 (omega (arith, length-over f a b l)) ∙ sym (List·getD-eq-default l 0 h)
-
-  pub over-after : b ≤ k → getD (over f a b l) k 0 ≡ getD l k 0
-  over-after h = ⊎-elim (over-above f a b l k h) past (lt-or-le k (length l))
-
-  pub over-before : k < a → getD (over f a b l) k 0 ≡ getD l k 0
-  over-before h = ⊎-elim (over-below f a b l k h) past (lt-or-le k (length l))
-
--- two functions alike in the range
-pub over-alike : (f g : ℕ → ℕ) (b : ℕ) (l : List ℕ) → ((k : ℕ) → k < b → f k ≡ g k) → over f 0 b l ≡ over g 0 b l
-over-alike f g b l e =
-    ext-getD 0 (over f 0 b l) (over g 0 b l) (length-over f 0 b l ∙ sym (length-over g 0 b l))
-    (λ k n. let m : k < length l = omega (arith, length-over f 0 b l) in
-    ⊎-elim (λ lo. over-in f 0 b l k (omega arith) lo m ∙ e k lo ∙ sym (over-in g 0 b l k (omega arith) lo m))
-    (λ hi. over-above f 0 b l k hi m ∙ sym (over-above g 0 b l k hi m))
-    (lt-or-le k b))
 
 -- one element more below: what a loop that goes down does in a turn
 pub over-down : (f : ℕ → ℕ) (i b : ℕ) (l : List ℕ) (v : ℕ) → i < b → v ≡ f i → set (over f (i + 1) b l) i v ≡ over f i b l

@@ -3,13 +3,13 @@ use Prim.Native.Nat.{ℕ, _+_, _-_, _*_, _%_, _^_, _≤_, _<_, min}
 use mathlib.Core.Path.{_≡_}
 use mathlib.Core.Bool.{true, false, cond}
 use mathlib.Core.List.{List}
-use lib.Dec.{ltb, eqb}
+use lib.Dec.{eqb}
 use lib.ListN.{length, getD}
 use Rattle.model.specs.Memory.{Windows, shapesOf, ruled, both}
 use Rattle.model.specs.Plan.{Outcome, looks}
 use Rattle.model.specs.Registers.{rJ, rO, rG, rL, stackStart, sp, admissible, goes}
 use Rattle.model.specs.Frames.{hole, pushFrame, noFrame, misplaced, popped, popFrame}
-use Rattle.machine.specs.Octas.{readOcta}
+use Rattle.model.specs.PopOrder.{between}
 use Rattle.stack.specs.GivenBack.{guardedOn, Gives}
 use Rattle.model.specs.declared.State.{State}
 use Rattle.model.specs.declared.Reply.{Reply}
@@ -82,7 +82,6 @@ bottomOf special h = getD special rO 0 - 8 * (h + 1)
 abbrev pub poppedAs : Windows → State → ℕ → ℕ → State
 poppedAs w s x h = popped s x h (looks both w (bottomOf (s .special) h) (min h (sp s rG)))
 
--- $k of the caller, from the window, the last output, the hole, the count and the callee's registers
-abbrev pub restoredBy : Windows → ℕ → ℕ → ℕ → ℕ → List ℕ → ℕ → ℕ
-restoredBy w bottom last h count general k =
-    cond (ltb k h) (readOcta w (bottom + 8 * k)) (cond (eqb k h) last (cond (ltb k (h + count)) (getD general (k - h - 1) 0) 0))
+-- the state between POP's two stages, by the frame with hole h that starts at `bottom`
+abbrev pub betweenBy : Windows → ℕ → State → ℕ → ℕ → State
+betweenBy w bottom s x h = between s x h (looks both w bottom (min h (sp s rG)))

@@ -8,10 +8,11 @@ ghost use Rattle.model.specs.Memory.{shapesOf, both};
 ghost use Rattle.model.specs.Plan.{worst, puts};
 ghost use Rattle.model.specs.Registers.{rO, rG, rL, sp};
 ghost use Rattle.model.specs.Frames.{hole, framed, pushed, countOf, lastOutput, misplaced};
+ghost use Rattle.model.specs.PopOrder.{lowered};
 ghost use Rattle.model.specs.Parts.{made, lent};
 ghost use Rattle.model.specs.Step.{refusing};
 ghost use Rattle.model.specs.declared.State.{State};
-ghost use Rattle.stack.specs.PushPop.{Held, Placed, PushGives, restoredBy, bottomOf, poppedAs, PassedPopGives, PopGives};
+ghost use Rattle.stack.specs.PushPop.{Held, Placed, PushGives, bottomOf, betweenBy, poppedAs, PassedPopGives, PopGives};
 use model::Reply;
 use model::State;
 
@@ -164,30 +165,32 @@ fn slide_up(general: &mut [u64; 256], by: u64, to: u64)
     }
 }
 
-/// The registers below rG become the caller's: 0 above the outputs, the outputs above the hole, the last one in it, the locals below.
+/// The restored locals and the outputs, which come first: the outputs above the hole, the last one in it, the locals below. Nothing from `low`, the
+/// new rL, up is written; with no outputs that is the hole too.
 fn restore(
     general: &mut [u64; 256],
     window: &[u8],
     base: u64,
     bottom: u64,
-    last: u64,
+    rl: u64,
+    x: u8,
     h: u64,
-    count: u64,
-    rg: u64,
+    low: u64,
 )
-    requires { ⌜ (h ≤ 255) × (count ≤ 256) × (rg ≤ 255) ⌝ }
-    ensures { λ _. ⌜ now (general .exit)
-        ≡ over (restoredBy (lent base (now (window .entry))) bottom last h count (now (general .entry))) 0 rg (now (general .entry)) ⌝ }
+    requires { ⌜ (h ≤ 255) × (low ≤ 255) × (worst (refusing (shapesOf (lent base (now window)))) bottom (min h low) ≡ 0) ⌝ }
+    ensures { λ _. ⌜ ((special : List ℕ) (pc halt marks : ℕ) → getD special rL 0 ≡ rl
+        → low ≡ lowered (made (now (general .entry)) special pc halt marks) x h
+        → made (now (general .exit)) special pc halt marks
+        ≡ betweenBy (lent base (now (window .entry))) bottom (made (now (general .entry)) special pc halt marks) x h) ⌝ }
 {
-    let low = machine::number::least(h + count, rg);
-    machine::registers::clear_range(general, low, rg);
+    let last = last_output(general, rl, x);
     slide_up(general, h + 1, low);
-    if h < rg {
+    if h < low {
         general[h as usize] = last;
         machine::memory::load_range(general, window, base, bottom, 0, h);
         return;
     }
-    machine::memory::load_range(general, window, base, bottom, 0, rg);
+    machine::memory::load_range(general, window, base, bottom, 0, low);
 }
 
 /// Whether rO, above the stack's start, cannot hold a frame.
@@ -200,7 +203,7 @@ fn is_misplaced(ro: u64) -> bool
     true
 }
 
-/// The registers after a pop with hole h.
+/// The registers after a pop with hole h: written, then cleared from the new rL to rG − 1.
 fn leave(general: &mut [u64; 256], special: &mut [u64; 32], window: &[u8], base: u64, x: u8, h: u64)
     requires { ⌜ (Held (now special)) × (h ≤ 255) × (Placed (now special))
         × (worst (refusing (shapesOf (lent base (now window)))) (bottomOf (now special) h) (min h (getD (now special) rG 0)) ≡ 0) ⌝ }
@@ -212,9 +215,9 @@ fn leave(general: &mut [u64; 256], special: &mut [u64; 32], window: &[u8], base:
     let rl = special[State::RL];
     let bottom = machine::number::wrapping_sub(ro, 8 * (h + 1));
     let count = count_of(rl, x);
-    let last = last_output(general, rl, x);
     let low = machine::number::least(h + count, rg);
-    restore(general, window, base, bottom, last, h, count, rg);
+    restore(general, window, base, bottom, rl, x, h, low);
+    machine::registers::clear_range(general, low, rg);
     special[State::RL] = low;
     special[State::RO] = bottom;
     special[State::RS] = bottom;

@@ -1,6 +1,8 @@
--- `leave` meets its contract: what its calls leave is what POP does to the registers.
+-- `leave` meets its contract: clearing from the new rL up makes the POP of the state between.
+use mathlib.Core.Path.{refl}
+use native.Mathlib.Omega.{arith}
 use Rattle.model.specs.Parts.{lent}
-use Rattle.stack.proofs.PushPopRegisters.{left}
+use Rattle.stack.proofs.PushPopRegisters.{frame-read, low-is, left}
 use borrow.Author.Needs.{needs}
 use Rattle.stack.proofs.frame.leave.Statement.{statement}
 use Rattle.stack.proofs.frame.leave.Tie as tie
@@ -26,9 +28,6 @@ wrapping-sub-requires c κs = search needs
 count-of-requires : tie.Need-count-of-requires
 count-of-requires c κs = search needs
 
-last-output-requires : tie.Need-last-output-requires
-last-output-requires c κs = search needs
-
 add-least : tie.Need-add-least
 add-least c = search needs
 
@@ -36,7 +35,18 @@ least-requires : tie.Need-least-requires
 least-requires c κs = search needs
 
 restore-requires : tie.Need-restore-requires
-restore-requires c κs = search needs
+restore-requires c κs =
+    let counts = c .before .before in
+    let start = counts .before .before .before .before .before .before in
+    let a = start .args in (
+      start .pre .1,
+      omega (arith, c .before .least .ensures, start .pre .0 .g-high),
+      frame-read (lent (a .base) (a .window .now)) (a .special .now) (a .x) (a .h) _ _ _ (start .pre .0) (start .pre .2) (start .pre .1)
+          (counts .before .wrapping-sub .ensures) (counts .count-of .ensures .0) (c .before .least .ensures) (start .pre .3),
+    )
+
+clear-range-requires : tie.Need-clear-range-requires
+clear-range-requires c κs = search needs
 
 element-write-special : tie.Need-element-write-special
 element-write-special c = search needs
@@ -49,11 +59,17 @@ element-write-special-3 c = search needs
 
 returns : tie.Need-returns
 returns c =
-    let counts = c .before .before .before .before in
-    let start = counts .before .before .before .before .before .before .before in
+    λ pc halt marks.
+    let restores = c .before .before in
+    let counts = restores .before .before .before in
+    let start = counts .before .before .before .before .before .before in
     let a = start .args in
-    left (lent (a .base) (a .window .now)) (a .general .now) (a .special .now) _ (a .x) (a .h) _ _ _ _ (start .pre .0) (start .pre .2) (start .pre .1) (start .pre .3)
-    (counts .before .before .wrapping-sub .ensures) (counts .before .count-of .ensures .0) (c .before .before .before .last-output .ensures) (c .before .before .least .ensures) (c .restore .ensures)
+    left (lent (a .base) (a .window .now)) (a .special .now) (a .x) (a .h) _ _ _ (start .pre .0) (start .pre .2) (start .pre .1)
+    (counts .before .wrapping-sub .ensures) (counts .count-of .ensures .0) (restores .before .before .least .ensures) (a .general .now) _ _ pc halt marks
+    (restores .restore .ensures (a .special .now) pc halt marks refl
+    (low-is (lent (a .base) (a .window .now)) (a .special .now) (a .x) (a .h) _ _ _ (start .pre .0) (start .pre .2) (start .pre .1)
+    (counts .before .wrapping-sub .ensures) (counts .count-of .ensures .0) (restores .before .before .least .ensures) (a .general .now) pc halt marks))
+    (c .clear-range .ensures)
 
 pub leave-spec : {M : Type 1} → statement M
 leave-spec =
@@ -66,10 +82,10 @@ leave-spec =
     mul-wrapping-sub
     wrapping-sub-requires
     count-of-requires
-    last-output-requires
     add-least
     least-requires
     restore-requires
+    clear-range-requires
     element-write-special
     element-write-special-2
     element-write-special-3

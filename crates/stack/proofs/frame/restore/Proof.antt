@@ -1,19 +1,13 @@
--- `restore` meets its contract: the parts that its calls make are the caller's registers.
+-- `restore` meets its contract: the parts that its calls write are the state between POP's two stages.
 use mathlib.Core.Path.{refl}
-use Rattle.model.specs.Parts.{lent}
-use Rattle.stack.proofs.PushPopRegisters.{restored-hole, restored-all}
+use Rattle.model.specs.Parts.{made, lent}
+use Rattle.stack.proofs.PushPopRegisters.{written-hole, written-all}
 use borrow.Author.Needs.{needs}
 use Rattle.stack.proofs.frame.restore.Statement.{statement}
 use Rattle.stack.proofs.frame.restore.Tie as tie
 
-add-least : tie.Need-add-least
-add-least c = search needs
-
-least-requires : tie.Need-least-requires
-least-requires c κs = search needs
-
-clear-range-requires : tie.Need-clear-range-requires
-clear-range-requires c κs = search needs
+last-output-requires : tie.Need-last-output-requires
+last-output-requires c κs = search needs
 
 add-slide-up : tie.Need-add-slide-up
 add-slide-up c = search needs
@@ -32,30 +26,31 @@ load-range-requires c κs = search needs
 
 returns : tie.Need-returns
 returns c =
+    λ special pc halt marks l low.
     let slides = c .before .before .before in
-    let clears = slides .before .before in
-    let a = clears .before .before .before .before .args in
-    restored-hole (lent (a .base) (a .window .now)) (a .bottom) (a .last) (a .h) (a .count) (a .rg) (a .general .now) _ _ _ _ _
-    (clears .before .before .least .ensures) refl (clears .clear-range .ensures) (slides .slide-up .ensures) (c .before .before .if1 .taken) (c .load-range .ensures)
+    let outputs = slides .before .before in
+    let start = outputs .before .before .before in
+    let a = start .args in
+    written-hole (lent (a .base) (a .window .now)) (a .bottom) (a .h) (a .low) (a .x) (made (a .general .now) special pc halt marks) low (start .pre .2) _ _ _ refl (slides .slide-up .ensures)
+    _ (outputs .last-output .ensures special pc halt marks l) (c .before .before .if1 .taken) (c .load-range .ensures)
 
 load-range-requires-2 : tie.Need-load-range-requires-2
 load-range-requires-2 c κs = search needs
 
 returns-2 : tie.Need-returns-2
 returns-2 c =
+    λ special pc halt marks l low.
     let slides = c .before .before .before in
-    let clears = slides .before .before in
-    let a = clears .before .before .before .before .args in
-    restored-all (lent (a .base) (a .window .now)) (a .bottom) (a .last) (a .h) (a .count) (a .rg) (a .general .now) _ _ _ _ _
-    (clears .before .before .least .ensures) refl (clears .clear-range .ensures) (slides .slide-up .ensures) (c .before .before .if1 .left) (c .load-range2 .ensures)
+    let start = slides .before .before .before .before .before in
+    let a = start .args in
+    written-all (lent (a .base) (a .window .now)) (a .bottom) (a .h) (a .low) (a .x) (made (a .general .now) special pc halt marks) low (start .pre .2) _ _ _ refl (slides .slide-up .ensures)
+    (c .before .before .if1 .left) (c .load-range2 .ensures)
 
 pub restore-spec : {M : Type 1} → statement M
 restore-spec =
     tie.close
     (tie.spec
-    add-least
-    least-requires
-    clear-range-requires
+    last-output-requires
     add-slide-up
     slide-up-requires
     mul-general

@@ -4,9 +4,8 @@ use native.Mathlib.Omega.{arith}
 use Prim.Native.Nat.{ℕ, _+_, _-_, _≤_}
 use lib.ListN.{getD}
 use Rattle.model.specs.Fill.{over}
-use Rattle.model.proofs.Fill.{over-none}
+use Rattle.model.proofs.Fill.{over-none, over-after}
 use Rattle.machine.proofs.RegisterRanges.{over-next}
-use Rattle.stack.proofs.SlidRanges.{over-after}
 use Rattle.stack.proofs.frame.slide.Statement.{statement}
 use Rattle.stack.proofs.frame.slide.Tie as tie
 

@@ -4,8 +4,8 @@ use native.Mathlib.Omega.{arith}
 use Prim.Native.Nat.{ℕ, _+_, _-_, _≤_, min}
 use lib.ListN.{getD, set}
 use Rattle.model.specs.Fill.{over}
-use Rattle.model.proofs.Fill.{over-none}
-use Rattle.stack.proofs.SlidRanges.{over-before, over-down, over-start}
+use Rattle.model.proofs.Fill.{over-none, over-before}
+use Rattle.stack.proofs.SlidRanges.{over-down, over-start}
 use Rattle.stack.proofs.frame.slide_up.Statement.{statement}
 use Rattle.stack.proofs.frame.slide_up.Tie as tie
 
