@@ -28,7 +28,7 @@ use Rattle.model.proofs.Bools.{each, at-each}
 use Rattle.model.proofs.Fill.{lt-or-le}
 use Rattle.instruction.specs.NoMemoryArms.{arithmeticOf, Told}
 use Rattle.instruction.proofs.NoMemoryReplies.{next-is}
-use Rattle.instruction.proofs.Groups.{Missed, missed}
+use Rattle.decode.proofs.Groups.{Missed, missed}
 
 -- ---- the operation
 

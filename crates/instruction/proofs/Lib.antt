@@ -1,12 +1,8 @@
 -- The laws of this crate's definitions, for its proofs and for those of the crates above it.
-pub mod Counts
-pub mod Fields
-pub mod Conditions
 pub mod NoMemoryReplies
 pub mod Interrupts
 pub mod PushPopSent
-pub mod Groups
-pub mod Operands
+pub mod Keys
 pub mod ArmSteps
 pub mod ControlArms
 pub mod SaveUnsaveSent

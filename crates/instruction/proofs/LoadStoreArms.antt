@@ -1,5 +1,5 @@
 -- Laws of loads and stores, over plain variables: an address that is refused; then what a load leaves, what a store leaves where $X fits and where it
--- raises V; the step of their opcodes. The operand: Operands.
+-- raises V; the step of their opcodes. The operand: Operands of crate decode.
 use mathlib.Core.Path.{_≡_, refl, ap, _∙_}
 use mathlib.Core.Bool.{Bool, true, false, cond}
 use mathlib.Core.List.{List, _∷_, []}
@@ -23,11 +23,12 @@ use Rattle.model.specs.declared.Reply.the-variants.{Done, Missing}
 use Rattle.model.proofs.ArmAnswers.{worst-six}
 use Rattle.model.proofs.Entry.{step-open}
 use Rattle.model.proofs.StepByArm.{step-told, step-refused}
+use Rattle.decode.proofs.Groups.{Missed, load-arm, store-arm, arithmetic-arm}
 use Rattle.instruction.specs.NoMemoryArms.{arithmeticOf, Told}
 use Rattle.instruction.specs.StepAnswer.{Whole}
 use Rattle.instruction.specs.Arms.{carriedOut, loadOf, storeOf, rangedOf}
 use Rattle.instruction.proofs.NoMemoryReplies.{next-is}
-use Rattle.instruction.proofs.Groups.{Missed, keys, load-arm, store-arm, arithmetic-arm, no-arm}
+use Rattle.instruction.proofs.Keys.{keys, no-arm}
 
 -- ---- one octabyte, read first
 

@@ -1,5 +1,4 @@
 -- What the instruction layer's contracts cite beside the model.
 pub mod NoMemoryArms
-pub mod Counts
 pub mod StepAnswer
 pub mod Arms

@@ -24,7 +24,7 @@ pub fn save_to(
     let reply = stack::context::save_context(general, special, halt, marks, window, base, x);
     match reply {
         Reply::Done => {
-            *pc = super::target::following(*pc);
+            *pc = decode::target::following(*pc);
         }
         _ => {}
     }
@@ -58,7 +58,7 @@ pub fn unsave_from(
     );
     match reply {
         Reply::Done => {
-            *pc = super::target::following(*pc);
+            *pc = decode::target::following(*pc);
         }
         _ => {}
     }

@@ -10,9 +10,8 @@ ghost use Rattle.instruction.specs.NoMemoryArms.{Told};
 ghost use Rattle.instruction.specs.StepAnswer.{Whole};
 ghost use Rattle.instruction.specs.Arms.{branchOf, jumpOf, goOf, pushGoOf, pushJumpOf};
 use super::calls;
-use super::opcode;
 use super::registers;
-use super::target;
+use decode::target;
 use model::Reply;
 
 /// A branch.

@@ -5,21 +5,12 @@ ghost use mathlib.Core.List.{List};
 ghost use Prim.Native.Nat.{ℕ, _+_, _/_, _%_, _^_, _<_, _≤_};
 ghost use lib.Dec.{eqb};
 ghost use lib.Count.{leadingZeros};
-ghost use Rattle.model.specs.Trips.{wordOf, interrupted, tripTo, withAdded, raised};
+ghost use Rattle.model.specs.Trips.{interrupted, tripTo, withAdded, raised};
 ghost use Rattle.model.specs.Step.{isNamed, exceptionOf};
 ghost use Rattle.model.specs.Parts.{made};
 ghost use Rattle.instruction.specs.NoMemoryArms.{tripOf, trapStep, Told};
 use model::Reply;
 use model::State;
-
-/// 2^63 + op × 2^24 + XYZ.
-pub fn word_of(op: u8, x: u8, y: u8, z: u8) -> u64
-    ensures { λ r. ⌜ r ≡ wordOf op x y z ⌝ }
-{
-    0x8000000000000000
-        + (op as u64) * 0x1000000
-        + (65536 * (x as u64) + (256 * (y as u64) + z as u64))
-}
 
 /// Whether vector k is marked loaded.
 fn is_loaded(marks: u64, k: u64) -> bool
@@ -49,7 +40,7 @@ fn set_interrupt(
 {
     let rj = special[State::RJ];
     let last = general[255];
-    let next = super::target::following(pc);
+    let next = decode::target::following(pc);
     special[b] = last;
     general[255] = rj;
     special[w] = next;
@@ -113,7 +104,7 @@ pub fn trip_arm(
         (tripOf (made (now (general .entry)) (now (special .entry)) (now (pc .entry)) (now (halt .entry)) marks) op x y z)
         r (made (now (general .exit)) (now (special .exit)) (now (pc .exit)) (now (halt .exit)) marks) ⌝ }
 {
-    let word = word_of(op, x, y, z);
+    let word = decode::word::word_of(op, x, y, z);
     let u = general[y as usize];
     let v = general[z as usize];
     trip(general, special, pc, halt, marks, 0, word, u, v)
@@ -156,7 +147,7 @@ pub fn trap_arm(
     if is_named(x, y) {
         return Reply::NamedTrap;
     }
-    let word = word_of(op, x, y, z);
+    let word = decode::word::word_of(op, x, y, z);
     let u = general[y as usize];
     let v = general[z as usize];
     set_interrupt(
@@ -215,7 +206,7 @@ pub(crate) fn raise(
     let taken = flags & (((ra / 256) % 256) as u8);
     add_disabled(special, flags);
     if taken == 0 {
-        *pc = super::target::following(*pc);
+        *pc = decode::target::following(*pc);
         return Reply::Done;
     }
     let k = vector_of(taken);
@@ -245,6 +236,6 @@ pub fn raise_exceptions(
     if !stack::pass::admissible(special, marks) {
         return Reply::NotAdmissible;
     }
-    let word = word_of(op, x, y, z);
+    let word = decode::word::word_of(op, x, y, z);
     raise(general, special, pc, halt, marks, flags, word, y_val, z_val)
 }

@@ -3,10 +3,7 @@
 //! - `step`: one step; 1 and 2 judged, then the choice by opcode
 //! - `control`, `system`: the arms of control.rs and system.rs that are more than a call of another file's
 //! - `operations`: whole-number operations in a step, by crate arithmetic
-//! - `load_store`: loads and stores; `operand`: sizes, places and signs of what they move
-//! - `opcode`: the opcodes by name, and their ranges
-//! - `target`: addresses and conditions
-//! - `field`: which field reaches an address
+//! - `load_store`: loads and stores
 //! - `registers`: the arms that move nothing but registers
 //! - `calls`: those that work on frames
 //! - `contexts`: those that work on saved contexts
@@ -17,13 +14,9 @@ pub mod calls;
 pub mod contexts;
 mod control;
 pub mod exceptions;
-pub mod field;
 mod load_store;
-pub mod opcode;
-mod operand;
 mod operations;
 pub mod registers;
 pub mod step;
 mod system;
-pub mod target;
 pub mod value;

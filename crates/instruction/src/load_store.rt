@@ -5,8 +5,8 @@ ghost use Rattle.instruction.specs.StepAnswer.{Whole};
 ghost use Rattle.instruction.specs.Arms.{loadOf, storeOf};
 use super::control;
 use super::exceptions;
-use super::operand;
-use super::target;
+use decode::operand;
+use decode::target;
 use model::Reply;
 
 /// Integer overflow, among the flags of an exception.
@@ -34,7 +34,7 @@ pub(crate) fn load(
         return Reply::Missing;
     }
     let v = stack::pass::read_octa(window, base, addr);
-    let u = operand::extended(op, operand::operand(op, addr, v));
+    let u = operand::loaded(op, addr, v);
     stack::pass::set_register(general, special, x, u);
     *pc = target::following(*pc);
     Reply::Done
@@ -70,6 +70,6 @@ pub(crate) fn store(
         *pc = target::following(*pc);
         return Reply::Done;
     }
-    let word = exceptions::word_of(op, x, y, z);
+    let word = decode::word::word_of(op, x, y, z);
     exceptions::raise(general, special, pc, halt, marks, FLAG_V, word, addr, u)
 }

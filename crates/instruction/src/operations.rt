@@ -7,8 +7,8 @@ ghost use Rattle.model.specs.Control.{operandOf};
 ghost use Rattle.model.specs.Parts.{made};
 ghost use Rattle.instruction.specs.NoMemoryArms.{arithmeticOf, Told};
 use super::exceptions;
-use super::opcode;
-use super::target;
+use decode::opcode;
+use decode::target;
 use model::Operands;
 use model::Operation;
 use model::Reply;
@@ -100,6 +100,6 @@ pub(crate) fn compute(
         *pc = target::following(*pc);
         return Reply::Done;
     }
-    let word = exceptions::word_of(op, x, y, z);
+    let word = decode::word::word_of(op, x, y, z);
     exceptions::raise(general, special, pc, halt, marks, results.flags, word, u, v)
 }

@@ -26,9 +26,9 @@ pub fn get_address(
         r (made (now (general .exit)) (now (special .exit)) (now (pc .exit)) halt marks)) ⌝ }
 {
     let at = *pc;
-    let target = super::target::near(at, op, y, z);
+    let target = decode::target::near(at, op, y, z);
     stack::pass::set_register(general, special, x, target);
-    *pc = super::target::following(at);
+    *pc = decode::target::following(at);
     Reply::Done
 }
 
@@ -37,7 +37,7 @@ pub fn go_to(general: &mut [u64; 256], special: &mut [u64; 32], pc: &mut u64, x:
     ensures { λ _. ⌜ ((halt marks : ℕ) → made (now (general .exit)) (now (special .exit)) (now (pc .exit)) halt marks
         ≡ goTo (made (now (general .entry)) (now (special .entry)) (now (pc .entry)) halt marks) x target) ⌝ }
 {
-    let next = super::target::following(*pc);
+    let next = decode::target::following(*pc);
     stack::pass::set_register(general, special, x, next);
     *pc = target;
 }
@@ -59,7 +59,7 @@ pub fn get_special(
     }
     let v = special[z as usize];
     stack::pass::set_register(general, special, x, v);
-    *pc = super::target::following(*pc);
+    *pc = decode::target::following(*pc);
     Reply::Done
 }
 
@@ -79,7 +79,7 @@ pub fn put_value(
     let reply = stack::pass::put_special(general, special, x, value);
     match reply {
         Reply::Done => {
-            *pc = super::target::following(*pc);
+            *pc = decode::target::following(*pc);
         }
         _ => {
             *halt = 1;
@@ -103,6 +103,6 @@ pub fn synchronize(pc: &mut u64, halt: &mut u64, x: u8, y: u8, z: u8) -> Reply
         *halt = 1;
         return Reply::SyncPrivileged;
     }
-    *pc = super::target::following(*pc);
+    *pc = decode::target::following(*pc);
     Reply::Done
 }

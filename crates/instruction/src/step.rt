@@ -12,10 +12,10 @@ use super::contexts;
 use super::control;
 use super::exceptions;
 use super::load_store;
-use super::opcode;
 use super::operations;
 use super::registers;
 use super::system;
+use decode::opcode;
 use model::Reply;
 
 /// The opcodes that come in ranges, the branches apart: a question for each range, then 3.

@@ -17,7 +17,7 @@ pub(crate) fn skip(pc: &mut u64) -> Reply
         (say 0 (next (made general special (now (pc .entry)) halt marks)))
         r (made general special (now (pc .exit)) halt marks)) ⌝ }
 {
-    *pc = super::target::following(*pc);
+    *pc = decode::target::following(*pc);
     Reply::Done
 }
 

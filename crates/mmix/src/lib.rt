@@ -291,7 +291,7 @@ fn tell_reach(reach: Reach, backward: &mut u8, field: &mut u32) -> u64
 pub extern "C" fn mmix_branch_field(from: u64, to: u64, backward: &mut u8, field: &mut u32) -> u64
     ensures { λ r. ⌜ FieldTold (answerOf (fieldOf branchFields from to)) r (now (backward .exit)) (now (field .exit)) ⌝ }
 {
-    let reach = instruction::field::branch_field(from, to);
+    let reach = decode::field::branch_field(from, to);
     tell_reach(reach, backward, field)
 }
 
@@ -300,6 +300,6 @@ pub extern "C" fn mmix_branch_field(from: u64, to: u64, backward: &mut u8, field
 pub extern "C" fn mmix_jump_field(from: u64, to: u64, backward: &mut u8, field: &mut u32) -> u64
     ensures { λ r. ⌜ FieldTold (answerOf (fieldOf jumpFields from to)) r (now (backward .exit)) (now (field .exit)) ⌝ }
 {
-    let reach = instruction::field::jump_field(from, to);
+    let reach = decode::field::jump_field(from, to);
     tell_reach(reach, backward, field)
 }

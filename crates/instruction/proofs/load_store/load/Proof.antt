@@ -2,7 +2,6 @@
 use mathlib.Core.Path.{_∙_}
 use borrow.Author.Needs.{needs}
 use Rattle.model.specs.Parts.{made, lent}
-use Rattle.model.proofs.LoadStore.{operand-small}
 use Rattle.stack.proofs.PassedOctas.{octa-read}
 use Rattle.instruction.proofs.LoadStoreArms.{load-missing, load-done}
 use Rattle.instruction.proofs.load_store.load.Statement.{statement}
@@ -26,11 +25,8 @@ returns c =
 read-octa-requires : tie.Need-read-octa-requires
 read-octa-requires c κs = search needs
 
-operand-requires : tie.Need-operand-requires
-operand-requires c κs = search needs
-
-extended-requires : tie.Need-extended-requires
-extended-requires c κs = rw (c .operand .ensures) (operand-small _ _ _)
+loaded-requires : tie.Need-loaded-requires
+loaded-requires c κs = search needs
 
 set-register-requires : tie.Need-set-register-requires
 set-register-requires c κs = search needs
@@ -42,8 +38,8 @@ returns-2 : tie.Need-returns-2
 returns-2 c =
     λ halt marks.
     let sets = c .before .before in
-    let extends = sets .before .before .before in
-    let reads = extends .before .before in
+    let loads = sets .before .before .before in
+    let reads = loads .before in
     let else = reads .before in
     let test = else .before in
     let sums = test .before in
@@ -52,7 +48,7 @@ returns-2 c =
     let s = made (a .general .now) (a .special .now) (a .pc .now) halt marks in
     let there = rw (test .run-refusal .ensures) at (else .if1 .left) in
     load-done w s _ _ _ _ _ (sums .sum .ensures (a .special .now) (a .pc .now) halt marks) there _ _ _ _ _
-    (reads .read-octa .ensures ∙ octa-read w _ there) (rw (extends .before .operand .ensures) at (extends .extended .ensures)) (sets .set-register .ensures s) (c .following .ensures)
+    (reads .read-octa .ensures ∙ octa-read w _ there) (loads .loaded .ensures) (sets .set-register .ensures s) (c .following .ensures)
 
 pub load-spec : {M : Type 1} → statement M
 load-spec =
@@ -62,8 +58,7 @@ load-spec =
     run-refusal-requires
     returns
     read-octa-requires
-    operand-requires
-    extended-requires
+    loaded-requires
     set-register-requires
     following-requires
     returns-2)

@@ -3,7 +3,7 @@ use mathlib.Core.Path.{sym, _∙_}
 use borrow.Author.Needs.{needs}
 use Rattle.model.specs.Opcodes.{armOf}
 use Rattle.model.specs.Parts.{made}
-use Rattle.instruction.proofs.Groups.{branch-arm}
+use Rattle.decode.proofs.Groups.{branch-arm}
 use Rattle.instruction.proofs.ControlArms.{step-branch, step-go, step-push-go, step-jump, step-push-jump, step-get-address, step-pop}
 use Rattle.instruction.proofs.SystemArms.{trap-step, put-step, puti-step, save-step, unsave-step, sync-step, swym-step, get-step, trip-step}
 use Rattle.instruction.proofs.LoadStoreArms.{ranged-step}

@@ -1,0 +1,77 @@
+// The opcode bytes (mmixal.rs), by name: those that have an arm. An odd one is its neighbour's kin: backward, or with Z itself.
+ghost use mathlib.Core.Path.{_≡_};
+ghost use Rattle.model.specs.Opcodes.{among};
+
+pub const TRAP: u8 = 0x00;
+/// MUL to SRU, each with $Z and then with Z; of NEG to NEGUI, Y is a constant.
+pub const FIRST_ARITHMETIC: u8 = 0x18;
+
+pub const FIRST_NEGATION: u8 = 0x34;
+
+pub const LAST_NEGATION: u8 = 0x37;
+
+pub const LAST_ARITHMETIC: u8 = 0x3F;
+/// BN to BEV, then PBN to PBEV, each forward and then backward.
+pub const FIRST_BRANCH: u8 = 0x40;
+
+pub const LAST_BRANCH: u8 = 0x5F;
+
+/// LDB to LDOU, each with $Z and then with Z; the stores in the same order.
+pub const FIRST_LOAD: u8 = 0x80;
+
+pub const LAST_LOAD: u8 = 0x8F;
+
+pub const GO: u8 = 0x9E;
+
+pub const GOI: u8 = 0x9F;
+
+pub const FIRST_STORE: u8 = 0xA0;
+
+pub const LAST_STORE: u8 = 0xAF;
+
+pub const PUSHGO: u8 = 0xBE;
+
+pub const PUSHGOI: u8 = 0xBF;
+
+pub const JMP: u8 = 0xF0;
+
+pub const JMPB: u8 = 0xF1;
+
+pub const PUSHJ: u8 = 0xF2;
+
+pub const PUSHJB: u8 = 0xF3;
+
+pub const GETA: u8 = 0xF4;
+
+pub const GETAB: u8 = 0xF5;
+
+pub const PUT: u8 = 0xF6;
+
+pub const PUTI: u8 = 0xF7;
+
+pub const POP: u8 = 0xF8;
+
+pub const SAVE: u8 = 0xFA;
+
+pub const UNSAVE: u8 = 0xFB;
+
+pub const SYNC: u8 = 0xFC;
+
+pub const SWYM: u8 = 0xFD;
+
+pub const GET: u8 = 0xFE;
+
+pub const TRIP: u8 = 0xFF;
+
+/// Whether an opcode is one of a range.
+pub fn is_among(op: u8, first: u8, last: u8) -> bool
+    ensures { λ r. ⌜ r ≡ among first last op ⌝ }
+{
+    if op < first {
+        return false;
+    }
+    if op <= last {
+        return true;
+    }
+    false
+}
