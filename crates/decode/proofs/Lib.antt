@@ -4,3 +4,4 @@ mod Fields
 mod Conditions
 mod Operands
 pub mod Groups
+mod Operations

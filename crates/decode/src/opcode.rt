@@ -1,6 +1,7 @@
 // The opcode bytes (mmixal.rs), by name: those that have an arm. An odd one is its neighbour's kin: backward, or with Z itself.
 ghost use mathlib.Core.Path.{_≡_};
-ghost use Rattle.model.specs.Opcodes.{among};
+ghost use Rattle.model.specs.Opcodes.{among, operationOf};
+use model::Operation;
 
 pub const TRAP: u8 = 0x00;
 /// MUL to SRU, each with $Z and then with Z; of NEG to NEGUI, Y is a constant.
@@ -74,4 +75,32 @@ pub fn is_among(op: u8, first: u8, last: u8) -> bool
         return true;
     }
     false
+}
+
+/// The operation of an opcode.
+pub fn operation_of(op: u8) -> Operation
+    ensures { λ r. ⌜ r ≡ operationOf op ⌝ }
+{
+    match op / 2 {
+        0x0D => Operation::Mulu,
+        0x0E => Operation::Div,
+        0x0F => Operation::Divu,
+        0x10 => Operation::Add,
+        0x11 => Operation::Addu,
+        0x12 => Operation::Sub,
+        0x13 => Operation::Subu,
+        0x14 => Operation::Addu2,
+        0x15 => Operation::Addu4,
+        0x16 => Operation::Addu8,
+        0x17 => Operation::Addu16,
+        0x18 => Operation::Cmp,
+        0x19 => Operation::Cmpu,
+        0x1A => Operation::Neg,
+        0x1B => Operation::Negu,
+        0x1C => Operation::Sl,
+        0x1D => Operation::Slu,
+        0x1E => Operation::Sr,
+        0x1F => Operation::Sru,
+        _ => Operation::Mul,
+    }
 }

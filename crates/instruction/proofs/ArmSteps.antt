@@ -15,7 +15,7 @@ use Rattle.model.proofs.Entry.{performOn, step-open}
 use Rattle.model.proofs.StepByArm.{step-told}
 use Rattle.stack.specs.GivenBack.{guardedOn}
 use Rattle.stack.proofs.Judged.{guarded-open}
-use Rattle.instruction.specs.NoMemoryArms.{Told}
+use Rattle.exceptions.specs.Told.{Told}
 use Rattle.instruction.specs.StepAnswer.{Whole}
 
 module _ (w : Windows) (s : State) (a : admissible s ≡ true) (u : ruled (shapesOf w) ≡ true) (op x y z : ℕ) (r : Reply) (t : State)

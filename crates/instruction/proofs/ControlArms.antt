@@ -12,7 +12,7 @@ use Rattle.model.specs.Control.{near, sumOf, holds}
 use Rattle.model.specs.Step.{refusalOf, planOf, stepOf}
 use Rattle.model.specs.declared.State.{State}
 use Rattle.model.specs.declared.Reply.{Reply}
-use Rattle.instruction.specs.NoMemoryArms.{Told}
+use Rattle.exceptions.specs.Told.{Told}
 use Rattle.instruction.specs.StepAnswer.{Whole}
 use Rattle.instruction.specs.Arms.{branchOf, jumpOf, addressOf, goOf, callTo, pushGoOf, pushJumpOf, returnOf}
 use Rattle.instruction.proofs.ArmSteps.{told-step, stack-step}

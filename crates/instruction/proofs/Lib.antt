@@ -1,6 +1,5 @@
 -- The laws of this crate's definitions, for its proofs and for those of the crates above it.
 pub mod NoMemoryReplies
-pub mod Interrupts
 pub mod PushPopSent
 pub mod Keys
 pub mod ArmSteps

@@ -24,10 +24,11 @@ use Rattle.model.proofs.ArmAnswers.{worst-six}
 use Rattle.model.proofs.Entry.{step-open}
 use Rattle.model.proofs.StepByArm.{step-told, step-refused}
 use Rattle.decode.proofs.Groups.{Missed, load-arm, store-arm, arithmetic-arm}
-use Rattle.instruction.specs.NoMemoryArms.{arithmeticOf, Told}
+use Rattle.exceptions.specs.Told.{Told}
+use Rattle.exceptions.proofs.PcAndHalt.{next-is}
+use Rattle.instruction.specs.NoMemoryArms.{arithmeticOf}
 use Rattle.instruction.specs.StepAnswer.{Whole}
 use Rattle.instruction.specs.Arms.{carriedOut, loadOf, storeOf, rangedOf}
-use Rattle.instruction.proofs.NoMemoryReplies.{next-is}
 use Rattle.instruction.proofs.Keys.{keys, no-arm}
 
 -- ---- one octabyte, read first

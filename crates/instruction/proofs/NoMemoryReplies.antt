@@ -1,5 +1,5 @@
 -- Laws of what an arm that touches no memory tells, over plain variables: a reply and the parts that code leaves, from what its callees ensure.
--- First PC and the halt code, then GET, PUT (with the tags of replies), SYNC. Trips and traps: Interrupts.
+-- GET, PUT (with the tags of replies), SYNC. Trips and traps: Interrupts of crate exceptions.
 use mathlib.Core.Path.{_≡_, refl, sym, ap, _∙_}
 use mathlib.Core.Bool.{true, false, cond, _||_}
 use mathlib.Core.List.{List, [], _∷_}
@@ -9,7 +9,7 @@ use lib.Dec.{eqb, ltb}
 use types.Run.{OneOf, miss}
 use denote.Enum.Declared.{tagOf}
 use borrow.Author.Tests.{eqb-true, lt-ltb, le-ltb, le-leb, lt-leb, ne-eqb}
-use Rattle.model.specs.Registers.{withParts, rG, rL, rA, sp, goes, next, halted}
+use Rattle.model.specs.Registers.{withParts, rG, rL, rA, sp, next, halted}
 use Rattle.model.specs.System.{isPrivileged, isIllegal, putRefusal, putState, putSpecial, syncOf}
 use Rattle.model.specs.Parts.{made}
 use Rattle.model.specs.NoMemory.{say}
@@ -19,22 +19,9 @@ use Rattle.model.specs.declared.Reply.{Reply}
 use Rattle.model.specs.declared.Reply.the-variants.{Done, NoSpecial, SyncPrivileged, SyncIllegal}
 use Rattle.model.proofs.Reply.{the-type}
 use Rattle.model.proofs.Bools.{each, at-each, on}
-use Rattle.instruction.specs.NoMemoryArms.{getOf, Told}
-
--- ---- PC
-
-module _ (s t : State) (g l : List ℕ) (e : withParts s g l ≡ t) where
-  pub goes-is : (n : ℕ) → made g l n (s .halt) (s .marks) ≡ goes t n
-  unfolding goes
-  goes-is n = ap (λ (u : State). goes u n) e
-
-  pub next-is : (n : ℕ) → n ≡ (s .pc + 4) % 2 ^ 64 → made g l n (s .halt) (s .marks) ≡ next t
-  unfolding goes
-  next-is n h = ap (λ (k : ℕ). made g l k (s .halt) (s .marks)) h ∙ ap next e
-
-  pub halted-is : made g l (s .pc) 1 (s .marks) ≡ halted t
-  unfolding halted
-  halted-is = ap halted e
+use Rattle.exceptions.specs.Told.{Told}
+use Rattle.exceptions.proofs.PcAndHalt.{next-is, halted-is}
+use Rattle.instruction.specs.NoMemoryArms.{getOf}
 
 -- ---- GET
 

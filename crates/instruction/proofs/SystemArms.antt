@@ -20,7 +20,9 @@ use Rattle.model.specs.declared.Reply.{Reply}
 use Rattle.model.proofs.Bools.{on}
 use Rattle.model.proofs.StepByArm.{step-told, step-refused}
 use Rattle.stack.specs.SaveUnsave.{saveOf, unsaveOf}
-use Rattle.instruction.specs.NoMemoryArms.{getOf, putOf, tripOf, trapStep, Told}
+use Rattle.exceptions.specs.Told.{Told}
+use Rattle.exceptions.specs.Interrupts.{tripOf, trapStep}
+use Rattle.instruction.specs.NoMemoryArms.{getOf, putOf}
 use Rattle.instruction.specs.StepAnswer.{Whole}
 use Rattle.instruction.specs.Arms.{unsaveAt}
 use Rattle.instruction.proofs.ArmSteps.{told-step, stack-step}

@@ -6,7 +6,7 @@ ghost use Rattle.model.specs.Opcodes.{lastOf};
 ghost use Rattle.model.specs.NoMemory.{say};
 ghost use Rattle.model.specs.Control.{sumOf};
 ghost use Rattle.model.specs.Parts.{made, lent};
-ghost use Rattle.instruction.specs.NoMemoryArms.{Told};
+ghost use Rattle.exceptions.specs.Told.{Told};
 ghost use Rattle.instruction.specs.StepAnswer.{Whole};
 ghost use Rattle.instruction.specs.Arms.{branchOf, jumpOf, goOf, pushGoOf, pushJumpOf};
 use super::calls;

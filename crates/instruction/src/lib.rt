@@ -7,13 +7,11 @@
 //! - `registers`: the arms that move nothing but registers
 //! - `calls`: those that work on frames
 //! - `contexts`: those that work on saved contexts
-//! - `exceptions`: TRIP and TRAP, and the exceptions entry
 //! - `value`: one step and one exception on a state that goes in and comes back, and the numbers of replies
 
 pub mod calls;
 pub mod contexts;
 mod control;
-pub mod exceptions;
 mod load_store;
 mod operations;
 pub mod registers;

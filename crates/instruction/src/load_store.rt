@@ -4,7 +4,6 @@ ghost use Rattle.model.specs.Parts.{made, lent};
 ghost use Rattle.instruction.specs.StepAnswer.{Whole};
 ghost use Rattle.instruction.specs.Arms.{loadOf, storeOf};
 use super::control;
-use super::exceptions;
 use decode::operand;
 use decode::target;
 use model::Reply;

@@ -2,45 +2,16 @@
 ghost use mathlib.Core.Path.{_≡_};
 ghost use mathlib.Core.List.{List};
 ghost use Prim.Native.Nat.{ℕ};
-ghost use Rattle.model.specs.Opcodes.{operationOf, firstOf, lastOf};
+ghost use Rattle.model.specs.Opcodes.{firstOf, lastOf};
 ghost use Rattle.model.specs.Control.{operandOf};
 ghost use Rattle.model.specs.Parts.{made};
-ghost use Rattle.instruction.specs.NoMemoryArms.{arithmeticOf, Told};
-use super::exceptions;
+ghost use Rattle.exceptions.specs.Told.{Told};
+ghost use Rattle.instruction.specs.NoMemoryArms.{arithmeticOf};
 use decode::opcode;
 use decode::target;
 use model::Operands;
-use model::Operation;
 use model::Reply;
 use model::State;
-
-/// The operation of an opcode.
-fn operation_of(op: u8) -> Operation
-    ensures { λ r. ⌜ r ≡ operationOf op ⌝ }
-{
-    match op / 2 {
-        0x0D => Operation::Mulu,
-        0x0E => Operation::Div,
-        0x0F => Operation::Divu,
-        0x10 => Operation::Add,
-        0x11 => Operation::Addu,
-        0x12 => Operation::Sub,
-        0x13 => Operation::Subu,
-        0x14 => Operation::Addu2,
-        0x15 => Operation::Addu4,
-        0x16 => Operation::Addu8,
-        0x17 => Operation::Addu16,
-        0x18 => Operation::Cmp,
-        0x19 => Operation::Cmpu,
-        0x1A => Operation::Neg,
-        0x1B => Operation::Negu,
-        0x1C => Operation::Sl,
-        0x1D => Operation::Slu,
-        0x1E => Operation::Sr,
-        0x1F => Operation::Sru,
-        _ => Operation::Mul,
-    }
-}
 
 /// $Y, or Y itself.
 fn first(general: &[u64; 256], op: u8, y: u8) -> u64
@@ -92,7 +63,7 @@ pub(crate) fn compute(
         rh: rh,
         rr: rr,
     };
-    let results = arithmetic::operation::perform(operation_of(op), operands);
+    let results = arithmetic::operation::perform(opcode::operation_of(op), operands);
     stack::pass::set_register(general, special, x, results.x);
     special[State::RH] = results.rh;
     special[State::RR] = results.rr;

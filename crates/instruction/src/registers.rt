@@ -7,7 +7,8 @@ ghost use Rattle.model.specs.NoMemory.{say};
 ghost use Rattle.model.specs.Control.{xyzOf};
 ghost use Rattle.model.specs.System.{putSpecial, syncOf};
 ghost use Rattle.model.specs.Parts.{made};
-ghost use Rattle.instruction.specs.NoMemoryArms.{getOf, Told};
+ghost use Rattle.exceptions.specs.Told.{Told};
+ghost use Rattle.instruction.specs.NoMemoryArms.{getOf};
 ghost use Rattle.instruction.specs.Arms.{addressOf, goTo};
 use model::Reply;
 

@@ -10,7 +10,6 @@ ghost use Rattle.instruction.specs.Arms.{rangedOf};
 use super::calls;
 use super::contexts;
 use super::control;
-use super::exceptions;
 use super::load_store;
 use super::operations;
 use super::registers;

@@ -4,7 +4,7 @@ ghost use mathlib.Core.Path.{_≡_};
 ghost use Rattle.model.specs.Step.{stepOf, exceptionOf};
 ghost use Rattle.model.specs.Numbers.{numberOf};
 ghost use Rattle.model.specs.Parts.{lent};
-ghost use Rattle.instruction.specs.NoMemoryArms.{Told};
+ghost use Rattle.exceptions.specs.Told.{Told};
 ghost use Rattle.instruction.specs.StepAnswer.{Whole};
 use model::Reply;
 use model::State;
@@ -40,7 +40,7 @@ pub fn raise_exceptions(
     let mut pc = state.pc;
     let mut halt = state.halt;
     let marks = state.marks;
-    let reply = super::exceptions::raise_exceptions(
+    let reply = exceptions::raise_exceptions(
         &mut general,
         &mut special,
         &mut pc,

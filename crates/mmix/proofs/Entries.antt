@@ -15,7 +15,7 @@ use Rattle.model.specs.Field.{answerOf}
 use Rattle.model.specs.declared.State.{State}
 use Rattle.model.specs.declared.Reply.{Reply}
 use Rattle.model.specs.declared.Reach.{Reach}
-use Rattle.instruction.specs.NoMemoryArms.{Told}
+use Rattle.exceptions.specs.Told.{Told}
 use Rattle.instruction.specs.StepAnswer.{Whole}
 use Rattle.mmix.specs.Image.{imageLength, imageOf, stateOf}
 use Rattle.mmix.specs.Entries.{isImage, Decoded, Encoded, Initialized, Stepped, SteppedState, Raised, RaisedState, FieldTold}

@@ -228,7 +228,7 @@ pub extern "C" fn mmix_exceptions_parts(
         (made (now (general .entry)) (now (special .entry)) (now (pc .entry)) (now (halt .entry)) marks) flags op x y z «y_val» «z_val» r
         (made (now (general .exit)) (now (special .exit)) (now (pc .exit)) (now (halt .exit)) marks) ⌝ }
 {
-    let raised = instruction::exceptions::raise_exceptions(
+    let raised = exceptions::raise_exceptions(
         general,
         special,
         pc,

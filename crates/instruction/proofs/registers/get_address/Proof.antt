@@ -4,7 +4,7 @@ use borrow.Author.Needs.{needs}
 use Rattle.model.specs.Registers.{setRegister}
 use Rattle.model.specs.Numbers.{replyOf}
 use Rattle.model.specs.Parts.{made}
-use Rattle.instruction.proofs.NoMemoryReplies.{next-is}
+use Rattle.exceptions.proofs.PcAndHalt.{next-is}
 use Rattle.instruction.proofs.registers.get_address.Statement.{statement}
 use Rattle.instruction.proofs.registers.get_address.Tie as tie
 

@@ -3,7 +3,7 @@ use mathlib.Core.Path.{ap, _∙_}
 use borrow.Author.Needs.{needs}
 use Rattle.model.specs.Registers.{setRegister}
 use Rattle.model.specs.Parts.{made}
-use Rattle.instruction.proofs.NoMemoryReplies.{goes-is}
+use Rattle.exceptions.proofs.PcAndHalt.{goes-is}
 use Rattle.instruction.proofs.registers.go_to.Statement.{statement}
 use Rattle.instruction.proofs.registers.go_to.Tie as tie
 

@@ -3,7 +3,7 @@ use mathlib.Core.Path.{refl}
 use borrow.Author.Needs.{needs}
 use Rattle.model.specs.Numbers.{replyOf}
 use Rattle.model.specs.Parts.{made}
-use Rattle.instruction.proofs.NoMemoryReplies.{next-is}
+use Rattle.exceptions.proofs.PcAndHalt.{next-is}
 use Rattle.instruction.proofs.system.skip.Statement.{statement}
 use Rattle.instruction.proofs.system.skip.Tie as tie
 

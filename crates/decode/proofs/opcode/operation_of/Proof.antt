@@ -1,8 +1,8 @@
 -- `operation_of` meets its contract: the key that matched is half the opcode; any other is MUL's.
 use Rattle.model.specs.Opcodes.{operationOf}
-use Rattle.instruction.proofs.ArithmeticArms.{operation-index, operation-other}
-use Rattle.instruction.proofs.operations.operation_of.Statement.{statement}
-use Rattle.instruction.proofs.operations.operation_of.Tie as tie
+use Rattle.decode.proofs.Operations.{operation-index, operation-other}
+use Rattle.decode.proofs.opcode.operation_of.Statement.{statement}
+use Rattle.decode.proofs.opcode.operation_of.Tie as tie
 
 returns : tie.Need-returns
 unfolding operationOf

@@ -1,8 +1,8 @@
 -- `trip_arm` meets its contract: it is a trip through vector 0 with the operands read before.
 use borrow.Author.Needs.{needs}
-use Rattle.instruction.proofs.Interrupts.{trip-word}
-use Rattle.instruction.proofs.exceptions.trip_arm.Statement.{statement}
-use Rattle.instruction.proofs.exceptions.trip_arm.Tie as tie
+use Rattle.exceptions.proofs.Interrupts.{trip-word}
+use Rattle.exceptions.proofs.trip_arm.Statement.{statement}
+use Rattle.exceptions.proofs.trip_arm.Tie as tie
 
 word-of-requires : tie.Need-word-of-requires
 word-of-requires c κs = search needs

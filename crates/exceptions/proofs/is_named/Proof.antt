@@ -1,7 +1,7 @@
 -- `is_named` meets its contract: each answer is its tests'.
 use borrow.Author.Tests.{le-leb, lt-leb, eq-eqb, ne-eqb}
-use Rattle.instruction.proofs.exceptions.is_named.Statement.{statement}
-use Rattle.instruction.proofs.exceptions.is_named.Tie as tie
+use Rattle.exceptions.proofs.is_named.Statement.{statement}
+use Rattle.exceptions.proofs.is_named.Tie as tie
 
 returns : tie.Need-returns
 returns c = simp (ne-eqb _ _ (c .if1 .taken))

@@ -1,9 +1,9 @@
 -- `raise` meets its contract: the disabled flags are added, and with a flag left its vector is taken.
 use borrow.Author.Needs.{needs}
 use Rattle.model.specs.Parts.{made}
-use Rattle.instruction.proofs.Interrupts.{none-taken, one-taken}
-use Rattle.instruction.proofs.exceptions.raise.Statement.{statement}
-use Rattle.instruction.proofs.exceptions.raise.Tie as tie
+use Rattle.exceptions.proofs.Interrupts.{none-taken, one-taken}
+use Rattle.exceptions.proofs.raise.Statement.{statement}
+use Rattle.exceptions.proofs.raise.Tie as tie
 
 element-copy-out-ra : tie.Need-element-copy-out-ra
 element-copy-out-ra c = search needs

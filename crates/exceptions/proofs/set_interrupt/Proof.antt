@@ -1,8 +1,8 @@
 -- `set_interrupt` meets its contract: it stores in the definition's order, each register read before.
 use borrow.Author.Needs.{needs}
-use Rattle.instruction.proofs.Interrupts.{interrupted-is}
-use Rattle.instruction.proofs.exceptions.set_interrupt.Statement.{statement}
-use Rattle.instruction.proofs.exceptions.set_interrupt.Tie as tie
+use Rattle.exceptions.proofs.Interrupts.{interrupted-is}
+use Rattle.exceptions.proofs.set_interrupt.Statement.{statement}
+use Rattle.exceptions.proofs.set_interrupt.Tie as tie
 
 element-copy-out-rj : tie.Need-element-copy-out-rj
 element-copy-out-rj c = search needs

@@ -3,9 +3,9 @@ use mathlib.Core.Path.{sym, _∙_}
 use borrow.Author.Needs.{needs}
 use borrow.Author.Tests.{not-true, not-false}
 use Rattle.model.specs.Parts.{made}
-use Rattle.instruction.proofs.Interrupts.{not-admissible, exception-told}
-use Rattle.instruction.proofs.exceptions.raise_exceptions.Statement.{statement}
-use Rattle.instruction.proofs.exceptions.raise_exceptions.Tie as tie
+use Rattle.exceptions.proofs.Interrupts.{not-admissible, exception-told}
+use Rattle.exceptions.proofs.raise_exceptions.Statement.{statement}
+use Rattle.exceptions.proofs.raise_exceptions.Tie as tie
 
 admissible-requires : tie.Need-admissible-requires
 admissible-requires c κs = search needs

@@ -1,8 +1,8 @@
 -- `vector_of` meets its contract: it is the leading zeros and one, and a flag that is there has at most seven.
 use native.Mathlib.Omega.{arith}
-use Rattle.instruction.proofs.Interrupts.{zeros-small, vector-small}
-use Rattle.instruction.proofs.exceptions.vector_of.Statement.{statement}
-use Rattle.instruction.proofs.exceptions.vector_of.Tie as tie
+use Rattle.exceptions.proofs.Interrupts.{zeros-small, vector-small}
+use Rattle.exceptions.proofs.vector_of.Statement.{statement}
+use Rattle.exceptions.proofs.vector_of.Tie as tie
 
 cast-result : tie.Need-cast-result
 cast-result c = record { fits = omega (arith, zeros-small (c .args .taken)) }

@@ -2,9 +2,9 @@
 use mathlib.Core.Path.{sym, _∙_}
 use borrow.Author.Needs.{needs}
 use Rattle.model.specs.Parts.{made}
-use Rattle.instruction.proofs.Interrupts.{trip-loaded, trip-not-loaded}
-use Rattle.instruction.proofs.exceptions.trip.Statement.{statement}
-use Rattle.instruction.proofs.exceptions.trip.Tie as tie
+use Rattle.exceptions.proofs.Interrupts.{trip-loaded, trip-not-loaded}
+use Rattle.exceptions.proofs.trip.Statement.{statement}
+use Rattle.exceptions.proofs.trip.Tie as tie
 
 set-interrupt-requires : tie.Need-set-interrupt-requires
 set-interrupt-requires c κs = search needs

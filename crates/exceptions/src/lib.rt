@@ -1,4 +1,4 @@
-// Trips, traps and exceptions in place (exceptions.rs, system.rs).
+//! TRIP, TRAP and the exceptions entry in place on lent registers (exceptions.rs, system.rs); no window is known here.
 ghost use mathlib.Core.Path.{_≡_};
 ghost use mathlib.Core.Bool.{_&&_};
 ghost use mathlib.Core.List.{List};
@@ -8,7 +8,8 @@ ghost use lib.Count.{leadingZeros};
 ghost use Rattle.model.specs.Trips.{interrupted, tripTo, withAdded, raised};
 ghost use Rattle.model.specs.Step.{isNamed, exceptionOf};
 ghost use Rattle.model.specs.Parts.{made};
-ghost use Rattle.instruction.specs.NoMemoryArms.{tripOf, trapStep, Told};
+ghost use Rattle.exceptions.specs.Interrupts.{tripOf, trapStep};
+ghost use Rattle.exceptions.specs.Told.{Told};
 use model::Reply;
 use model::State;
 
@@ -187,7 +188,7 @@ fn vector_of(taken: u8) -> u64
 }
 
 /// A byte of flags is raised by an instruction of word `word` with two operands.
-pub(crate) fn raise(
+pub fn raise(
     general: &mut [u64; 256],
     special: &mut [u64; 32],
     pc: &mut u64,

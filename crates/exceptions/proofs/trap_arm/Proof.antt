@@ -2,9 +2,9 @@
 use mathlib.Core.Path.{sym, _∙_}
 use borrow.Author.Needs.{needs}
 use Rattle.model.specs.Parts.{made}
-use Rattle.instruction.proofs.Interrupts.{trap-named, trap-done}
-use Rattle.instruction.proofs.exceptions.trap_arm.Statement.{statement}
-use Rattle.instruction.proofs.exceptions.trap_arm.Tie as tie
+use Rattle.exceptions.proofs.Interrupts.{trap-named, trap-done}
+use Rattle.exceptions.proofs.trap_arm.Statement.{statement}
+use Rattle.exceptions.proofs.trap_arm.Tie as tie
 
 is-named-requires : tie.Need-is-named-requires
 is-named-requires c κs = search needs

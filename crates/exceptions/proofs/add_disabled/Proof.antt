@@ -1,9 +1,9 @@
 -- `add_disabled` meets its contract: its arithmetic is the definition's, of a flag that is a byte.
 use native.Mathlib.Omega.{arith}
 use borrow.Author.Needs.{needs}
-use Rattle.instruction.proofs.Interrupts.{added-fits, added-is}
-use Rattle.instruction.proofs.exceptions.add_disabled.Statement.{statement}
-use Rattle.instruction.proofs.exceptions.add_disabled.Tie as tie
+use Rattle.exceptions.proofs.Interrupts.{added-fits, added-is}
+use Rattle.exceptions.proofs.add_disabled.Statement.{statement}
+use Rattle.exceptions.proofs.add_disabled.Tie as tie
 
 element-copy-out-ra : tie.Need-element-copy-out-ra
 element-copy-out-ra c = search needs

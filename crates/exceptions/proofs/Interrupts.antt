@@ -1,5 +1,5 @@
 -- Laws of trips, traps and exceptions, over plain variables and in this order: what each tells, from what its callees ensure.
--- The other arms that touch no memory: NoMemoryReplies.
+-- The other arms that touch no memory: NoMemoryReplies of crate instruction.
 use mathlib.Core.Path.{_≡_, refl, ap, _∙_}
 use mathlib.Core.Bool.{true, false, _&&_}
 use mathlib.Core.List.{List}
@@ -20,8 +20,9 @@ use Rattle.model.specs.Numbers.{replyOf}
 use Rattle.model.specs.declared.State.{State}
 use Rattle.model.specs.declared.Reply.{Reply}
 use Rattle.model.specs.declared.Reply.the-variants.{Done, NotAdmissible, NamedTrap, NotLoaded, Trapped}
-use Rattle.instruction.specs.NoMemoryArms.{tripOf, trapStep, Told}
-use Rattle.instruction.proofs.NoMemoryReplies.{goes-is, next-is, halted-is}
+use Rattle.exceptions.specs.Interrupts.{tripOf, trapStep}
+use Rattle.exceptions.specs.Told.{Told}
+use Rattle.exceptions.proofs.PcAndHalt.{goes-is, next-is, halted-is}
 
 -- ---- trips and traps
 
