@@ -13,6 +13,7 @@ use crate::case::{Instruction, Kind};
 use crate::state::{IMAGE_LEN, RG, RK, RL, RN, RO, RS, RT, RTT, RV, STACK_START, State, WINDOW_MAX};
 use crate::subject::{Aim, Found, Parts, Subject};
 use memory::Window;
+pub use stack::{Popped, Registers};
 
 /// What a step leaves: the reply, the state, the octabytes stored (address and value) and those needed.
 struct Outcome {

@@ -32,6 +32,66 @@ pub fn push(state: &State, x: u8, target: u64, window: &Window) -> Outcome {
     Outcome { reply: 0, state: after.go_to(target), stores: frame.iter().copied().zip(values).collect(), needs: frame }
 }
 
+/// General registers, read and written one at a time.
+pub trait Registers {
+    fn read(&self, k: u64) -> u64;
+    fn write(&mut self, k: u64, value: u64);
+}
+
+impl Registers for [u64; 256] {
+    fn read(&self, k: u64) -> u64 {
+        self[k as usize]
+    }
+
+    fn write(&mut self, k: u64, value: u64) {
+        self[k as usize] = value;
+    }
+}
+
+/// What a POP with a frame goes by: its X, rL and rG before it, the hole, and $0 to $(H−1) as read back, those below rG.
+pub struct Popped {
+    pub x: u64,
+    pub rl: u64,
+    pub rg: u64,
+    pub hole: u64,
+    pub locals: Vec<u64>,
+}
+
+impl Popped {
+    /// X, or rL + 1 with a zero hole if X > rL.
+    fn count(&self) -> u64 {
+        if self.x > self.rl { self.rl + 1 } else { self.x }
+    }
+
+    pub fn new_rl(&self) -> u64 {
+        (self.hole + self.count()).min(self.rg)
+    }
+
+    /// The outputs and the restored locals, below rG. The outputs go up, the last of them first, for they may overlap their
+    /// sources; with no outputs the hole is not written.
+    pub fn restored_first(&self, registers: &mut impl Registers) {
+        let Self { x, rl, rg, hole, ref locals } = *self;
+        let last = if (1..=rl).contains(&x) { registers.read(x - 1) } else { 0 };
+        for from in (0..self.count().saturating_sub(1)).rev() {
+            if hole + 1 + from < rg {
+                let output = registers.read(from);
+                registers.write(hole + 1 + from, output);
+            }
+        }
+        if self.count() > 0 && hole < rg {
+            registers.write(hole, last);
+        }
+        for (k, local) in locals.iter().enumerate() {
+            registers.write(k as u64, *local);
+        }
+    }
+
+    /// And then all from the new rL to rG − 1.
+    pub fn cleared_after(&self, registers: &mut impl Registers) {
+        (self.new_rl()..self.rg).for_each(|k| registers.write(k, 0));
+    }
+}
+
 pub fn pop(state: &State, x: u8, yz: u64, window: &Window) -> Outcome {
     let (rg, rl, ro) = (state.special[RG], state.special[RL], state.special[RO]);
     let target = state.special[RJ].wrapping_add(4 * yz);
@@ -55,25 +115,11 @@ pub fn pop(state: &State, x: u8, yz: u64, window: &Window) -> Outcome {
         return Outcome::missing(state, missing);
     }
 
-    let x = x as u64;
-    let (count, last) = match (x > rl, x) {
-        (true, _) => (rl + 1, 0),
-        (false, 0) => (0, 0),
-        (false, _) => (x, state.general[x as usize - 1]),
-    };
+    let popped = Popped { x: x as u64, rl, rg, hole, locals: locals.iter().map(|a| window.read(*a)).collect() };
     let mut after = state.clone();
-    for k in 0..rg {
-        after.general[k as usize] = if k < hole {
-            window.read(locals[k as usize])
-        } else if k == hole {
-            last
-        } else if k < hole + count {
-            state.general[(k - hole - 1) as usize]
-        } else {
-            0
-        };
-    }
-    after.special[RL] = (hole + count).min(rg);
+    popped.restored_first(&mut after.general);
+    popped.cleared_after(&mut after.general);
+    after.special[RL] = popped.new_rl();
     after.special[RO] = first;
     after.special[RS] = first;
     let mut needs = locals;
