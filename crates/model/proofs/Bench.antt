@@ -1,11 +1,11 @@
--- Theorems 6, 10, 11, 12 and 14 and those of arithmetic: the points, 01's and more, those of loads and stores, fields and operations, and the examples of the
+-- Theorems 6, 10, 11, 12 and 14 and those of arithmetic: the points, 01's and more, those of loads and stores, fields, operations and two windows, and the examples of the
 -- departures, carried through the definitions by one result that antt computes.
 use mathlib.Core.Path.{refl}
 use lib.Count.{leadingZeros}
 use Rattle.model.specs.Fill.{over, indexed, within, tab}
 use Rattle.model.specs.Octa.{octa, part, written, valueOf, bytesOf}
 use Rattle.model.specs.Registers.{admissible, fresh, goes, halted, withSpecial, cleared, claimLocal, stored, setRegister, putLocals, putGlobals, spilled}
-use Rattle.model.specs.Memory.{shapeOf, ruled, offset, has, octaBytes, writeOcta, one}
+use Rattle.model.specs.Memory.{shapeOf, ruledOne, offset, has, octaBytes, writeOcta, shapesOf, holder, inside, octaAt, putOcta, both, ruled, shares}
 use Rattle.model.specs.Plan.{worst, named, look, looks, puts, perform, mapPlan}
 use Rattle.model.specs.Opcodes.{operationOf, firstOf, widthOf, signOf, conditionOf, armOf}
 use Rattle.model.specs.NoMemory.{tell}
@@ -17,7 +17,7 @@ use Rattle.model.specs.Trips.{interrupted, tripRule, tripTo, trapRule, t
 use Rattle.model.specs.LoadStore.{bytesIn, unitAt, operandIn, merged, extended, fits, loadFrom, storeSays, storeTo}
 use Rattle.model.specs.Whole.{signedOf, octaOf, isSigned, productHigh, productLow, floorBy, floorQuotient, floorRemainder, compared, powerOf}
 use Rattle.model.specs.Arithmetic.{divided, dividedWide, resultsOf}
-use Rattle.model.specs.Reader.{partAt, readContext}
+use Rattle.model.specs.Reader.{stretchOf, heldBy, across, partAt, handed, readContext}
 use Rattle.model.specs.Lists.{stepOn, runs}
 use Rattle.model.specs.Step.{refusalOf, unruledBy, judged, refusing, planOf, guarded, fromThree, stepPlan, stepOf, exceptionOf, itemPlan, mmix}
 use Rattle.model.specs.Numbers.{numberOf}
@@ -26,15 +26,16 @@ use Rattle.model.specs.Rules.{readRule, pushRule, belowTop, poppedRule, 
 use Rattle.model.specs.Bench.{start, shows, met, allMet, points, PointsMet}
 use Rattle.model.specs.Points.{ruledShapes, numbered, freshIs, readerPoints, morePoints, MorePointsMet}
 use Rattle.model.specs.LoadStorePoints.{loadStorePoints, LoadStorePointsMet}
+use Rattle.model.specs.WindowPoints.{windowReads, windowPoints, WindowPointsMet}
 use Rattle.model.specs.FieldPoints.{fieldPoints, allFound, FieldPointsMet}
 use Rattle.model.specs.DepartureExamples.{shown, allShown, shownException, allShownExceptions, examples, exceptionExamples, cutExamples, countExample, ExamplesShown}
 use Rattle.model.specs.ArithmeticStep.{withResults, arithmeticSays}
 use Rattle.model.specs.ArithmeticStepPoints.{arithmeticStepPoints, ArithmeticStepPointsMet}
 use Rattle.model.specs.ArithmeticPoints.{allSame, arithmeticPoints, ArithmeticPointsMet}
 
-computed : PointsMet × MorePointsMet × ExamplesShown × LoadStorePointsMet × FieldPointsMet × ArithmeticPointsMet × ArithmeticStepPointsMet
-unfolding leadingZeros over indexed within tab octa part written valueOf bytesOf admissible fresh goes halted withSpecial cleared claimLocal stored setRegister putLocals putGlobals spilled shapeOf ruled offset has octaBytes writeOcta one worst named look looks puts perform conditionOf armOf tell targetOf holds hole framed slid slide pushedRule pushed pushFrame countOf lastOutput restored unslide popped popTo popRule noFrame misplaced popFrame savedSpecial saved savedUnspilled savedState saveContext unsavedGeneral unsavedSpecial unsavedUnspilled unsaved contextRest contextCount contextAt unsaveContext putRefusal putState putSpecial got syncOf interrupted tripRule tripTo trapOf added withAdded raised stepOn runs refusalOf unruledBy judged refusing planOf guarded fromThree stepPlan exceptionOf itemPlan mmix start shows met allMet points framedRule gotRule trapRule leftmost exactUnderflow addedRule mapPlan stepOf readRule pushRule belowTop poppedRule popHoleRule popAnyRule unsavedGeneralRule unsavedSpecialRule unsavedRule unsaveRestRule unsaveCountRule unsaveRule ruleOf stepRule withAddedRule raisedRule exceptionRule ruledShapes numbered freshIs readerPoints partAt readContext morePoints shown allShown shownException allShownExceptions examples exceptionExamples cutExamples countExample counted widthOf signOf bytesIn unitAt operandIn merged extended fits loadFrom storeSays storeTo loadRule storeState storeRule loadStorePoints numberOf fieldAt fieldOf answerOf fieldPoints allFound signedOf octaOf isSigned productHigh productLow floorBy floorQuotient floorRemainder compared powerOf divided dividedWide resultsOf allSame arithmeticPoints operationOf firstOf withResults arithmeticSays arithmeticRule arithmeticStepPoints
-computed = (refl, (refl, refl, refl, refl, refl), (refl, refl, refl, refl), refl, refl, refl, refl)
+computed : PointsMet × MorePointsMet × ExamplesShown × LoadStorePointsMet × FieldPointsMet × ArithmeticPointsMet × ArithmeticStepPointsMet × WindowPointsMet
+unfolding leadingZeros over indexed within tab octa part written valueOf bytesOf admissible fresh goes halted withSpecial cleared claimLocal stored setRegister putLocals putGlobals spilled shapeOf ruledOne offset has octaBytes writeOcta shapesOf holder inside octaAt putOcta both ruled shares worst named look looks puts perform conditionOf armOf tell targetOf holds hole framed slid slide pushedRule pushed pushFrame countOf lastOutput restored unslide popped popTo popRule noFrame misplaced popFrame savedSpecial saved savedUnspilled savedState saveContext unsavedGeneral unsavedSpecial unsavedUnspilled unsaved contextRest contextCount contextAt unsaveContext putRefusal putState putSpecial got syncOf interrupted tripRule tripTo trapOf added withAdded raised stepOn runs refusalOf unruledBy judged refusing planOf guarded fromThree stepPlan exceptionOf itemPlan mmix start shows met allMet points framedRule gotRule trapRule leftmost exactUnderflow addedRule mapPlan stepOf readRule pushRule belowTop poppedRule popHoleRule popAnyRule unsavedGeneralRule unsavedSpecialRule unsavedRule unsaveRestRule unsaveCountRule unsaveRule ruleOf stepRule withAddedRule raisedRule exceptionRule ruledShapes numbered freshIs readerPoints stretchOf heldBy across partAt handed readContext morePoints shown allShown shownException allShownExceptions examples exceptionExamples cutExamples countExample counted widthOf signOf bytesIn unitAt operandIn merged extended fits loadFrom storeSays storeTo loadRule storeState storeRule loadStorePoints numberOf fieldAt fieldOf answerOf fieldPoints allFound signedOf octaOf isSigned productHigh productLow floorBy floorQuotient floorRemainder compared powerOf divided dividedWide resultsOf allSame arithmeticPoints operationOf firstOf withResults arithmeticSays arithmeticRule arithmeticStepPoints windowReads windowPoints
+computed = (refl, (refl, refl, refl, refl, refl), (refl, refl, refl, refl), refl, refl, refl, refl, (refl, refl))
 
 pub points-met : PointsMet
 points-met = computed .0
@@ -56,3 +57,6 @@ arithmetic-points-met = computed .5
 
 pub arithmetic-step-points-met : ArithmeticStepPointsMet
 arithmetic-step-points-met = computed .6
+
+pub window-points-met : WindowPointsMet
+window-points-met = computed .7

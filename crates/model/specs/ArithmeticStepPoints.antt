@@ -7,12 +7,12 @@ use mathlib.Core.List.{List, [], _∷_, _++_}
 use Rattle.model.specs.Memory.{Windows}
 use Rattle.model.specs.Registers.{rB, rD, rH, rJ, rR, rL, rA, rW, rX, rY, rZ, stackStart, goes, halted, withSpecial, stored}
 use Rattle.model.specs.Step.{step}
-use Rattle.model.specs.Bench.{Point, allMet, start}
+use Rattle.model.specs.Bench.{Point, allMet, start, stackAlone}
 use Rattle.model.specs.LoadStorePoints.{minus}
 use Rattle.model.specs.declared.State.{State}
 
 abbrev nowhere : Windows
-nowhere = record { base = stackStart; bytes = [] }
+nowhere = stackAlone (record { base = stackStart; bytes = [] })
 
 abbrev point : State → ℕ → ℕ → ℕ → ℕ → ℕ → State → Point
 point s op x y z r t = record { begin = s; window = nowhere; items = step op x y z ∷ []; replies = r ∷ []; end = t; left = nowhere }

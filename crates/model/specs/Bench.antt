@@ -1,12 +1,12 @@
 -- Theorem 6. 01's bench points and its traps for the writer, as data: a start, a list of items, and all that is there afterwards, the
--- replies, the whole state and the whole window. P1 to P14 and the traps are met together, by one computed result.
+-- replies, the whole state and the whole of both windows. P1 to P14 and the traps are met together, by one computed result.
 use Prim.Native.Nat.{ℕ, _+_, _*_, _^_}
 use mathlib.Core.Path.{_≡_}
 use mathlib.Core.Bool.{Bool, true, false, _&&_}
 use mathlib.Core.List.{List, [], _∷_, _++_}
 use lib.Dec.{eqb}
 use lib.ListN.{replicate}
-use Rattle.model.specs.Memory.{Windows, putOcta, both}
+use Rattle.model.specs.Memory.{Window, Windows, putOcta, both}
 use Rattle.model.specs.Lists.{Ran, runs}
 use Rattle.model.specs.Registers.{rJ, rO, rS, rL, rA, rW, rX, stackStart, fresh, goes, halted, withSpecial, stored}
 use Rattle.model.specs.Step.{Item, step, exception, mmix}
@@ -33,11 +33,14 @@ sameState s t =
     sameList (s .general) (t .general)
     && (sameList (s .special) (t .special) && (eqb (s .pc) (t .pc) && (eqb (s .halt) (t .halt) && eqb (s .marks) (t .marks))))
 
-abbrev pub sameWindow : Windows → Windows → Bool
-sameWindow v w = eqb (v .base) (w .base) && sameList (v .bytes) (w .bytes)
+abbrev sameOne : Window → Window → Bool
+sameOne v w = eqb (v .base) (w .base) && sameList (v .bytes) (w .bytes)
+
+abbrev pub sameWindows : Windows → Windows → Bool
+sameWindows v w = sameOne (v .a) (w .a) && sameOne (v .b) (w .b)
 
 unfoldable pub shows : Point → Ran State Windows → Bool
-shows c r = sameList (r .answers) (c .replies) && (sameState (r .state) (c .end) && sameWindow (r .memory) (c .left))
+shows c r = sameList (r .answers) (c .replies) && (sameState (r .state) (c .end) && sameWindows (r .memory) (c .left))
 
 unfoldable pub met : Point → Bool
 met c = shows c (runs both mmix (c .begin) (c .window) (c .items))
@@ -52,14 +55,18 @@ allMet (c ∷ cs) = met c && allMet cs
 unfoldable pub start : State
 start = record { general = fresh .general; special = fresh .special; pc = 0; halt = 0; marks = 0x1FF }
 
--- a window of n zero bytes at the stack's start
+-- B alone: A is empty
+abbrev pub stackAlone : Window → Windows
+stackAlone b = record { a = record { base = 0; bytes = [] }; b = b }
+
+-- B is n zero bytes at the stack's start; "The bench program's A is 2,048 zero bytes at 0"
 abbrev zeros : ℕ → Windows
-zeros n = record { base = stackStart; bytes = replicate n 0 }
+zeros n = record { a = record { base = 0; bytes = replicate 2048 0 }; b = record { base = stackStart; bytes = replicate n 0 } }
 
 abbrev program : Windows
 program = zeros 2048
 
--- octabyte number k of the window becomes v
+-- octabyte number k of the stack's window becomes v
 abbrev holding : Windows → ℕ → ℕ → Windows
 holding w k v = putOcta w (stackStart + 8 * k) v
 
@@ -140,10 +147,10 @@ points =
     -- P12, P13
     ∷ does (withSpecial start rA 0x4000) (exception 0xC0 0 0 0 0 0 0) (goes (withSpecial (afterTrip start) rA 0x4080) 0x20)
     ∷ does (withSpecial start rA 0xC000) (exception 0xC0 0 0 0 0 0 0) (goes (withSpecial (afterTrip start) rA 0xC000) 0x10)
-    -- P14
-    ∷ point (withSpecial (two 7 9) rO 0xFFFFFFFFFFFFFFF8) (record { base = 0xFFFFFFFFFFFFFFF8; bytes = replicate 16 0 }) (step 0xF2 1 0 1 ∷ []) (0 ∷ [])
+    -- P14: "in P14, whose window reaches address 0, A is empty"
+    ∷ point (withSpecial (two 7 9) rO 0xFFFFFFFFFFFFFFF8) (stackAlone (record { base = 0xFFFFFFFFFFFFFFF8; bytes = replicate 16 0 })) (step 0xF2 1 0 1 ∷ []) (0 ∷ [])
     (goes (withSpecial (withSpecial (withSpecial start rO 8) rS 8) rJ 4) 4)
-    (record { base = 0xFFFFFFFFFFFFFFF8; bytes = replicate 7 0 ++ (7 ∷ replicate 7 0) ++ (1 ∷ []) })
+    (stackAlone (record { base = 0xFFFFFFFFFFFFFFF8; bytes = replicate 7 0 ++ (7 ∷ replicate 7 0) ++ (1 ∷ []) }))
     -- "the hole given the first output", "a PUSH that copies after clearing"
     ∷ point three program (step 0xF2 0 0 1 ∷ []) (0 ∷ [])
     (goes (withSpecial (grown (two 2 3) 1) rJ 4) 4) program

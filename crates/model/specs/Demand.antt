@@ -5,7 +5,7 @@ use mathlib.Core.Path.{_≡_}
 use mathlib.Core.List.{List}
 use lib.ListN.{length, getD}
 use Rattle.model.specs.Octa.{octa}
-use Rattle.model.specs.Memory.{Windows, both}
+use Rattle.model.specs.Memory.{Window, Windows, both}
 use Rattle.model.specs.Opcodes.{opPUSHJ, opPUSHJB, opPUSHGO, opPUSHGOI, opPOP}
 use Rattle.model.specs.Plan.{Outcome, All, Off}
 use Rattle.model.specs.Lists.{Ran, runs, runNeeds, runWiderNeeds}
@@ -42,10 +42,15 @@ pub record Alike (h : ℕ) (s t : State) : Type 0 where
   pub rest-same : (i : ℕ) → h ≤ i → reg s i ≡ reg t i
 
 -- equal byte by byte outside the octabytes of F
-pub record SameOutside (F : ℕ → Type 0) (v w : Windows) : Type 0 where
+pub record SameBytes (F : ℕ → Type 0) (v w : Window) : Type 0 where
   pub base-same : v .base ≡ w .base
   pub length-same : length (v .bytes) ≡ length (w .bytes)
   pub byte-same : (i : ℕ) → Off F (v .base + i) → getD (v .bytes) i 0 ≡ getD (w .bytes) i 0
+
+-- in both windows
+pub record SameOutside (F : ℕ → Type 0) (v w : Windows) : Type 0 where
+  pub in-a : SameBytes F (v .a) (w .a)
+  pub in-b : SameBytes F (v .b) (w .b)
 
 -- "If rO is then back at its value after the call, a multiple of 8 above 0x6000000000000000 and below 0x8000000000000000, and rG is
 -- at least the hole's number"

@@ -11,7 +11,7 @@ use Rattle.model.specs.Plan.{Outcome}
 use Rattle.model.specs.NoMemory.{Said}
 use Rattle.model.specs.Step.{stepOf, exceptionOf}
 use Rattle.model.specs.Rules.{After, goesOn, interrupts, unsavedGeneralRule, unsavedSpecialRule, stepRule, exceptionRule, counted}
-use Rattle.model.specs.Bench.{start, sameState, sameWindow}
+use Rattle.model.specs.Bench.{start, stackAlone, sameState, sameWindows}
 use Rattle.model.specs.declared.State.{State}
 
 -- a step: what it leaves here, and in Knuth's machine
@@ -46,10 +46,10 @@ sameAfter interrupts (goesOn t) = false
 sameAfter interrupts interrupts = true
 
 abbrev here : Example → Outcome State Windows → Bool
-here e o = eqb (o .reply) (e .reply) && (sameState (o .state) (e .end) && sameWindow (o .memory) (e .left))
+here e o = eqb (o .reply) (e .reply) && (sameState (o .state) (e .end) && sameWindows (o .memory) (e .left))
 
 abbrev there : Example → Outcome After Windows → Bool
-there e o = eqb (o .reply) (e .knuth-reply) && (sameAfter (o .state) (e .knuth) && sameWindow (o .memory) (e .knuth-left))
+there e o = eqb (o .reply) (e .knuth-reply) && (sameAfter (o .state) (e .knuth) && sameWindows (o .memory) (e .knuth-left))
 
 unfoldable pub shown : Example → Bool
 shown e =
@@ -75,7 +75,7 @@ allShownExceptions (e ∷ es) = shownException e && allShownExceptions es
 -- ---- the examples
 
 abbrev zeros : ℕ → ℕ → Windows
-zeros base n = record { base = base; bytes = replicate n 0 }
+zeros base n = stackAlone (record { base = base; bytes = replicate n 0 })
 
 abbrev nowhere : Windows
 nowhere = zeros stackStart 0

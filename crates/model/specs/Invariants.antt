@@ -20,9 +20,10 @@ unfoldable pub Fits : Item → Type 0
 Fits (step op x y z) = InstructionFits op x y z
 Fits (exception f op x y z u v) = InstructionFits op x y z × (u < 2 ^ 64) × (v < 2 ^ 64)
 
--- each byte of the window is one
+-- each byte of the windows is one
 pub record Bytes (w : Windows) : Type 0 where
-  pub byte : (i : ℕ) → getD (w .bytes) i 0 < 256
+  pub byte-a : (i : ℕ) → getD (w .a .bytes) i 0 < 256
+  pub byte-b : (i : ℕ) → getD (w .b .bytes) i 0 < 256
 
 pub record ItemsKeep : Type 0 where
   pub sized : (w : Windows) (s : State) (i : Item) → Sized s → Sized (stepOn both mmix s w i .state)

@@ -2,9 +2,10 @@
 use Prim.Native.Nat.{ℕ, _*_, _/_, _%_, _≤_}
 use mathlib.Core.Path.{_≡_}
 use mathlib.Core.Logic.{_⊎_, _≢_}
-use Rattle.model.specs.Memory.{Windows, putOcta, both}
+use mathlib.Core.Bool.{true}
+use Rattle.model.specs.Memory.{Windows, Shapes, shapesOf, ruled, shares, putOcta, both}
 use Rattle.model.specs.Plan.{Outcome, look}
-use Rattle.model.specs.Registers.{rB, rJ, rBB, rW, rX, rY, rZ, rWW, rXX, rYY, rZZ, sp, reg, following, Sized, halted}
+use Rattle.model.specs.Registers.{rB, rJ, rBB, rW, rX, rY, rZ, rWW, rXX, rYY, rZZ, sp, reg, following, Sized, admissible, halted}
 use Rattle.model.specs.Opcodes.{Operand, Width, signed, trip, store, arithmetic, armOf}
 use Rattle.model.specs.NoMemory.{Said}
 use Rattle.model.specs.Control.{operandOf, sumOf}
@@ -13,7 +14,7 @@ use Rattle.model.specs.LoadStore.{valuesOf, unitAt, operandIn, merged, f
 use Rattle.model.specs.ArithmeticStep.{resultsIn, withResults}
 use Rattle.model.specs.Step.{stepOf, exceptionOf}
 use Rattle.model.specs.Reader.{Part, emptyPart, readContext}
-use Rattle.model.specs.Numbers.{Early, Lost, Halting}
+use Rattle.model.specs.Numbers.{Early, Lost, Halting, OfStep}
 use Rattle.model.specs.Field.{FieldAnswer, fieldOf, answerOf}
 use Rattle.model.specs.declared.State.{State}
 use Rattle.model.specs.declared.Operation.{Operation}
@@ -69,16 +70,21 @@ pub record StoreMade (d : Width) (a v u : ℕ) : Type 0 where
   pub right : merged d a v u % unitAt d a ≡ v % unitAt d a
   pub operand : operandIn d a (merged d a v u) ≡ u % valuesOf d
 
+-- 22 is given only where both windows obey their rules, and share
+abbrev pub Sharing : Shapes → Type 0
+Sharing w = (ruled w ≡ true) × (shares w ≡ true)
+
 -- what a step leaves
 pub record StepLeaves (w : Windows) (s : State) (op x y z : ℕ) (o : Outcome State Windows) : Type 0 where
-  pub most : o .reply ≤ 20
-  -- 1 to 6
+  pub most : OfStep (o .reply)
+  -- 1 to 6 and 22
   pub early : Early (o .reply) → (o .state ≡ s) × (o .memory ≡ w)
   pub lost : Lost (o .reply) → (o .state ≡ s) × (o .memory ≡ w)
   -- 7 to 18
   pub halting : Halting (o .reply) → (o .state ≡ halted s) × (o .memory ≡ w)
   pub nineteen : o .reply ≡ 19 → TripLeaves w s op x y z o ⊎ (StoreLeaves w s op x y z o ⊎ ArithmeticLeaves w s op x y z o)
   pub twenty : o .reply ≡ 20 → Trapped s (o .state) (wordOf op x y z) (reg s y) (reg s z) × (o .memory ≡ w)
+  pub shared : o .reply ≡ 22 → (admissible s ≡ true) × Sharing (shapesOf w)
   pub done : o .reply ≡ 0 → o .state .halt ≡ s .halt
 
 -- what an exception leaves
@@ -90,7 +96,8 @@ pub record ExceptionLeaves (s : State) (f op x y z u v : ℕ) (d : Said) : Type 
 
 -- what the reader leaves
 pub record ReaderLeaves (w : Windows) (o : Outcome Part Windows) : Type 0 where
-  pub among : (o .reply ≡ 0) ⊎ ((o .reply ≡ 2) ⊎ ((o .reply ≡ 6) ⊎ ((o .reply ≡ 14) ⊎ ((o .reply ≡ 15) ⊎ (o .reply ≡ 16)))))
+  pub among : (o .reply ≡ 0) ⊎ ((o .reply ≡ 2) ⊎ ((o .reply ≡ 6) ⊎ ((o .reply ≡ 14) ⊎ ((o .reply ≡ 15) ⊎ ((o .reply ≡ 16) ⊎ ((o .reply ≡ 22) ⊎ (o .reply ≡ 23)))))))
+  pub shared : o .reply ≡ 22 → Sharing (shapesOf w)
   pub refused : o .reply ≢ 0 → o .state ≡ emptyPart
   pub unchanged : o .memory ≡ w
 

@@ -26,12 +26,14 @@ pub mod Rules
 -- theorems: statements; proofs/ has the proofs
 pub mod Leaves
 pub mod Invariants
+pub mod Apart
 pub mod Locality
 pub mod StepNeeds
 pub mod Demand
 pub mod Bench
 pub mod Points
 pub mod LoadStorePoints
+pub mod WindowPoints
 pub mod ArithmeticMeant
 pub mod ArithmeticPoints
 pub mod ArithmeticStepPoints

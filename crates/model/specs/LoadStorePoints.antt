@@ -8,12 +8,12 @@ use lib.ListN.{replicate}
 use Rattle.model.specs.Memory.{Windows, putOcta}
 use Rattle.model.specs.Registers.{rB, rJ, rL, rA, rW, rX, rY, rZ, stackStart, goes, halted, withSpecial, stored}
 use Rattle.model.specs.Step.{step}
-use Rattle.model.specs.Bench.{Point, allMet, start}
+use Rattle.model.specs.Bench.{Point, allMet, start, stackAlone}
 use Rattle.model.specs.declared.State.{State}
 
 -- M8[1000], and nothing else
 abbrev holding : ℕ → Windows
-holding v = putOcta (record { base = 1000; bytes = replicate 8 0 }) 1000 v
+holding v = putOcta (stackAlone (record { base = 1000; bytes = replicate 8 0 })) 1000 v
 
 abbrev figure : ℕ
 figure = 0x0123456789ABCDEF
@@ -111,7 +111,8 @@ addressPoints =
     ∷ point (stored (having 0 1000 0) 9 5) (holding figure) 0xAD 9 2 0 0 (goes (stored (having 0 1000 0) 9 5) 4) (holding 5)
     -- an address wraps at 2^64; one above 2^63 is in the window or not, as any other
     ∷ point (having 0 (minus 8) 1008) (holding figure) 0x8C 1 2 3 0 (goes (having figure (minus 8) 1008) 4) (holding figure)
-    ∷ point (having 0 (minus 8) 0) (record { base = minus 8; bytes = replicate 8 1 }) 0x83 1 2 7 0 (goes (having 1 (minus 8) 0) 4) (record { base = minus 8; bytes = replicate 8 1 }) ∷ []
+    ∷ point (having 0 (minus 8) 0) (stackAlone (record { base = minus 8; bytes = replicate 8 1 })) 0x83 1 2 7 0
+    (goes (having 1 (minus 8) 0) 4) (stackAlone (record { base = minus 8; bytes = replicate 8 1 })) ∷ []
 
 -- ---- a store into a caller's frame: PUSHJ $1 with $0 = 5, then STO $33 = 9 at $32, the frame's first octabyte, then POP: $0 is 9
 
@@ -121,11 +122,11 @@ calling = stored (stored (stored (withSpecial start rL 1) 0 5) 32 stackStart) 33
 abbrev framePoint : Point
 framePoint = record {
   begin = calling;
-  window = record { base = stackStart; bytes = replicate 16 0 };
+  window = stackAlone (record { base = stackStart; bytes = replicate 16 0 });
   items = step 0xF2 1 0 1 ∷ step 0xAD 33 32 0 ∷ step 0xF8 0 0 0 ∷ [];
   replies = 0 ∷ 0 ∷ 0 ∷ [];
   end = goes (withSpecial (stored calling 0 9) rJ 4) 4;
-  left = putOcta (putOcta (record { base = stackStart; bytes = replicate 16 0 }) stackStart 9) (stackStart + 8) 1;
+  left = putOcta (putOcta (stackAlone (record { base = stackStart; bytes = replicate 16 0 })) stackStart 9) (stackStart + 8) 1;
 }
 
 unfoldable pub loadStorePoints : List Point

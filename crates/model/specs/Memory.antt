@@ -1,6 +1,6 @@
--- 01, 'State and window': the window, and what a step may know of memory.
--- A `Store` is a shape, which no write changes, and octabytes; a window is one.
-use mathlib.Core.Bool.{Bool, _&&_}
+-- 01, 'State and window': the window, and what a step may know of memory. 02, 'A second window': the two that a host lends.
+-- A `Store` is a shape, which no write changes, and octabytes; a window is one, and so are the two together.
+use mathlib.Core.Bool.{Bool, cond, _&&_, _||_}
 use mathlib.Core.List.{List}
 use Prim.Native.Nat.{ℕ, _+_, _-_, _%_, _^_}
 use lib.ListN.{length}
@@ -24,8 +24,8 @@ abbrev pub windowMax : ℕ
 windowMax = 65536
 
 -- "Its length is a multiple of 8, from 0 to 65,536; its base is a multiple of 8" (and, as an address, below 2^64)
-unfoldable pub ruled : Shape → Bool
-ruled w = eqb (w .from % 8) 0 && (ltb (w .from) (2 ^ 64) && (eqb (w .size % 8) 0 && leb (w .size) windowMax))
+unfoldable pub ruledOne : Shape → Bool
+ruledOne w = eqb (w .from % 8) 0 && (ltb (w .from) (2 ^ 64) && (eqb (w .size % 8) 0 && leb (w .size) windowMax))
 
 -- "Distances from the base wrap at 2^64, so a window may cross the end of memory": of the octabyte that a names
 unfoldable pub offset : ℕ → ℕ → ℕ
@@ -52,29 +52,45 @@ pub record Store (M Sh : Type 0) : Type 0 where
 unfoldable pub one : Store Window Shape
 one = record { shape = shapeOf; inside = has; raw = octaBytes; put = writeOcta }
 
--- ---- the memory that a host lends: one window. What follows speaks of it by these names
+-- ---- the memory that a host lends: "Programs and curves live low in memory and the stack at 0x6000000000000000, so the host wants to lend two windows",
+-- A and B, the stack's. What follows speaks of it by these names
 
-abbrev pub Windows : Type 0
-Windows = Window
+pub record Windows : Type 0 where
+  pub a : Window
+  pub b : Window
 
--- base and length of what is lent
-abbrev pub Shapes : Type 0
-Shapes = Shape
+-- base and length of each
+pub record Shapes : Type 0 where
+  pub a : Shape
+  pub b : Shape
 
-abbrev pub shapesOf : Windows → Shapes
-shapesOf = shapeOf
+unfoldable pub shapesOf : Windows → Shapes
+shapesOf m = record { a = shapeOf (m .a); b = shapeOf (m .b) }
 
--- the octabyte that a names is lent
-abbrev pub inside : Shapes → ℕ → Bool
-inside = has
+-- "Reading or writing an octabyte now tells which of the two held it": 1 for B, 0 for A; 2 where neither has the octabyte that x names
+unfoldable pub holder : Shapes → ℕ → ℕ
+holder w x = cond (has (w .b) x) 1 (cond (has (w .a) x) 0 2)
 
--- its eight bytes
-abbrev pub octaAt : Windows → ℕ → List ℕ
-octaAt = octaBytes
+-- the octabyte that x names is lent: "number 6 means in neither"
+unfoldable pub inside : Shapes → ℕ → Bool
+inside w x = has (w .b) x || has (w .a) x
 
--- it becomes v
-abbrev pub putOcta : Windows → ℕ → ℕ → Windows
-putOcta = writeOcta
+-- its eight bytes: B's where B has it, else A's
+unfoldable pub octaAt : Windows → ℕ → List ℕ
+octaAt m x = cond (has (shapeOf (m .b)) x) (octaBytes (m .b) x) (octaBytes (m .a) x)
 
-abbrev pub both : Store Windows Shapes
-both = one
+-- it becomes v, in B where B has it, else in A; the other window stays
+unfoldable pub putOcta : Windows → ℕ → ℕ → Windows
+putOcta m x v = cond (has (shapeOf (m .b)) x) (record { a = m .a; b = writeOcta (m .b) x v }) (record { a = writeOcta (m .a) x v; b = m .b })
+
+-- "One step may use both"
+unfoldable pub both : Store Windows Shapes
+both = record { shape = shapesOf; inside = inside; raw = octaAt; put = putOcta }
+
+-- each window obeys its rule, an empty one too
+unfoldable pub ruled : Shapes → Bool
+ruled w = ruledOne (w .a) && ruledOne (w .b)
+
+-- "the two windows share an octabyte": the first octabyte of one lies in the other; an empty window has none
+unfoldable pub shares : Shapes → Bool
+shares w = (ltb 0 (w .b .size) && has (w .a) (w .b .from)) || (ltb 0 (w .a .size) && has (w .b) (w .a .from))

@@ -1,21 +1,26 @@
 -- 01, 'Replies': "For each answer that is an enum, a definition gives this paper's number and values for every case of that enum."
 use Prim.Native.Nat.{ℕ, _≤_}
 use mathlib.Core.Path.{_≡_}
+use mathlib.Core.Logic.{_⊎_}
 use mathlib.Core.List.{[], _∷_}
 use lib.ListN.{getD}
 use Rattle.model.specs.declared.Reply.{Reply}
-use Rattle.model.specs.declared.Reply.the-variants.{Done, NotAdmissible, WindowRule, NoArm, NamedTrap, NoSpecial, Missing, PutUnknown, PutPrivileged, PutIllegal, PutThreshold, PutStatus, Misplaced, SaveLocal, SavedThreshold, SavedStatus, SavedCount, SyncPrivileged, SyncIllegal, NotLoaded, Trapped, OutOfReach}
+use Rattle.model.specs.declared.Reply.the-variants.{Done, NotAdmissible, WindowRule, NoArm, NamedTrap, NoSpecial, Missing, PutUnknown, PutPrivileged, PutIllegal, PutThreshold, PutStatus, Misplaced, SaveLocal, SavedThreshold, SavedStatus, SavedCount, SyncPrivileged, SyncIllegal, NotLoaded, Trapped, OutOfReach, Shared, Across}
 
 -- what the numbers leave, by kind: judged before an octabyte is asked for, nothing changes; a needed octabyte that is not there, nothing
--- changes; "halt code 1 only". 19 and 20 have kinds of their own; 21 is no step's, and there is no state that it could change
+-- changes; "halt code 1 only". 19 and 20 have kinds of their own; 21 and 23 are no step's, and there is no state that they could change
 abbrev pub Early : ℕ → Type 0
-Early n = (1 ≤ n) × (n ≤ 5)
+Early n = ((1 ≤ n) × (n ≤ 5)) ⊎ (n ≡ 22)
 
 abbrev pub Lost : ℕ → Type 0
 Lost n = n ≡ 6
 
 abbrev pub Halting : ℕ → Type 0
 Halting n = (7 ≤ n) × (n ≤ 18)
+
+-- the numbers that a step may give: 0 to 20, and 22
+abbrev pub OfStep : ℕ → Type 0
+OfStep n = (n ≤ 20) ⊎ (n ≡ 22)
 
 unfoldable pub numberOf : Reply → ℕ
 numberOf Done = 0
@@ -40,14 +45,16 @@ numberOf SyncIllegal = 18
 numberOf NotLoaded = 19
 numberOf Trapped = 20
 numberOf OutOfReach = 21
+numberOf Shared = 22
+numberOf Across = 23
 
 unfoldable pub replyOf : ℕ → Reply
 replyOf n = getD (Done ∷ NotAdmissible ∷ WindowRule ∷ NoArm ∷ NamedTrap ∷ NoSpecial ∷ Missing
     ∷ PutUnknown ∷ PutPrivileged ∷ PutIllegal ∷ PutThreshold ∷ PutStatus ∷ Misplaced
     ∷ SaveLocal ∷ SavedThreshold ∷ SavedStatus ∷ SavedCount ∷ SyncPrivileged ∷ SyncIllegal ∷ NotLoaded ∷ Trapped
-    ∷ OutOfReach ∷ []) n Done
+    ∷ OutOfReach ∷ Shared ∷ Across ∷ []) n Done
 
--- the two are inverse on 0 to 21
+-- the two are inverse on 0 to 23
 pub record Numbered : Type 0 where
   pub reply-number : (r : Reply) → replyOf (numberOf r) ≡ r
-  pub number-reply : (n : ℕ) → n ≤ 21 → numberOf (replyOf n) ≡ n
+  pub number-reply : (n : ℕ) → n ≤ 23 → numberOf (replyOf n) ≡ n

@@ -1,4 +1,4 @@
--- Theorem 9. The order of judging. "Order: 1, 2, then 3 to 5, then the instruction's own. SAVE judges 13 before 6; POP judges no frame, 12, 6;
+-- Theorem 9. The order of judging. "Order: 1, 2, [22,] then 3 to 5, then the instruction's own. SAVE judges 13 before 6; POP judges no frame, 12, 6;
 -- UNSAVE judges 6, 14, 15, 6, 16, 6 as its needs appear"; an exception "judges 1, then 19".
 -- Each statement holds whatever a later judgment would be: it asks nothing of what that one looks at.
 use Prim.Native.Nat.{ℕ, _+_, _-_, _*_, _/_, _%_, _^_, _<_, _≤_}
@@ -7,7 +7,7 @@ use mathlib.Core.Logic.{_≢_}
 use mathlib.Core.Bool.{true, false}
 use lib.Count.{leadingZeros}
 use Rattle.model.specs.Registers.{rJ, rO, rG, sp, reg, admissible, goes, halted}
-use Rattle.model.specs.Memory.{Windows, shapesOf, ruled, inside, both}
+use Rattle.model.specs.Memory.{Windows, shapesOf, ruled, shares, inside, both}
 use Rattle.model.specs.Plan.{Outcome, clear, look}
 use Rattle.model.specs.Opcodes.{armOf, opSAVE, opPOP, opUNSAVE}
 use Rattle.model.specs.NoMemory.{say}
@@ -25,10 +25,11 @@ refusedBy n w s = record { reply = n; state = s; memory = w }
 abbrev pub haltedBy : ℕ → Windows → State → Outcome State Windows
 haltedBy n w s = refusedBy n w (halted s)
 
--- neither 1 nor 2
+-- neither 1 nor 2 nor 22
 pub record Passes (w : Windows) (s : State) : Type 0 where
   pub admitted : admissible s ≡ true
   pub windowed : ruled (shapesOf w) ≡ true
+  pub apart : shares (shapesOf w) ≡ false
 
 -- the packed octabyte at p is there, and so are its rG and rA as saved
 pub record Packed (w : Windows) (p g a : ℕ) : Type 0 where
@@ -46,9 +47,12 @@ pub record Counted (w : Windows) (p g a l : ℕ) : Type 0 where
   pub count : look both w (below p (countBelow g)) ≡ l
 
 pub record StepsInOrder : Type 0 where
-  -- 1, whatever the window and the instruction are; then 2, whatever the instruction is; then 3 to 5
+  -- 1, whatever the windows and the instruction are; then 2, whatever they share and the instruction is; then 22, "judged right after 2", whatever the
+  -- instruction is; then 3 to 5
   pub one-first : (w : Windows) (s : State) (op x y z : ℕ) → admissible s ≡ false → stepOf w s op x y z ≡ refusedBy 1 w s
   pub two-next : (w : Windows) (s : State) (op x y z : ℕ) → admissible s ≡ true → ruled (shapesOf w) ≡ false → stepOf w s op x y z ≡ refusedBy 2 w s
+  pub twenty-two : (w : Windows) (s : State) (op x y z : ℕ) → admissible s ≡ true → ruled (shapesOf w) ≡ true → shares (shapesOf w) ≡ true
+      → stepOf w s op x y z ≡ refusedBy 22 w s
   pub three-to-five : (w : Windows) (s : State) (op x y z : ℕ) → Passes w s → refusalOf (armOf op) x y z ≢ 0
       → stepOf w s op x y z ≡ refusedBy (refusalOf (armOf op) x y z) w s
   -- SAVE: 13, whatever lies in the window; then 6

@@ -7,21 +7,21 @@ use mathlib.Core.List.{List, [], _∷_, _++_}
 use lib.Dec.{eqb}
 use lib.ListN.{replicate}
 use Rattle.model.specs.Fill.{tab}
-use Rattle.model.specs.Memory.{Windows, Shapes, ruled, putOcta}
+use Rattle.model.specs.Memory.{Windows, Shape, Shapes, ruled, putOcta}
 use Rattle.model.specs.Registers.{rB, rD, rE, rH, rJ, rM, rR, rBB, rC, rN, rO, rS, rI, rT, rTT, rK, rQ, rU, rV, rG, rL, rA, rF, rP, rW, rX, rY, rZ, rWW, rXX, rYY, rZZ, stackStart, fresh, goes, halted, withSpecial, stored}
 use Rattle.model.specs.Step.{Item, step, exception}
 use Rattle.model.specs.Reader.{readContext}
-use Rattle.model.specs.Bench.{Point, allMet, start, sameList, sameState}
+use Rattle.model.specs.Bench.{Point, allMet, start, stackAlone, sameList, sameState}
 use Rattle.model.specs.declared.State.{State}
 
 -- ---- on no memory
 
 abbrev nowhere : Windows
-nowhere = record { base = stackStart; bytes = [] }
+nowhere = stackAlone (record { base = stackStart; bytes = [] })
 
 -- one octabyte, 0
 abbrev eight : Windows
-eight = record { base = stackStart; bytes = replicate 8 0 }
+eight = stackAlone (record { base = stackStart; bytes = replicate 8 0 })
 
 -- n locals, each 1 up to $1
 abbrev locals : ℕ → State
@@ -174,7 +174,7 @@ callPoints = calls 0xF2 2 3 0x4080C ∷ calls 0xF3 255 255 0x3fffc ∷ calls 0xB
 
 -- POP of three outputs, and of one more than there are: the frame below rO has one local, 7
 abbrev frame : Windows
-frame = record { base = stackStart; bytes = replicate 7 0 ++ (7 ∷ replicate 7 0) ++ (1 ∷ []) }
+frame = stackAlone (record { base = stackStart; bytes = replicate 7 0 ++ (7 ∷ replicate 7 0) ++ (1 ∷ []) })
 
 abbrev outputs : State
 outputs = stored (stored (stored (withSpecial (withSpecial (withSpecial start rO (stackStart + 16)) rS (stackStart + 16)) rL 3) 0 1) 1 2) 2 3
@@ -239,15 +239,22 @@ admissiblePoints =
     ∷ admitted (marked start 0x1FF) ∷ inadmissible (marked start 0x200)
     ∷ gives (withSpecial start rG 31) (exception 0 0 0 0 0 0 0) 1 (withSpecial start rG 31) ∷ []
 
--- ---- 2: the window's rule, by its shape
+-- ---- 2: the window's rule, by its shape: the same of A and of B
 
-abbrev shape : ℕ → ℕ → Shapes
+abbrev shape : ℕ → ℕ → Shape
 shape b n = record { from = b; size = n }
+
+-- two windows obey the rule where this one does, as A and as B
+abbrev eitherRuled : Shape → Bool
+eitherRuled w = ruled (record { a = w; b = shape 8 0 }) && ruled (record { a = shape 8 0; b = w })
+
+abbrev neitherRuled : Shape → Bool
+neitherRuled w = not (ruled (record { a = w; b = shape 8 0 })) && not (ruled (record { a = shape 8 0; b = w }))
 
 unfoldable pub ruledShapes : Bool
 ruledShapes =
-    ruled (shape 0 65536) && (ruled (shape (2 ^ 64 - 8) 8) && (ruled (shape 8 0)
-    && (not (ruled (shape 0 65544)) && (not (ruled (shape 0 4)) && (not (ruled (shape 4 8)) && (not (ruled (shape (2 ^ 64) 8)) && not (ruled (shape 1 0))))))))
+    eitherRuled (shape 0 65536) && (eitherRuled (shape (2 ^ 64 - 8) 8) && (eitherRuled (shape 8 0)
+    && (neitherRuled (shape 0 65544) && (neitherRuled (shape 0 4) && (neitherRuled (shape 4 8) && (neitherRuled (shape (2 ^ 64) 8) && neitherRuled (shape 1 0)))))))
 
 -- ---- the special registers' numbers, and the fresh state's, one by one
 
@@ -271,16 +278,18 @@ freshIs = sameState fresh (record {
 -- ---- the reader: a context of 15 octabytes, rG 255, in a window of 17; none in an empty window, and in one that breaks its rule
 
 abbrev contextual : Windows
-contextual = putOcta (record { base = stackStart; bytes = replicate 136 0 }) (stackStart + 120) (255 * 2 ^ 56)
+contextual = putOcta (stackAlone (record { base = stackStart; bytes = replicate 136 0 })) (stackStart + 120) (255 * 2 ^ 56)
 
-abbrev reads : Windows → ℕ → ℕ → ℕ → ℕ → Bool
-reads w p r o n =
-    eqb (readContext w p .reply) r && (eqb (readContext w p .state .start) o && eqb (readContext w p .state .size) n)
+-- its reply, the window's number, the part's start and its length
+abbrev pub reads : Windows → ℕ → ℕ → ℕ → ℕ → ℕ → Bool
+reads w p r k o n =
+    eqb (readContext w p .reply) r
+    && (eqb (readContext w p .state .which) k && (eqb (readContext w p .state .start) o && eqb (readContext w p .state .size) n))
 
 unfoldable pub readerPoints : Bool
 readerPoints =
-    reads contextual (stackStart + 120) 0 8 120
-    && (reads contextual (stackStart + 128) 14 0 0 && (reads nowhere stackStart 6 0 0 && reads (record { base = 4; bytes = [] }) 0 2 0 0))
+    reads contextual (stackStart + 120) 0 1 8 120
+    && (reads contextual (stackStart + 128) 14 0 0 0 && (reads nowhere stackStart 6 0 0 0 && reads (stackAlone (record { base = 4; bytes = [] })) 0 2 0 0 0))
 
 unfoldable pub morePoints : List Point
 morePoints =

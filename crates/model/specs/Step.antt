@@ -3,7 +3,7 @@ use Prim.Native.Nat.{ℕ, _+_, _*_, _%_, _^_}
 use mathlib.Core.Bool.{Bool, cond, _&&_, _||_}
 use mathlib.Core.List.{List, []}
 use lib.Dec.{leb, ltb, eqb}
-use Rattle.model.specs.Memory.{Windows, Shapes, shapesOf, ruled, inside, both}
+use Rattle.model.specs.Memory.{Windows, Shapes, shapesOf, ruled, shares, inside, both}
 use Rattle.model.specs.Plan.{Plan, answer, Outcome, perform, needs}
 use Rattle.model.specs.Lists.{Machine}
 use Rattle.model.specs.Registers.{rJ, sp, reg, admissible, goes, following, next, setRegister}
@@ -47,15 +47,15 @@ refusalOf (load d g o) x y z = 0
 refusalOf (store d g o) x y z = 0
 refusalOf (arithmetic f p q) x y z = 0
 
--- 2: "window length or base breaks its rule"; 0 where it does not
+-- 2: "window length or base breaks its rule", of either; 22: "the two windows share an octabyte, judged right after 2"; 0 where neither is so
 unfoldable pub unruledBy : Shapes → ℕ
-unruledBy w = cond (ruled w) 0 2
+unruledBy w = cond (ruled w) (cond (shares w) 22 0) 2
 
--- "Order: 1, 2, then 3 to 5, then the instruction's own"
+-- "Order: 1, 2, [22,] then 3 to 5, then the instruction's own"
 unfoldable pub judged : State → Shapes → Arm → ℕ → ℕ → ℕ → ℕ
 judged s w a x y z = cond (admissible s) (cond (eqb (unruledBy w) 0) (refusalOf a x y z) (unruledBy w)) 1
 
--- 6: "a needed octabyte lies outside the window"
+-- 6: "a needed octabyte lies outside the window": "number 6 means in neither"
 unfoldable pub refusing : Shapes → ℕ → ℕ
 refusing w a = cond (inside w a) 0 6
 
@@ -89,7 +89,7 @@ planOf s (store d g o) op x y z = storeTo s d g x (sumOf s o y z) (wordOf op x y
 planOf s (arithmetic f p q) op x y z = tell (arithmeticSays s f x (operandOf s p y) (operandOf s q z) (wordOf op x y z))
 planOf s none op x y z = tell (say 3 s)
 
--- "Order: 1, 2, ..", `bad` where one of them is met; ..
+-- "Order: 1, 2, [22] ..", `bad` where one of them is met; ..
 unfoldable pub guarded : {S : Type 0} → S → State → Shapes → Plan S → Plan S
 guarded bad s w p = cond (admissible s) (cond (eqb (unruledBy w) 0) p (answer (unruledBy w) bad 0 [])) (answer 1 bad 0 [])
 

@@ -4,6 +4,12 @@
 ghost use mathlib.Core.Path.{_≡_};
 ghost use Rattle.model.specs.Registers.{fresh};
 
+/// Where the two lent windows lie: the base addresses of A and of B, the stack's.
+pub struct Bases {
+    pub a: u64,
+    pub b: u64,
+}
+
 /// 256 general registers, 32 special ones, PC, halt code (the Rust's `exit_code`) and vector marks:
 /// bit k of the marks says that all four bytes at 16 × k were loaded.
 #[repr(C)]
@@ -43,6 +49,10 @@ pub enum Reply {
     Trapped,
     // 21 is no step's: no field of either direction reaches an address.
     OutOfReach,
+    // The two windows share an octabyte: judged right after 2, and leaves everything as it was.
+    Shared,
+    // The reader's alone: a context that lies across both windows.
+    Across,
 }
 
 /// Which field of an instruction reaches an address: its direction and its value.
