@@ -2,7 +2,7 @@
 -- The one place that goes by arms: `Meets` asks R of each state builder, `step-meets` gives it of every step.
 -- W is a property of the numbers that a state comes to hold, Read of the octabytes that are read: both may say nothing.
 use mathlib.Core.Path.{_≡_, refl, ap, _∙_}
-use mathlib.Core.Logic.{_⊎_, inl, inr}
+use mathlib.Core.Logic.{_⊎_, inl, inr, ⊎-elim, _≢_}
 use mathlib.Core.Bool.{Bool, true, false, cond, _&&_, _||_}
 use mathlib.Core.List.{List, [], _∷_}
 use Prim.Native.Nat.{ℕ, zero, suc, _+_, _-_, _*_, _%_, _^_, _≤_, _<_, max}
@@ -13,7 +13,7 @@ use lib.Count.{leadingZeros, leading-le}
 use borrow.Author.Tests.{leb-true, ltb-false, eqb-true, eqb-false}
 use Rattle.model.specs.Fill.{tab}
 use Rattle.model.specs.Registers.{rG, rL, rA, rJ, sp, reg, admissible, goes, following, next, halted, withSpecial, setRegister, putLocals, putGlobals}
-use Rattle.model.specs.Memory.{Windows, Shapes, shapesOf, ruled, inside, both}
+use Rattle.model.specs.Memory.{Windows, Shapes, shapesOf, ruled, shares, inside, both}
 use Rattle.model.specs.Plan.{Plan, answer, read, Outcome, perform, worst, clear, looks, puts, named}
 use Rattle.model.specs.Opcodes.{Width, Sign, signed, unsigned, Arm, Way, forward, backward, Operand, register, immediate, branch, jump, getAddress, go, pushJump, pushGo, pop, put, get, save, unsave, sync, swym, trip, trap, load, store, arithmetic, none, armOf}
 use Rattle.model.specs.NoMemory.{say, Said, tell}
@@ -39,7 +39,7 @@ pub record Meets (s : State) (W : ℕ → Type 0) (Read : List ℕ → Type 0) (
   pub word : (n : ℕ) → n < 2 ^ 64 → W n
   pub general-is : (i : ℕ) → W (reg s i)
   pub special-is : (k : ℕ) → W (sp s k)
-  pub refuses : (n : ℕ) → Early n → R n s []
+  pub refuses : R 3 s []
   pub halts : (n : ℕ) → Halting n → R n (halted s) []
   pub moves : (a : ℕ) → W a → R 0 (goes s a) []
   pub writes : (x v a : ℕ) → W v → W a → R 0 (goes (setRegister s x v) a) []
@@ -249,9 +249,9 @@ module _ (s : State) (W : ℕ → Type 0) (Read : List ℕ → Type 0) (R : ℕ 
   plan-meets (store d g o) op x y z wy wz mi = store-meets d g x (sumOf s o y z) (wordOf op x y z) (λ e. mi .stores d o (ap (λ (h : Sign). store d h o) e))
   plan-meets (arithmetic f p q) op x y z wy wz mi =
       arithmetic-meets f x (operandOf s p y) (operandOf s q z) (wordOf op x y z) (operand-is s W Read R m p y wy) (operand-is s W Read R m q z wz) (mi .computes f p q refl)
-  plan-meets none op x y z wy wz mi = m .refuses 3 (omega arith, omega arith)
+  plan-meets none op x y z wy wz mi = m .refuses
 
-refusal-most : (a : Arm) (x y z : ℕ) → refusalOf a x y z ≤ 5
+pub refusal-most : (a : Arm) (x y z : ℕ) → refusalOf a x y z ≤ 5
 unfolding refusalOf
 refusal-most none x y z = omega arith
 refusal-most trap x y z = on (λ (n : ℕ). n ≤ 5) (eqb x 0 && isNamed y) (λ e. omega arith) (λ e. omega arith)
@@ -273,12 +273,34 @@ refusal-most (load d g o) x y z = omega arith
 refusal-most (store d g o) x y z = omega arith
 refusal-most (arithmetic f p q) x y z = omega arith
 
-pub judged-most : (s : State) (w : Shapes) (a : Arm) (x y z : ℕ) → judged s w a x y z ≤ 5
-unfolding judged unruledBy
-judged-most s w a x y z =
-    on (λ (n : ℕ). n ≤ 5) (admissible s)
-    (λ e. on (λ (n : ℕ). n ≤ 5) (eqb (unruledBy w) 0) (λ f. refusal-most a x y z) (λ f. on (λ (n : ℕ). n ≤ 5) (ruled w) (λ g. omega arith) (λ g. omega arith)))
-    (λ e. omega arith)
+-- 0, or one of 1 to 5 and 22
+Judged : ℕ → Type 0
+Judged n = (n ≡ 0) ⊎ Early n
+
+up-to-five : (n : ℕ) → n ≤ 5 → Judged n
+unfolding Judged
+up-to-five n l = go (eqb n 0) refl
+  where
+    go : (b : Bool) → eqb n 0 ≡ b → (n ≡ 0) ⊎ Early n
+    go true e = inl (eqb-true _ _ e)
+    go false e = let f : n ≢ 0 = eqb-false _ _ e in inr (inl (omega arith, l))
+
+unruled-judged : (w : Shapes) → Judged (unruledBy w)
+unfolding Judged unruledBy
+unruled-judged w =
+    on (λ (n : ℕ). (n ≡ 0) ⊎ Early n) (ruled w)
+    (λ e. on (λ (n : ℕ). (n ≡ 0) ⊎ Early n) (shares w) (λ f. inr (inr refl)) (λ f. inl refl))
+    (λ e. inr (inl (omega arith, omega arith)))
+
+pub judged-early : (s : State) (w : Shapes) (a : Arm) (x y z : ℕ) → eqb (judged s w a x y z) 0 ≡ false → Early (judged s w a x y z)
+judged-early s w a x y z e = pick (judged s w a x y z) (eqb-false _ _ e) all
+  where
+    all : Judged (judged s w a x y z)
+    all = unfold judged in
+        (on Judged (admissible s) (λ e. on Judged (eqb (unruledBy w) 0) (λ f. up-to-five _ (refusal-most a x y z)) (λ f. unruled-judged w)) (λ e. up-to-five 1 (omega arith)))
+
+    pick : (n : ℕ) → n ≢ 0 → Judged n → Early n
+    pick n f h = ⊎-elim (λ z. absurd (f z)) (λ g. g) (unfold Judged in h)
 
 -- the step by the number that judging gives
 pub step-judged : (s : State) (w : Shapes) (op x y z : ℕ)
@@ -302,17 +324,14 @@ step-judged s w op x y z = go (admissible s) (eqb (unruledBy w) 0) refl
     go true true e = refl
     go true false e = rw e
 
--- 1 to 5 in order, then the arm; the arm is met only where the state was admissible
+-- 1 to 5 and 22 in order, then the arm; the arm is met only where the state was admissible
 pub step-meets : (s : State) (w : Shapes) (Read : List ℕ → Type 0) (R : ℕ → State → List ℕ → Type 0) → ((n : ℕ) → Early n → R n s [])
     → (op x y z : ℕ) → (admissible s ≡ true → Answers Read R (planOf s (armOf op) op x y z)) → Answers Read R (stepPlan s w op x y z)
 unfolding tell Answers
 step-meets s w Read R refuses op x y z met =
     rw (step-judged s w op x y z) (on (Answers Read R) (eqb (judged s w (armOf op) x y z) 0) (λ e. met (passed (eqb-true _ _ e)))
-    (λ e. refuses _ (nonzero (judged s w (armOf op) x y z) (eqb-false _ _ e), judged-most s w (armOf op) x y z)))
+    (λ e. refuses _ (judged-early s w (armOf op) x y z e)))
   where
-    nonzero : (n : ℕ) → (n ≡ 0 → ⊥) → 1 ≤ n
-    nonzero n f = omega arith
-
     passed : judged s w (armOf op) x y z ≡ 0 → admissible s ≡ true
     passed = unfold judged in (go (admissible s))
       where

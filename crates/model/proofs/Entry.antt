@@ -1,25 +1,26 @@
--- The entries once 1 to 5 have passed; the window's judge; a ruled window; and windows equal octabyte by octabyte, which are equal byte by byte.
+-- The entries once 1 to 5 and 22 have passed; the windows' judge; and windows equal octabyte by octabyte, which are equal byte by byte.
 use mathlib.Core.Path.{_≡_, refl, sym, ap, _∙_, subst}
-use mathlib.Core.Logic.{_⊎_, inl, inr}
-use mathlib.Core.Bool.{true, _&&_, Bool, cond, false}
+use mathlib.Core.Logic.{_⊎_, inl, inr, _≢_}
+use mathlib.Core.Bool.{true, false}
 use mathlib.Core.List.{List, []}
 use Prim.Native.Nat.{ℕ, zero, suc, _+_, _-_, _*_, _/_, _%_, _^_, _≤_, _<_}
 use native.Mathlib.Omega.{arith}
 use native.Mathlib.Decide.{decLt}
 use lib.ListN.{length, getD, List·getD-eq-default}
-use lib.Dec.{leb, ltb, eqb}
-use borrow.Author.Tests.{eqb-true, ltb-true, leb-true}
+use lib.Dec.{eqb}
+use borrow.Author.Tests.{eqb-true, ne-eqb, le-leb}
 use Rattle.model.specs.Octa.{octa, part}
-use Rattle.model.specs.Memory.{windowMax, Windows, Shapes, shapesOf, shapeOf, ruled, offset, inside, octaAt, octaBytes, both, one}
+use Rattle.model.specs.Memory.{Window, Shape, shapeOf, offset, has, octaBytes, Windows, Shapes, shapesOf, inside, octaAt, both, ruled, shares}
 use Rattle.model.specs.Plan.{Plan, answer, Outcome, perform, worst, clear, puts, Off, Agree}
 use Rattle.model.specs.Registers.{admissible}
 use Rattle.model.specs.Opcodes.{armOf}
 use Rattle.model.specs.Step.{refusalOf, unruledBy, refusing, planOf, guarded, fromThree, stepPlan, stepOf, Item, mmix}
-use Rattle.model.specs.Demand.{SameOutside}
+use Rattle.model.specs.Demand.{SameBytes, SameOutside}
 use Rattle.model.specs.declared.State.{State}
-use Rattle.model.proofs.Bools.{and-left, and-right, on}
+use Rattle.model.proofs.Bools.{on}
 use Rattle.model.proofs.Fill.{lt-or-le}
 use Rattle.model.proofs.Plan.{Sound}
+use Rattle.model.proofs.Apart.{Ruled, ruled-a, ruled-b, apart}
 
 -- ---- judging
 
@@ -44,37 +45,73 @@ unfolding perform
 answered j s t r a vs w =
     on {A = Outcome State Windows} (λ o. o .reply ≡ 0 → worst j a (length vs) ≡ 0) (clear j a (length vs)) (λ e h. eqb-true _ _ e) (λ e h. h)
 
--- 1, 2, or the plan
+-- 1, 2 or 22, or the plan
 module _ {S : Type 0} (w : Windows) (bad : S) (s : State) (p : Plan S) where
   pub guarded-one : admissible s ≡ false → performOn w bad (guarded bad s (shapesOf w) p) ≡ record { reply = 1; state = bad; memory = w }
   unfolding guarded
   guarded-one a = rw a (said w bad bad 1)
 
-  pub guarded-two : admissible s ≡ true → ruled (shapesOf w) ≡ false → performOn w bad (guarded bad s (shapesOf w) p) ≡ record { reply = 2; state = bad; memory = w }
-  unfolding guarded unruledBy
-  guarded-two a r = rw (a, r) (said w bad bad 2)
+  pub guarded-unruled : admissible s ≡ true → unruledBy (shapesOf w) ≢ 0
+      → performOn w bad (guarded bad s (shapesOf w) p) ≡ record { reply = unruledBy (shapesOf w); state = bad; memory = w }
+  unfolding guarded
+  guarded-unruled a n = rw (a, ne-eqb (unruledBy (shapesOf w)) 0 n) (said w bad bad (unruledBy (shapesOf w)))
 
-  pub guarded-open : admissible s ≡ true → ruled (shapesOf w) ≡ true → performOn w bad (guarded bad s (shapesOf w) p) ≡ performOn w bad p
-  unfolding guarded unruledBy
+  pub guarded-open : admissible s ≡ true → unruledBy (shapesOf w) ≡ 0 → performOn w bad (guarded bad s (shapesOf w) p) ≡ performOn w bad p
+  unfolding guarded
   guarded-open a r = rw (a, r)
 
 -- the step is its arm's plan
-pub step-open : (w : Windows) (s : State) (op x y z : ℕ) → admissible s ≡ true → ruled (shapesOf w) ≡ true → refusalOf (armOf op) x y z ≡ 0
+pub step-open : (w : Windows) (s : State) (op x y z : ℕ) → admissible s ≡ true → unruledBy (shapesOf w) ≡ 0 → refusalOf (armOf op) x y z ≡ 0
     → stepOf w s op x y z ≡ performOn w s (planOf s (armOf op) op x y z)
 unfolding stepOf stepPlan fromThree
 step-open w s op x y z a r e = guarded-open w s s (fromThree s (armOf op) op x y z) a r ∙ rw e
 
--- a step that is done met neither 1 nor 2
-pub step-done : (w : Windows) (s : State) (op x y z : ℕ) → stepOf w s op x y z .reply ≡ 0 → (admissible s ≡ true) × (ruled (shapesOf w) ≡ true)
-unfolding stepOf stepPlan guarded unruledBy
-step-done w s op x y z = go (admissible s) (ruled (shapesOf w))
-  where
-    go : (b c : Bool)
-        → performOn w s (cond b (cond (eqb (cond c 0 2) 0) (fromThree s (armOf op) op x y z) (answer (cond c 0 2) s 0 [])) (answer 1 s 0 [])) .reply ≡ 0
-        → (b ≡ true) × (c ≡ true)
-    go true true h = (refl, refl)
-    go true false h = absurd (omega (arith, said-reply w s s 2))
-    go false c h = absurd (omega (arith, said-reply w s s 1))
+-- a step that is done met neither 1 nor 2 nor 22
+pub step-done : (w : Windows) (s : State) (op x y z : ℕ) → stepOf w s op x y z .reply ≡ 0 → (admissible s ≡ true) × (unruledBy (shapesOf w) ≡ 0)
+unfolding stepOf stepPlan guarded
+step-done w s op x y z =
+    on (λ (p : Plan State). performOn w s p .reply ≡ 0 → (admissible s ≡ true) × (unruledBy (shapesOf w) ≡ 0)) (admissible s)
+    (λ a. on (λ (p : Plan State). performOn w s p .reply ≡ 0 → (admissible s ≡ true) × (unruledBy (shapesOf w) ≡ 0)) (eqb (unruledBy (shapesOf w)) 0)
+    (λ e h. (a, eqb-true _ _ e)) (λ e h. (a, sym (said-reply w s s (unruledBy (shapesOf w))) ∙ h)))
+    (λ a h. absurd (omega (arith, said-reply w s s 1, h)))
+
+-- ---- the windows' numbers
+
+-- 0 says that both obey their rules and share nothing; 2 and 22 what they say
+pub unruled-none : (w : Shapes) → unruledBy w ≡ 0 → (ruled w ≡ true) × (shares w ≡ false)
+unfolding unruledBy
+unruled-none w =
+    on (λ (n : ℕ). n ≡ 0 → (ruled w ≡ true) × (shares w ≡ false)) (ruled w)
+    (λ e. on (λ (n : ℕ). n ≡ 0 → (ruled w ≡ true) × (shares w ≡ false)) (shares w) (λ f h. absurd (omega arith)) (λ f h. (e, f)))
+    (λ e h. absurd (omega arith))
+
+pub none-unruled : (w : Shapes) → ruled w ≡ true → shares w ≡ false → unruledBy w ≡ 0
+unfolding unruledBy
+none-unruled w r n = rw (r, n)
+
+pub unruled-is : (w : Shapes) → (unruledBy w ≡ 0) ⊎ ((unruledBy w ≡ 2) ⊎ (unruledBy w ≡ 22))
+unfolding unruledBy
+unruled-is w =
+    on (λ (n : ℕ). (n ≡ 0) ⊎ ((n ≡ 2) ⊎ (n ≡ 22))) (ruled w)
+    (λ e. on (λ (n : ℕ). (n ≡ 0) ⊎ ((n ≡ 2) ⊎ (n ≡ 22))) (shares w) (λ f. inr (inr refl)) (λ f. inl refl))
+    (λ e. inr (inl refl))
+
+pub unruled-two : (w : Shapes) → ruled w ≡ false → unruledBy w ≡ 2
+unfolding unruledBy
+unruled-two w r = rw r
+
+pub unruled-shared : (w : Shapes) → ruled w ≡ true → shares w ≡ true → unruledBy w ≡ 22
+unfolding unruledBy
+unruled-shared w r n = rw (r, n)
+
+pub shared-only : (w : Shapes) → unruledBy w ≡ 22 → (ruled w ≡ true) × (shares w ≡ true)
+unfolding unruledBy
+shared-only w =
+    on (λ (n : ℕ). n ≡ 22 → (ruled w ≡ true) × (shares w ≡ true)) (ruled w)
+    (λ e. on (λ (n : ℕ). n ≡ 22 → (ruled w ≡ true) × (shares w ≡ true)) (shares w) (λ f h. (e, f)) (λ f h. absurd (omega arith)))
+    (λ e h. absurd (omega arith))
+
+-- ---- the judge
 
 -- the judge passes just what lies in the window
 pub judged-inside : (w : Shapes) (a : ℕ) → refusing w a ≡ 0 → inside w a ≡ true
@@ -86,36 +123,18 @@ unfolding refusing
 inside-judged w a e = rw e
 
 pub sound : (w : Shapes) → Sound both (refusing w) w
-unfolding one
+unfolding both
 sound w a = judged-inside w a
 
 pub sound-at : (w : Windows) → Sound both (refusing (shapesOf w)) (both .shape w)
-unfolding one
+unfolding both
 sound-at w = sound (shapesOf w)
 
 pub mmix-sound : (s : State) (w : Shapes) (i : Item) → Sound both (mmix .judge s w i) w
 unfolding mmix
 mmix-sound s w i = sound w
 
--- ---- a ruled window
-
-pub record Ruled (w : Shapes) : Type 0 where
-  pub base-aligned : w .from % 8 ≡ 0
-  pub base-word : w .from < 2 ^ 64
-  pub size-octas : w .size % 8 ≡ 0
-  pub size-most : w .size < 2 ^ 60
-
-pub ruled-facts : (w : Shapes) → ruled w ≡ true → Ruled w
-unfolding ruled
-ruled-facts w e =
-    let e1 : (ltb (w .from) (2 ^ 64) && (eqb (w .size % 8) 0 && leb (w .size) windowMax)) ≡ true = and-right (eqb (w .from % 8) 0) _ e in
-    let e2 : (eqb (w .size % 8) 0 && leb (w .size) windowMax) ≡ true = and-right (ltb (w .from) (2 ^ 64)) _ e1 in
-    record {
-      base-aligned = eqb-true _ _ (and-left (eqb (w .from % 8) 0) _ e);
-      base-word = ltb-true _ _ (and-left (ltb (w .from) (2 ^ 64)) _ e1);
-      size-octas = eqb-true _ _ (and-left (eqb (w .size % 8) 0) _ e2);
-      size-most = let m : w .size ≤ windowMax = leb-true _ _ (and-right (eqb (w .size % 8) 0) _ e2) in omega arith;
-    }
+-- ---- bytes
 
 getD-part : (n : ℕ) (l : List ℕ) (o k : ℕ) → k < n → getD (part l o n) k 0 ≡ getD l (o + k) 0
 unfolding part
@@ -135,27 +154,61 @@ offset-byte b i al wo l =
     let m : b % 2 ^ 64 ≡ 8 * (b / 8) = omega arith in
     rw (e, m) (distance (b / 8) (i / 8) (omega arith) (omega arith) (decLt (b / 8 + i / 8) (2 ^ 61)))
 
--- byte i of a window is byte i % 8 of the octabyte that its address names
-pub byte-of : (w : Windows) (i : ℕ) → Ruled (shapesOf w) → i < length (w .bytes) → getD (w .bytes) i 0 ≡ getD (octaAt w (w .base + i)) (i % 8) 0
+-- byte i of a window is byte i % 8 of the octabyte that its address names, which lies in it
+pub byte-of : (w : Window) (i : ℕ) → Ruled (shapeOf w) → i < length (w .bytes) → getD (w .bytes) i 0 ≡ getD (octaBytes w (w .base + i)) (i % 8) 0
 unfolding octaBytes shapeOf
 byte-of w i r l =
     let n : length (w .bytes) < 2 ^ 60 = r .size-most in
     let e : offset (w .base) (w .base + i) ≡ 8 * (i / 8) = offset-byte (w .base) i (r .base-aligned) (r .base-word) (omega arith) in
     ap (λ (k : ℕ). getD (w .bytes) k 0) (omega arith) ∙ sym (getD-part 8 (w .bytes) (offset (w .base) (w .base + i)) (i % 8) (omega arith))
 
-pub bytes-agree : (F : ℕ → Type 0) (v w : Windows) → Ruled (shapesOf v) → Agree both F v w → SameOutside F v w
-unfolding one
-bytes-agree F v w r g = record { base-same = bs; length-same = ls; byte-same = λ i off. byte i off (lt-or-le i (length (v .bytes))) }
+byte-has : (w : Window) (i : ℕ) → Ruled (shapeOf w) → i < length (w .bytes) → has (shapeOf w) (w .base + i) ≡ true
+unfolding has shapeOf
+byte-has w i r l =
+    let n : length (w .bytes) < 2 ^ 60 = r .size-most in
+    let m : length (w .bytes) % 8 ≡ 0 = r .size-octas in
+    let e : offset (w .base) (w .base + i) ≡ 8 * (i / 8) = offset-byte (w .base) i (r .base-aligned) (r .base-word) (omega arith) in
+    le-leb (offset (w .base) (w .base + i) + 8) (length (w .bytes)) (omega arith)
+
+-- one window of two
+one-agrees : (F : ℕ → Type 0) (v w : Window) → Ruled (shapeOf v) → shapeOf v ≡ shapeOf w
+    → ((a : ℕ) → has (shapeOf v) a ≡ true → Off F a → octaBytes v a ≡ octaBytes w a) → SameBytes F v w
+one-agrees F v w r sh g = record { base-same = bs; length-same = ls; byte-same = λ i off. byte i off (lt-or-le i (length (v .bytes))) }
   where
     bs : v .base ≡ w .base
-    bs = unfold shapeOf in (ap (λ (s : Shapes). s .from) (g .shape-same))
+    bs = unfold shapeOf in (ap (λ (s : Shape). s .from) sh)
 
     ls : length (v .bytes) ≡ length (w .bytes)
-    ls = unfold shapeOf in (ap (λ (s : Shapes). s .size) (g .shape-same))
+    ls = unfold shapeOf in (ap (λ (s : Shape). s .size) sh)
 
     byte : (i : ℕ) → Off F (v .base + i) → (i < length (v .bytes)) ⊎ (length (v .bytes) ≤ i) → getD (v .bytes) i 0 ≡ getD (w .bytes) i 0
     byte i off (inl l) =
-        let rw' : Ruled (shapesOf w) = subst Ruled (g .shape-same) r in
-        byte-of v i r l ∙ ap (λ (bs : List ℕ). getD bs (i % 8) 0) (g .rest-same (v .base + i) off)
-        ∙ ap (λ (b : ℕ). getD (octaAt w (b + i)) (i % 8) 0) bs ∙ sym (byte-of w i rw' (omega (arith, ls)))
+        let rw' : Ruled (shapeOf w) = subst Ruled sh r in
+        byte-of v i r l ∙ ap (λ (bs : List ℕ). getD bs (i % 8) 0) (g (v .base + i) (byte-has v i r l) off)
+        ∙ ap (λ (b : ℕ). getD (octaBytes w (b + i)) (i % 8) 0) bs ∙ sym (byte-of w i rw' (omega (arith, ls)))
     byte i off (inr l) = List·getD-eq-default (v .bytes) 0 l ∙ sym (List·getD-eq-default (w .bytes) 0 (omega (arith, ls)))
+
+-- an octabyte that lies in B, and one that does not
+at-b : (m : Windows) (x : ℕ) → has (shapeOf (m .b)) x ≡ true → octaAt m x ≡ octaBytes (m .b) x
+unfolding octaAt
+at-b m x h = rw h
+
+at-a : (m : Windows) (x : ℕ) → has (shapeOf (m .b)) x ≡ false → octaAt m x ≡ octaBytes (m .a) x
+unfolding octaAt
+at-a m x h = rw h
+
+pub bytes-agree : (F : ℕ → Type 0) (v w : Windows) → unruledBy (shapesOf v) ≡ 0 → Agree both F v w → SameOutside F v w
+unfolding both shapesOf
+bytes-agree F v w u g =
+    let r : (ruled (shapesOf v) ≡ true) × (shares (shapesOf v) ≡ false) = unruled-none (shapesOf v) u in
+    let ra : Ruled (shapeOf (v .a)) = ruled-a (shapesOf v) (r .0) in
+    let rb : Ruled (shapeOf (v .b)) = ruled-b (shapesOf v) (r .0) in
+    let sa : shapeOf (v .a) ≡ shapeOf (w .a) = ap (λ (s : Shapes). s .a) (g .shape-same) in
+    let sb : shapeOf (v .b) ≡ shapeOf (w .b) = ap (λ (s : Shapes). s .b) (g .shape-same) in
+    record {
+      in-a = one-agrees F (v .a) (w .a) ra sa (λ x h off.
+          let n : has (shapeOf (v .b)) x ≡ false = apart (shapesOf v) x ra rb (r .1) h in
+          sym (at-a v x n) ∙ g .rest-same x off ∙ at-a w x (ap (λ (s : Shape). has s x) (sym sb) ∙ n));
+      in-b = one-agrees F (v .b) (w .b) rb sb (λ x h off.
+          sym (at-b v x h) ∙ g .rest-same x off ∙ at-b w x (ap (λ (s : Shape). has s x) (sym sb) ∙ h));
+    }

@@ -19,7 +19,7 @@ use Rattle.model.specs.Lists.{stepOn}
 use Rattle.model.specs.Step.{planOf, stepPlan, Item, step, exception, itemPlan, mmix}
 use Rattle.model.specs.declared.State.{State}
 use Rattle.model.specs.declared.Results.{Results}
-use Rattle.model.proofs.Memory.{one-lawful}
+use Rattle.model.proofs.Memory.{both-lawful}
 use Rattle.model.proofs.Plan.{Always, perform-always}
 use Rattle.model.proofs.ArmAnswers.{Answers, Meets, MeetsTrip, MeetsRaise, MeetsInterrupt, plan-meets, step-meets, exception-meets}
 
@@ -62,7 +62,7 @@ module _ (P : State → Type 0) (k : Keeps P) where
     word = λ n b. tt;
     general-is = λ i. tt;
     special-is = λ i. tt;
-    refuses = λ n a. h;
+    refuses = h;
     halts = λ n a. k .at-halt s h;
     moves = λ a w. k .at-pc s a h;
     writes = λ x v a w u. k .at-pc _ a (k .write s x v h);
@@ -107,4 +107,4 @@ item-keeps P Q k f s w (exception g op x y z u v) q h =
 
 pub item-always : (P : State → Type 0) (w : Windows) (s : State) (i : Item) → P s → Always P (itemPlan s (both .shape w) i) → P (stepOn both mmix s w i .state)
 unfolding stepOn mmix
-item-always P w s i h a = perform-always both one-lawful P _ s (itemPlan s (both .shape w) i) w h a
+item-always P w s i h a = perform-always both both-lawful P _ s (itemPlan s (both .shape w) i) w h a

@@ -1,5 +1,5 @@
 -- Theorem 1: which replies there are, and what each leaves.
-use mathlib.Core.Path.{_≡_, refl, _∙_}
+use mathlib.Core.Path.{_≡_, refl, sym, _∙_}
 use mathlib.Core.Logic.{_⊎_, inl, inr, ⊎-elim, _≢_}
 use mathlib.Core.Bool.{Bool, true, false}
 use mathlib.Core.List.{List, []}
@@ -9,8 +9,8 @@ use lib.Dec.{eqb}
 use lib.ListN.{length, set, length-set}
 use lib.Seq.{getD-set-same, getD-set-other}
 use borrow.Author.Tests.{eqb-true, eqb-false}
-use Rattle.model.specs.Registers.{rB, rH, rJ, rR, rL, rBB, rA, rW, rX, rY, rZ, rWW, rXX, rYY, rZZ, sp, reg, following, Sized, goes, halted, withSpecial, cleared, claimLocal, stored, setRegister, putLocals, putGlobals, isMarginal, spilled}
-use Rattle.model.specs.Memory.{Windows, shapesOf, ruled, putOcta, both, one}
+use Rattle.model.specs.Registers.{rB, rH, rJ, rR, rL, rBB, rA, rW, rX, rY, rZ, rWW, rXX, rYY, rZZ, sp, reg, following, Sized, admissible, goes, halted, withSpecial, cleared, claimLocal, stored, setRegister, putLocals, putGlobals, isMarginal, spilled}
+use Rattle.model.specs.Memory.{Windows, shapesOf, putOcta, both}
 use Rattle.model.specs.Plan.{Plan, Outcome, perform, worst, clear, named, look, looks, puts}
 use Rattle.model.specs.Opcodes.{Width, Sign, signed, Operand, Arm, trip, store, arithmetic, armOf}
 use Rattle.model.specs.Frames.{slide, pushedRule, pushed, unslide, popped}
@@ -20,10 +20,10 @@ use Rattle.model.specs.Control.{operandOf, sumOf}
 use Rattle.model.specs.Trips.{interrupted, tripped, trapped, wordOf, withAdded}
 use Rattle.model.specs.LoadStore.{merged, fits, flagV, storeSays, storeTo}
 use Rattle.model.specs.ArithmeticStep.{resultsIn, withResults}
-use Rattle.model.specs.Step.{judged, refusing, planOf, stepPlan, stepOf, exceptionOf}
-use Rattle.model.specs.Reader.{Part, emptyPart, partAt, readContext}
-use Rattle.model.specs.Leaves.{Interrupted, Tripped, Trapped, StoreLeaves, StepLeaves, ExceptionLeaves, ReaderLeaves, FieldLeaves, RepliesLeave}
-use Rattle.model.specs.Numbers.{Early, Lost, Halting, numberOf}
+use Rattle.model.specs.Step.{refusalOf, unruledBy, judged, refusing, planOf, guarded, fromThree, stepPlan, stepOf, exceptionOf}
+use Rattle.model.specs.Reader.{Stretch, nowhere, stretchOf, across, handed, readContext}
+use Rattle.model.specs.Leaves.{Interrupted, Tripped, Trapped, StoreLeaves, Sharing, StepLeaves, ExceptionLeaves, ReaderLeaves, FieldLeaves, RepliesLeave}
+use Rattle.model.specs.Numbers.{Early, Lost, Halting, OfStep, numberOf}
 use Rattle.model.specs.Field.{answerOf, fieldOf}
 use Rattle.model.specs.declared.State.{State}
 use Rattle.model.specs.declared.Reach.{Reach}
@@ -34,7 +34,8 @@ use Rattle.model.specs.Fill.{over}
 use Rattle.model.proofs.Bools.{on}
 use Rattle.model.proofs.Fill.{length-over}
 use Rattle.model.proofs.ItemInvariant.{Any}
-use Rattle.model.proofs.ArmAnswers.{Meets, MeetsInterrupt, plan-meets, judged-most, step-judged, step-meets, raised-meets, exception-meets, context-meets, worst-six, perform-meets}
+use Rattle.model.proofs.ArmAnswers.{Answers, Meets, MeetsTrip, MeetsRaise, MeetsInterrupt, plan-meets, refusal-most, judged-early, step-judged, step-meets, raised-meets, exception-meets, context-meets, worst-six, perform-meets}
+use Rattle.model.proofs.Entry.{performOn, said-reply, shared-only, unruled-is}
 use Rattle.model.proofs.LoadStore.{store-made}
 
 -- ---- the trip and trap registers
@@ -101,7 +102,7 @@ Nineteen s op x y z t vs =
     ((armOf op ≡ trip) × Tripped s t (wordOf op x y z) (reg s y) (reg s z) × (vs ≡ [])) ⊎ (IsStore (armOf op) ⊎ Computed s op x y z t vs)
 
 record Answered (s : State) (op x y z : ℕ) (r : ℕ) (t : State) (vs : List ℕ) : Type 0 where
-  most : r ≤ 20
+  most : OfStep r
   early : Early r → (t ≡ s) × (vs ≡ [])
   lost : Lost r → (t ≡ s) × (vs ≡ [])
   halting : Halting r → (t ≡ halted s) × (vs ≡ [])
@@ -109,11 +110,18 @@ record Answered (s : State) (op x y z : ℕ) (r : ℕ) (t : State) (vs : List �
   twenty : r ≡ 20 → Trapped s t (wordOf op x y z) (reg s y) (reg s z) × (vs ≡ [])
   done : r ≡ 0 → t .halt ≡ s .halt
 
+-- 0, and 6 to 20, are not given early
+late : (n : ℕ) → (n ≡ 0) ⊎ ((6 ≤ n) × (n ≤ 20)) → Early n → ⊥
+late n (inl e) (inl l) = omega arith
+late n (inl e) (inr f) = omega arith
+late n (inr k) (inl l) = omega arith
+late n (inr k) (inr f) = omega arith
+
 module _ (s : State) (op x y z : ℕ) where
   as-done : (t : State) (vs : List ℕ) → t .halt ≡ s .halt → Answered s op x y z 0 t vs
   as-done t vs e = record {
-    most = omega arith;
-    early = λ p. absurd (omega arith);
+    most = inl (omega arith);
+    early = λ p. absurd (late 0 (inl refl) p);
     lost = λ p. absurd (omega arith);
     halting = λ p. absurd (omega arith);
     nineteen = λ p. absurd (omega arith);
@@ -123,19 +131,19 @@ module _ (s : State) (op x y z : ℕ) where
 
   as-refused : (n : ℕ) → Early n → Answered s op x y z n s []
   as-refused n a = record {
-    most = omega arith;
+    most = ⊎-elim (λ l. inl (omega arith)) (λ e. inr e) a;
     early = λ p. (refl, refl);
     lost = λ p. (refl, refl);
-    halting = λ p. absurd (omega arith);
-    nineteen = λ p. absurd (omega arith);
-    twenty = λ p. absurd (omega arith);
-    done = λ p. absurd (omega arith);
+    halting = λ p. absurd (late n (inr (omega arith, omega arith)) a);
+    nineteen = λ p. absurd (late n (inr (omega arith, omega arith)) a);
+    twenty = λ p. absurd (late n (inr (omega arith, omega arith)) a);
+    done = λ p. absurd (late n (inl p) a);
   }
 
   as-halted : (n : ℕ) → Halting n → Answered s op x y z n (halted s) []
   as-halted n a = record {
-    most = omega arith;
-    early = λ p. absurd (omega arith);
+    most = inl (omega arith);
+    early = λ p. absurd (late n (inr (omega arith, omega arith)) p);
     lost = λ p. absurd (omega arith);
     halting = λ p. (refl, refl);
     nineteen = λ p. absurd (omega arith);
@@ -146,8 +154,8 @@ module _ (s : State) (op x y z : ℕ) where
   -- 19
   as-nineteen : (t : State) (vs : List ℕ) → Nineteen s op x y z t vs → Answered s op x y z 19 t vs
   as-nineteen t vs h = record {
-    most = omega arith;
-    early = λ p. absurd (omega arith);
+    most = inl (omega arith);
+    early = λ p. absurd (late 19 (inr (omega arith, omega arith)) p);
     lost = λ p. absurd (omega arith);
     halting = λ p. absurd (omega arith);
     nineteen = λ p. h;
@@ -157,8 +165,8 @@ module _ (s : State) (op x y z : ℕ) where
 
   as-trapped : (t : State) → Trapped s t (wordOf op x y z) (reg s y) (reg s z) → Answered s op x y z 20 t []
   as-trapped t h = record {
-    most = omega arith;
-    early = λ p. absurd (omega arith);
+    most = inl (omega arith);
+    early = λ p. absurd (late 20 (inr (omega arith, omega arith)) p);
     lost = λ p. absurd (omega arith);
     halting = λ p. absurd (omega arith);
     nineteen = λ p. absurd (omega arith);
@@ -192,7 +200,7 @@ answered s op x y z = record {
   word = λ n b. tt;
   general-is = λ i. tt;
   special-is = λ k. tt;
-  refuses = as-refused s op x y z;
+  refuses = as-refused s op x y z 3 (inl (omega arith, omega arith));
   halts = as-halted s op x y z;
   moves = λ a w. as-done s op x y z _ [] refl;
   writes = λ k v a w u. as-done s op x y z _ [] (set-halt s k v);
@@ -242,14 +250,15 @@ answered-interrupt s op x y z n = record {
 stored-none : (w : Windows) (a : ℕ) (vs : List ℕ) → vs ≡ [] → puts both w a vs ≡ w
 stored-none w a vs e = rw e (unfold puts in refl)
 
--- 19 of a store is left to be shown
+-- 19 of a store, and 22, are left to be shown
 Leaves : (w : Windows) (s : State) (op x y z : ℕ) (o : Outcome State Windows) → Type 0
-Leaves w s op x y z o = (IsStore (armOf op) → o .reply ≡ 19 → StoreLeaves w s op x y z o) → StepLeaves w s op x y z o
+Leaves w s op x y z o =
+    (IsStore (armOf op) → o .reply ≡ 19 → StoreLeaves w s op x y z o) → (o .reply ≡ 22 → (admissible s ≡ true) × Sharing (shapesOf w)) → StepLeaves w s op x y z o
 
 leaves-of : (w : Windows) (s : State) (op x y z : ℕ) (r : ℕ) (t : State) (a : ℕ) (vs : List ℕ) → Answered s op x y z r t vs
     → Leaves w s op x y z (record { reply = r; state = t; memory = puts both w a vs })
 unfolding Leaves
-leaves-of w s op x y z r t a vs h st = record {
+leaves-of w s op x y z r t a vs h st sh = record {
   most = h .most;
   early = λ p. (h .early p .0, stored-none w a vs (h .early p .1));
   lost = λ p. (h .lost p .0, stored-none w a vs (h .lost p .1));
@@ -257,6 +266,7 @@ leaves-of w s op x y z r t a vs h st = record {
   nineteen = λ p. ⊎-elim (λ k. inl (record { arm-is = k .0; registers = k .1; window = stored-none w a vs (k .2) })) (⊎-elim (λ k. inr (inl (st k p)))
       (λ k. inr (inr (record { operation = k .operation; first = k .first; last = k .last; arm-is = k .is-it; registers = k .registers; window = stored-none w a vs (k .none) })))) (h .nineteen p);
   twenty = λ p. (h .twenty p .0, stored-none w a vs (h .twenty p .1));
+  shared = sh;
   done = h .done;
 }
 
@@ -281,7 +291,7 @@ module _ (w : Windows) (s : State) (d : Width) (g : Sign) (x a n : ℕ) where
   six r e p = absurd (omega arith)
 
   store-nineteen : Made (perform both (refusing (shapesOf w)) s (storeTo s d g x a n) w)
-  unfolding Made perform storeTo looks puts named one
+  unfolding Made perform storeTo looks puts named both
   store-nineteen =
       on Made (clear (refusing (shapesOf w)) a 1)
       (λ e. on Made (clear (refusing (shapesOf w)) a 1) (λ f p. (says-nineteen p, refl)) (λ f. six _ (worst-six (shapesOf w) 1 a f)))
@@ -308,21 +318,70 @@ store-leaves w s op x y z n k p =
     made = unfold stepOf in (rw (step-judged s (shapesOf w) op x y z)
         (on (λ (q : Plan State). Made w s d signed x a (wordOf op x y z) (perform both (refusing (shapesOf w)) s q w)) (eqb (judged s (shapesOf w) (armOf op) x y z) 0)
         (λ e. rw (k .is-it) (unfold planOf in store-nineteen w s d signed x a (wordOf op x y z)))
-        (λ e. unfold Made tell perform worst in (λ q. let b : judged s (shapesOf w) (armOf op) x y z ≤ 5 = judged-most s (shapesOf w) (armOf op) x y z in absurd (omega arith)))))
+        (λ e. unfold Made tell perform worst in (λ q. absurd (late _ (inr (omega arith, omega arith)) (judged-early s (shapesOf w) (armOf op) x y z e))))))
+
+-- ---- 22
+
+arm-most : (s : State) → Meets s Any Any (λ r t vs. r ≤ 20)
+arm-most s = record {
+  word = λ n b. tt;
+  general-is = λ i. tt;
+  special-is = λ k. tt;
+  refuses = omega arith;
+  halts = λ n a. omega arith;
+  moves = λ a w. omega arith;
+  writes = λ x v a w u. omega arith;
+  locals = λ v a w u. omega arith;
+  globals = λ v a b c d w. omega arith;
+  status = λ v a b w. omega arith;
+  other = λ k v a b c d w u. omega arith;
+  pushes = λ h t w. omega arith;
+  pops = λ x t h ls w r. omega arith;
+  saves = λ x t b w. omega arith;
+  unsaves = λ o g a l vs t u w b c d f r. omega arith;
+  stores = λ v a w. omega arith;
+  computes = λ f x u v a wu wv w. omega arith;
+}
+
+three-most : (s : State) (op x y z : ℕ) → Answers Any (λ r t vs. r ≤ 20) (fromThree s (armOf op) op x y z)
+unfolding fromThree
+three-most s op x y z =
+    on (Answers Any (λ r t vs. r ≤ 20)) (eqb (refusalOf (armOf op) x y z) 0)
+    (λ e. plan-meets s Any Any (λ r t vs. r ≤ 20) (arm-most s) (armOf op) op x y z tt tt
+    (record { trips = λ m. trip-most; traps = λ m. omega arith; stores = λ d o m v. raise-most; computes = λ f p q m. raise-most }))
+    (λ e. unfold tell Answers in (omega (arith, refusal-most (armOf op) x y z)))
+  where
+    trip-most : {t : State} {n u v : ℕ} → MeetsTrip t Any (λ r t. r ≤ 20) n u v
+    trip-most = record { trips = λ a w. omega arith; trips-not = omega arith }
+
+    raise-most : {t : State} {f n u v : ℕ} → MeetsRaise t Any (λ r t. r ≤ 20) f n u v
+    raise-most = record { adds = λ a w. omega arith; takes = trip-most }
+
+step-shared : (w : Windows) (s : State) (op x y z : ℕ) → stepOf w s op x y z .reply ≡ 22 → (admissible s ≡ true) × Sharing (shapesOf w)
+unfolding stepOf stepPlan guarded
+step-shared w s op x y z =
+    on (λ (p : Plan State). performOn w s p .reply ≡ 22 → (admissible s ≡ true) × Sharing (shapesOf w)) (admissible s)
+    (λ a. on (λ (p : Plan State). performOn w s p .reply ≡ 22 → (admissible s ≡ true) × Sharing (shapesOf w)) (eqb (unruledBy (shapesOf w)) 0)
+    (λ e h. let l : performOn w s (fromThree s (armOf op) op x y z) .reply ≤ 20
+    = perform-meets w s Any (λ r t vs. r ≤ 20) (λ o. o .reply ≤ 20) (omega arith) (λ r t b vs k. k) (λ b n. tt) (fromThree s (armOf op) op x y z) (three-most s op x y z) in
+    absurd (omega arith))
+    (λ e h. (a, shared-only (shapesOf w) (sym (said-reply w s s (unruledBy (shapesOf w))) ∙ h))))
+    (λ a h. absurd (omega (arith, said-reply w s s 1, h)))
 
 step-leaves : (w : Windows) (s : State) (op x y z : ℕ) → Sized s → StepLeaves w s op x y z (stepOf w s op x y z)
-step-leaves w s op x y z n = unfold Leaves in (leaves (store-leaves w s op x y z n))
+step-leaves w s op x y z n = unfold Leaves in (leaves (store-leaves w s op x y z n) (step-shared w s op x y z))
   where
     leaves : Leaves w s op x y z (stepOf w s op x y z)
     leaves = unfold stepOf in (
         perform-meets w s Any (Answered s op x y z) (Leaves w s op x y z)
-        (unfold Leaves in (λ st. record {
-          most = omega arith;
+        (unfold Leaves in (λ st sh. record {
+          most = inl (omega arith);
           early = λ p. (refl, refl);
           lost = λ p. (refl, refl);
           halting = λ p. absurd (omega arith);
           nineteen = λ p. absurd (omega arith);
           twenty = λ p. absurd (omega arith);
+          shared = sh;
           done = λ p. absurd (omega arith);
         }))
         (leaves-of w s op x y z) (λ a k. tt) (stepPlan s (shapesOf w) op x y z)
@@ -364,36 +423,64 @@ exception-leaves s f op x y z u v n =
 
 -- ---- the reader
 
-record Found (r : ℕ) (q : Part) (vs : List ℕ) : Type 0 where
-  among : (r ≡ 0) ⊎ ((14 ≤ r) × (r ≤ 16))
-  refused : r ≢ 0 → q ≡ emptyPart
+-- what UNSAVE's own checks give of a context
+record Found (r : ℕ) (vs : List ℕ) : Type 0 where
+  among : (r ≡ 0) ⊎ ((6 ≤ r) × (r ≤ 16))
+  six-or : (r ≡ 0) ⊎ ((r ≡ 6) ⊎ ((r ≡ 14) ⊎ ((r ≡ 15) ⊎ (r ≡ 16))))
   none : vs ≡ []
 
-one-of : (r : ℕ) → (r ≡ 0) ⊎ ((14 ≤ r) × (r ≤ 16)) → (r ≡ 0) ⊎ ((r ≡ 2) ⊎ ((r ≡ 6) ⊎ ((r ≡ 14) ⊎ ((r ≡ 15) ⊎ (r ≡ 16)))))
-one-of r (inl e) = inl e
-one-of r (inr b) = go (eqb r 14) (eqb r 15) refl refl
+one-of : (r : ℕ) → 14 ≤ r → r ≤ 16 → (r ≡ 0) ⊎ ((r ≡ 6) ⊎ ((r ≡ 14) ⊎ ((r ≡ 15) ⊎ (r ≡ 16))))
+one-of r l h = go (eqb r 14) (eqb r 15) refl refl
   where
-    go : (p q : Bool) → eqb r 14 ≡ p → eqb r 15 ≡ q → (r ≡ 0) ⊎ ((r ≡ 2) ⊎ ((r ≡ 6) ⊎ ((r ≡ 14) ⊎ ((r ≡ 15) ⊎ (r ≡ 16)))))
-    go true q e f = inr (inr (inr (inl (eqb-true _ _ e))))
-    go false true e f = inr (inr (inr (inr (inl (eqb-true _ _ f)))))
+    go : (p q : Bool) → eqb r 14 ≡ p → eqb r 15 ≡ q → (r ≡ 0) ⊎ ((r ≡ 6) ⊎ ((r ≡ 14) ⊎ ((r ≡ 15) ⊎ (r ≡ 16))))
+    go true q e f = inr (inr (inl (eqb-true _ _ e)))
+    go false true e f = inr (inr (inr (inl (eqb-true _ _ f))))
     go false false e f =
-        let l : 14 ≤ r = b .0 in
-        let h : r ≤ 16 = b .1 in
         let n : r ≢ 14 = eqb-false _ _ e in
         let m : r ≢ 15 = eqb-false _ _ f in
-        inr (inr (inr (inr (inr (omega arith)))))
+        inr (inr (inr (inr (omega arith))))
+
+abbrev Given : ℕ → Type 0
+Given r = (r ≡ 0) ⊎ ((r ≡ 2) ⊎ ((r ≡ 6) ⊎ ((r ≡ 14) ⊎ ((r ≡ 15) ⊎ ((r ≡ 16) ⊎ ((r ≡ 22) ⊎ (r ≡ 23)))))))
+
+given : (r : ℕ) → (r ≡ 0) ⊎ ((r ≡ 6) ⊎ ((r ≡ 14) ⊎ ((r ≡ 15) ⊎ (r ≡ 16)))) → Given r
+given r (inl e) = inl e
+given r (inr (inl e)) = inr (inr (inl e))
+given r (inr (inr (inl e))) = inr (inr (inr (inl e)))
+given r (inr (inr (inr (inl e)))) = inr (inr (inr (inr (inl e))))
+given r (inr (inr (inr (inr e)))) = inr (inr (inr (inr (inr (inl e)))))
+
+handed-leaves : (w : Windows) (o : Outcome Stretch Windows) → Found (o .reply) [] → o .memory ≡ w → ReaderLeaves w (handed w o)
+unfolding handed
+handed-leaves w o h m =
+    on (ReaderLeaves w) (eqb (o .reply) 0)
+    (λ e. on (ReaderLeaves w) (across (shapesOf w) (o .state .first) (o .state .octas))
+    (λ f. record { among = inr (inr (inr (inr (inr (inr (inr refl)))))); shared = λ p. absurd (omega arith); refused = λ n. refl; unchanged = m })
+    (λ f. record { among = inl refl; shared = λ p. absurd (omega arith); refused = λ n. absurd (n refl); unchanged = m }))
+    (λ e. record { among = given (o .reply) (h .six-or); shared = λ p. absurd (⊎-elim (λ z. omega arith) (λ k. omega arith) (h .among)); refused = λ n. refl; unchanged = m })
 
 reader-leaves : (w : Windows) (p : ℕ) → ReaderLeaves w (readContext w p)
 unfolding readContext
 reader-leaves w p =
-    on (ReaderLeaves w) (ruled (shapesOf w))
-    (λ e. perform-meets w emptyPart Any Found (ReaderLeaves w)
-    (record { among = inr (inr (inl refl)); refused = λ n. refl; unchanged = refl })
-    (λ r t a vs h. record { among = one-of r (h .among); refused = h .refused; unchanged = stored-none w a vs (h .none) })
-    (λ a n. tt) (contextAt emptyPart (partAt w) p)
-    (context-meets emptyPart (partAt w) p Any Found (λ n a b. record { among = inr (a, b); refused = λ m. refl; none = refl })
-    (λ o g a l vs b c d e f i. record { among = inl refl; refused = λ m. absurd (m refl); none = refl })))
-    (λ e. record { among = inr (inl refl); refused = λ n. refl; unchanged = refl })
+    on (ReaderLeaves w) (eqb (unruledBy (shapesOf w)) 0)
+    (λ e. let k : Found (located .reply) [] × (located .memory ≡ w) = found in handed-leaves w located (k .0) (k .1))
+    (λ e. record {
+      among = ⊎-elim (λ z. inl z) (⊎-elim (λ t. inr (inl t)) (λ t. inr (inr (inr (inr (inr (inr (inl t)))))))) (unruled-is (shapesOf w));
+      shared = shared-only (shapesOf w);
+      refused = λ n. refl;
+      unchanged = refl;
+    })
+  where
+    located : Outcome Stretch Windows
+    located = performOn w nowhere (contextAt nowhere stretchOf p)
+
+    found : Found (located .reply) [] × (located .memory ≡ w)
+    found = perform-meets w nowhere Any (λ r t vs. Found r vs) (λ o. Found (o .reply) [] × (o .memory ≡ w))
+        (record { among = inr (omega arith, omega arith); six-or = inr (inl refl); none = refl }, refl)
+        (λ r t a vs h. (record { among = h .among; six-or = h .six-or; none = refl }, stored-none w a vs (h .none)))
+        (λ a n. tt) (contextAt nowhere stretchOf p)
+        (context-meets nowhere stretchOf p Any (λ r t vs. Found r vs) (λ n a b. record { among = inr (omega arith, b); six-or = one-of n a b; none = refl })
+        (λ o g a l vs b c d e f i. record { among = inl refl; six-or = inl refl; none = refl }))
 
 -- ---- the search for a field
 

@@ -1,7 +1,7 @@
--- Theorem 3: a step sees and changes what it needs, and nothing else of the window; 6 is given just where a need lies outside.
+-- Theorem 3: a step sees and changes what it needs, and nothing else of the windows; 6 is given just where a need lies outside.
 -- The first by the laws of plans, with F the octabytes that are not needed.
 use mathlib.Core.Path.{_≡_, refl, sym, ap, _∙_, subst}
-use mathlib.Core.Logic.{_≢_}
+use mathlib.Core.Logic.{_≢_, ⊎-elim}
 use mathlib.Core.Bool.{Bool, true, false, cond, not}
 use mathlib.Core.List.{List, [], _∷_, _++_}
 use Prim.Native.Nat.{ℕ, zero, suc, _+_, max}
@@ -11,7 +11,7 @@ use lib.Dec.{eqb}
 use lib.ListN.{length}
 use borrow.Author.Tests.{eqb-true, eqb-false, eq-eqb, ne-eqb}
 use Rattle.model.specs.Octa.{octa}
-use Rattle.model.specs.Memory.{Windows, Shapes, shapesOf, inside, octaAt, both, one}
+use Rattle.model.specs.Memory.{Windows, Shapes, shapesOf, inside, octaAt, both}
 use Rattle.model.specs.Plan.{Plan, answer, read, Outcome, perform, needs, ups, worst, clear, missing, named, looks, All, Off, Agree}
 use Rattle.model.specs.Opcodes.{armOf}
 use Rattle.model.specs.Step.{refusing, stepPlan, stepOf, stepNeeds}
@@ -19,7 +19,7 @@ use Rattle.model.specs.Locality.{SameAt, SameStep, allInside, StepIsLoca
 use Rattle.model.specs.declared.State.{State}
 use Rattle.model.proofs.Bools.{and-left, and-right, on-both}
 use Rattle.model.proofs.ItemInvariant.{Any}
-use Rattle.model.proofs.Memory.{bytes-octa, one-lawful}
+use Rattle.model.proofs.Memory.{raw-octa, both-lawful}
 use Rattle.model.proofs.Plan.{All-map, Same, worst-head, worst-tail, touches, touches-off, perform-agree, needs-agree, perform-kept, perform-shape}
 use Rattle.model.proofs.ArmAnswers.{Answers, Meets, MeetsTrip, MeetsRaise, worst-six, plan-meets, step-meets}
 use Rattle.model.proofs.Entry.{sound-at, judged-inside, inside-judged}
@@ -37,7 +37,7 @@ same-among [] v w a h f = absurd (f tt)
 same-among (b ∷ rest) v w a h f = go (ℕ-discrete (octa b) (octa a)) (λ g. same-among rest v w a (h .1) g)
   where
     go : Dec (octa b ≡ octa a) → (Off (Unneeded rest) a → octaAt v a ≡ octaAt w a) → octaAt v a ≡ octaAt w a
-    go (yes e) r = sym (bytes-octa v b a e) ∙ h .0 ∙ bytes-octa w b a e
+    go (yes e) r = sym (raw-octa v b a e) ∙ h .0 ∙ raw-octa w b a e
     go (no n) r = r (λ u. f (n, u))
 
 -- each address of a list names an octabyte of the list
@@ -47,11 +47,11 @@ needed-off [] k f = tt
 needed-off (a ∷ rest) k f = (λ u. f (octa a) u .0 refl, needed-off rest k (λ o u. f o u .1))
 
 at-off : (F : ℕ → Type 0) (v w : Windows) (l : List ℕ) → Agree both F v w → All (Off F) l → SameAt l v w
-unfolding one
+unfolding both
 at-off F v w l g h = All-map (Off F) (λ a. octaAt v a ≡ octaAt w a) l (g .rest-same) h
 
 agree-among : (l : List ℕ) (v w : Windows) → shapesOf v ≡ shapesOf w → SameAt l v w → Agree both (Unneeded l) v w
-unfolding one
+unfolding both
 agree-among l v w e h = record { shape-same = e; rest-same = λ a f. same-among l v w a h f }
 
 -- the step on w by v's shape, where the shapes are equal
@@ -70,10 +70,10 @@ alike v w s op x y z e h =
     let j : (ℕ → ℕ) = refusing (shapesOf v) in
     let l : List ℕ = needs both j p v in
     let off : All (Off (Unneeded l)) l = needed-off l l (λ o u. u) in
-    let t : All (Off (Unneeded l)) (touches both j p v) = touches-off both one-lawful (Off (Unneeded l)) j p v off in
+    let t : All (Off (Unneeded l)) (touches both j p v) = touches-off both both-lawful (Off (Unneeded l)) j p v off in
     let g : Agree both (Unneeded l) v w = agree-among l v w e h in
-    let a : Same both (Unneeded l) (perform both j s p v) (perform both j s p w) = perform-agree both one-lawful (Unneeded l) j s p v w (sound-at v) g t in
-    let n : needs both j p v ≡ needs both j p w = needs-agree both one-lawful (Unneeded l) j s p v w g t in
+    let a : Same both (Unneeded l) (perform both j s p v) (perform both j s p w) = perform-agree both both-lawful (Unneeded l) j s p v w (sound-at v) g t in
+    let n : needs both j p v ≡ needs both j p w = needs-agree both both-lawful (Unneeded l) j s p v w g t in
     let b : perform both j s p w ≡ stepOf w s op x y z = by-shape v w s op x y z e in
     record {
       reply-same = a .reply-same ∙ ap (λ (o : Outcome State Windows). o .reply) b;
@@ -83,14 +83,14 @@ alike v w s op x y z e h =
     }
 
 shape-kept : (w : Windows) (s : State) (op x y z : ℕ) → shapesOf (stepOf w s op x y z .memory) ≡ shapesOf w
-unfolding stepOf one
-shape-kept w s op x y z = perform-shape both one-lawful (refusing (shapesOf w)) s (stepPlan s (shapesOf w) op x y z) w
+unfolding stepOf both
+shape-kept w s op x y z = perform-shape both both-lawful (refusing (shapesOf w)) s (stepPlan s (shapesOf w) op x y z) w
 
 octa-kept : (w : Windows) (s : State) (op x y z a : ℕ) → Unneeded (stepNeeds w s op x y z) (octa a) → octaAt (stepOf w s op x y z .memory) a ≡ octaAt w a
-unfolding stepOf stepNeeds one
+unfolding stepOf stepNeeds both
 octa-kept w s op x y z a h =
-    perform-kept both one-lawful (λ o. o ≡ octa a) (refusing (shapesOf w)) s (stepPlan s (shapesOf w) op x y z) w
-    (touches-off both one-lawful (Off (λ o. o ≡ octa a)) (refusing (shapesOf w)) (stepPlan s (shapesOf w) op x y z) w h) .octa-kept a refl
+    perform-kept both both-lawful (λ o. o ≡ octa a) (refusing (shapesOf w)) s (stepPlan s (shapesOf w) op x y z) w
+    (touches-off both both-lawful (Off (λ o. o ≡ octa a)) (refusing (shapesOf w)) (stepPlan s (shapesOf w) op x y z) w h) .octa-kept a refl
 
 -- ---- 6
 
@@ -99,7 +99,7 @@ never-six s = record {
   word = λ n b. tt;
   general-is = λ i. tt;
   special-is = λ k. tt;
-  refuses = λ n a e. omega arith;
+  refuses = λ e. omega arith;
   halts = λ n a e. omega arith;
   moves = λ a w e. omega arith;
   writes = λ x v a w u e. omega arith;
@@ -117,7 +117,7 @@ never-six s = record {
 
 step-never-six : (s : State) (w : Shapes) (op x y z : ℕ) → Answers Any (λ r t vs. r ≢ 6) (stepPlan s w op x y z)
 step-never-six s w op x y z =
-    step-meets s w Any (λ r t vs. r ≢ 6) (λ n a e. omega arith) op x y z
+    step-meets s w Any (λ r t vs. r ≢ 6) (λ n a e. ⊎-elim (λ l. omega arith) (λ q. let z : n ≡ 22 = q in omega arith) a) op x y z
     (λ e. plan-meets s Any Any (λ r t vs. r ≢ 6) (never-six s) (armOf op) op x y z tt tt (record { trips = λ m. never; traps = λ m e. omega arith; stores = λ d o m v. raised; computes = λ f p q m. raised }))
   where
     never : {t : State} {n u v : ℕ} → MeetsTrip t Any (λ r t. r ≢ 6) n u v

@@ -10,7 +10,7 @@ use lib.ListN.{length, getD}
 use borrow.Author.Tests.{le-ltb, lt-ltb, le-leb, lt-leb, ne-eqb}
 use Rattle.model.specs.Fill.{tab}
 use Rattle.model.specs.Registers.{rJ, rO, rG, sp, reg, admissible, goes, next, halted, withSpecial}
-use Rattle.model.specs.Memory.{Windows, shapesOf, ruled, inside, both}
+use Rattle.model.specs.Memory.{Windows, shapesOf, ruled, shares, inside, both}
 use Rattle.model.specs.Plan.{Plan, answer, read, clear, named, looks, perform}
 use Rattle.model.specs.Opcodes.{armOf}
 use Rattle.model.specs.NoMemory.{say, tell}
@@ -18,25 +18,28 @@ use Rattle.model.specs.Control.{yzOf}
 use Rattle.model.specs.Frames.{noFrame, misplaced, popRule, popFrame}
 use Rattle.model.specs.Contexts.{extent, saved, savedState, saveContext, below, unsaved, contextRest, contextCount, contextAt, unsaveContext}
 use Rattle.model.specs.Trips.{enabled, isLoaded, withAdded, tripTo, raised}
-use Rattle.model.specs.Step.{refusalOf, refusing, planOf, stepOf, exceptionOf}
+use Rattle.model.specs.Step.{refusalOf, unruledBy, refusing, planOf, stepOf, exceptionOf}
 use Rattle.model.specs.Order.{refusedBy, haltedBy, Passes, Packed, Counted, StepsInOrder}
 use Rattle.model.specs.declared.State.{State}
 use Rattle.model.proofs.Runs.{length-tab}
 use Rattle.model.proofs.ArmAnswers.{worst-six}
-use Rattle.model.proofs.Entry.{performOn, said, step-open}
-use Rattle.model.proofs.StepByArm.{step-refused, step-inadmissible, step-unruled}
+use Rattle.model.proofs.Entry.{performOn, said, step-open, unruled-two, unruled-shared}
+use Rattle.model.proofs.StepByArm.{passing, step-refused, step-inadmissible, step-unruled}
 use Rattle.model.proofs.Rules.{has-clear}
 
--- ---- 1 to 5
+-- ---- 1 to 5, and 22
 
 one-first : (w : Windows) (s : State) (op x y z : ℕ) → admissible s ≡ false → stepOf w s op x y z ≡ refusedBy 1 w s
 one-first = step-inadmissible
 
 two-next : (w : Windows) (s : State) (op x y z : ℕ) → admissible s ≡ true → ruled (shapesOf w) ≡ false → stepOf w s op x y z ≡ refusedBy 2 w s
-two-next = step-unruled
+two-next w s op x y z a r = let n : unruledBy (shapesOf w) ≡ 2 = unruled-two (shapesOf w) r in step-unruled w s op x y z a (λ e. omega arith) ∙ rw n
+
+twenty-two : (w : Windows) (s : State) (op x y z : ℕ) → admissible s ≡ true → ruled (shapesOf w) ≡ true → shares (shapesOf w) ≡ true → stepOf w s op x y z ≡ refusedBy 22 w s
+twenty-two w s op x y z a r h = let n : unruledBy (shapesOf w) ≡ 22 = unruled-shared (shapesOf w) r h in step-unruled w s op x y z a (λ e. omega arith) ∙ rw n
 
 three-to-five : (w : Windows) (s : State) (op x y z : ℕ) → Passes w s → refusalOf (armOf op) x y z ≢ 0 → stepOf w s op x y z ≡ refusedBy (refusalOf (armOf op) x y z) w s
-three-to-five w s op x y z h n = step-refused w s (h .admitted) (h .windowed) op x y z (refusalOf (armOf op) x y z) refl (nonzero (refusalOf (armOf op) x y z) n)
+three-to-five w s op x y z h n = step-refused w s (h .admitted) (passing w s h) op x y z (refusalOf (armOf op) x y z) refl (nonzero (refusalOf (armOf op) x y z) n)
   where
     nonzero : (r : ℕ) → r ≢ 0 → 1 ≤ r
     nonzero r f = omega arith
@@ -63,7 +66,7 @@ one-there w a b e = has-clear (shapesOf w) a ∙ e
 
 save-open : (w : Windows) (s : State) (x y z : ℕ) → Passes w s → stepOf w s 0xFA x y z ≡ performOn w s (saveContext s x)
 unfolding planOf refusalOf armOf
-save-open w s x y z h = step-open w s 0xFA x y z (h .admitted) (h .windowed) refl
+save-open w s x y z h = step-open w s 0xFA x y z (h .admitted) (passing w s h) refl
 
 save-thirteen : (w : Windows) (s : State) (x y z : ℕ) → Passes w s → x < sp s rG → stepOf w s 0xFA x y z ≡ haltedBy 13 w s
 unfolding saveContext tell
@@ -78,7 +81,7 @@ save-six w s x y z h l e =
 
 pop-open : (w : Windows) (s : State) (x y z : ℕ) → Passes w s → stepOf w s 0xF8 x y z ≡ performOn w s (popFrame s x ((sp s rJ + 4 * yzOf y z) % 2 ^ 64))
 unfolding planOf refusalOf armOf
-pop-open w s x y z h = step-open w s 0xF8 x y z (h .admitted) (h .windowed) refl
+pop-open w s x y z h = step-open w s 0xF8 x y z (h .admitted) (passing w s h) refl
 
 pop-no-frame : (w : Windows) (s : State) (x y z : ℕ) → Passes w s → noFrame s ≡ true → stepOf w s 0xF8 x y z ≡ refusedBy 0 w (goes s ((sp s rJ + 4 * yzOf y z) % 2 ^ 64))
 unfolding popFrame tell
@@ -99,7 +102,7 @@ found s o g a l vs = next (unsaved s o g a l vs)
 
 unsave-open : (w : Windows) (s : State) (x y z : ℕ) → Passes w s → stepOf w s 0xFB x y z ≡ performOn w s (unsaveContext s (reg s z))
 unfolding planOf refusalOf armOf
-unsave-open w s x y z h = step-open w s 0xFB x y z (h .admitted) (h .windowed) refl
+unsave-open w s x y z h = step-open w s 0xFB x y z (h .admitted) (passing w s h) refl
 
 unsave-packed : (w : Windows) (s : State) (x y z : ℕ) → Passes w s → inside (shapesOf w) (reg s z) ≡ false → stepOf w s 0xFB x y z ≡ refusedBy 6 w s
 unfolding unsaveContext contextAt
@@ -164,6 +167,7 @@ pub steps-in-order : StepsInOrder
 steps-in-order = record {
   one-first = one-first;
   two-next = two-next;
+  twenty-two = twenty-two;
   three-to-five = three-to-five;
   save-thirteen = save-thirteen;
   save-six = save-six;

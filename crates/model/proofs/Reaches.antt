@@ -19,7 +19,7 @@ use Rattle.model.specs.declared.State.{State}
 use Rattle.model.specs.declared.Reach.{Reach}
 use Rattle.model.specs.declared.Reach.the-variants.{Forward, Backward, Neither}
 use Rattle.model.proofs.Bools.{on}
-use Rattle.model.proofs.StepByArm.{step-told}
+use Rattle.model.proofs.StepByArm.{passing, step-told}
 
 -- ---- distances
 
@@ -124,7 +124,7 @@ module _ (s : State) (to : ℕ) (d : Way) (f : ℕ) (a : s .pc < 2 ^ 64) (b : to
 
       branches : (w : Windows) (op x : ℕ) (c : Condition) → Passes w s → armOf op ≡ branch c d → holds c (reg s x) ≡ true
           → stepOf w s op x (yIn f) (zIn f) ≡ refusedBy 0 w (goes s to)
-      branches w op x c h e t = step-told w s (h .admitted) (h .windowed) op x (yIn f) (zIn f) (say 0 (goes s to)) (unfold refusalOf in rw e) (unfold planOf in rw (e, t, target))
+      branches w op x c h e t = step-told w s (h .admitted) (passing w s h) op x (yIn f) (zIn f) (say 0 (goes s to)) (unfold refusalOf in rw e) (unfold planOf in rw (e, t, target))
 
   pub xyz-goes : fieldOf jumpFields (s .pc) to ≡ pair d f → XyzGoes s to d f
   xyz-goes p = record { target = target; jumps = jumps }
@@ -135,7 +135,7 @@ module _ (s : State) (to : ℕ) (d : Way) (f : ℕ) (a : s .pc < 2 ^ 64) (b : to
           ap (targetOf (s .pc) d jumpFields) {x = xyzOf (xIn f) (yIn f) (zIn f)} {y = f} (omega arith) ∙ q .1
 
       jumps : (w : Windows) (op : ℕ) → Passes w s → armOf op ≡ jump d → stepOf w s op (xIn f) (yIn f) (zIn f) ≡ refusedBy 0 w (goes s to)
-      jumps w op h e = step-told w s (h .admitted) (h .windowed) op (xIn f) (yIn f) (zIn f) (say 0 (goes s to)) (unfold refusalOf in rw e) (unfold planOf in rw (e, target))
+      jumps w op h e = step-told w s (h .admitted) (passing w s h) op (xIn f) (yIn f) (zIn f) (say 0 (goes s to)) (unfold refusalOf in rw e) (unfold planOf in rw (e, target))
 
 pub field-theorem : FieldTheorem
 field-theorem = record { reaches = reaches; one-pair = one-pair; yz-goes = yz-goes; xyz-goes = xyz-goes }

@@ -1,25 +1,30 @@
--- The context reader: it judges as UNSAVE does, and what it hands back is the context's own bytes, first local to packed octabyte.
+-- The context reader: it judges as UNSAVE does, but for 23, and what it hands back is the context's own bytes, first local to packed octabyte.
 use mathlib.Core.Path.{_≡_, refl, sym, ap, _∙_}
-use mathlib.Core.Bool.{true, _&&_}
+use mathlib.Core.Logic.{_≢_}
+use mathlib.Core.Bool.{Bool, true, false, cond, not, _&&_, _||_, true≢false}
 use mathlib.Core.List.{List, []}
 use Prim.Native.Nat.{ℕ, zero, suc, _+_, _-_, _*_, _/_, _%_, _^_, _≤_, _<_}
 use native.Mathlib.Omega.{arith}
+use native.Mathlib.Decide.{ℕ-discrete}
 use lib.Dec.{leb, eqb}
 use lib.ListN.{length, getD}
-use borrow.Author.Tests.{leb-true, eqb-true, eqb-false}
+use borrow.Author.Tests.{leb-true, eqb-true, eqb-false, ne-eqb}
 use Rattle.model.specs.Octa.{octa}
-use Rattle.model.specs.Memory.{Windows, shapesOf, shapeOf, ruled, offset, has, both, one}
+use Rattle.model.specs.Memory.{Window, shapeOf, offset, has, Windows, Shapes, shapesOf, holder, inside, both, ruled}
 use Rattle.model.specs.Plan.{Plan, answer, read, Outcome, perform, worst, clear, named, look, looks}
 use Rattle.model.specs.Registers.{reg, admissible, halted}
 use Rattle.model.specs.Contexts.{below, contextRest, contextCount, contextAt}
-use Rattle.model.specs.Step.{refusing, stepOf}
-use Rattle.model.specs.Reader.{Part, emptyPart, partAt, readContext}
-use Rattle.model.specs.Roundtrip.{thresholdAt, countAt, octasAt, FromFirstToPacked}
+use Rattle.model.specs.Step.{unruledBy, refusing, stepOf}
+use Rattle.model.specs.Reader.{Part, emptyPart, windowOf, Stretch, nowhere, stretchOf, heldBy, across, partAt, handed, readContext}
+use Rattle.model.specs.Roundtrip.{thresholdAt, countAt, octasAt, firstAt, acrossAt, FromFirstToPacked}
 use Rattle.model.specs.declared.State.{State}
 use Rattle.model.proofs.Bools.{and-left, and-right, on, on-both}
 use Rattle.model.proofs.Runs.{octa-mod, worst-of}
 use Rattle.model.proofs.SaveUnsave.{looked, Context, context-found, unsavedNext, unsave-open}
-use Rattle.model.proofs.Entry.{performOn, Inside, said-reply, sound, ruled-facts}
+use Rattle.model.proofs.Entry.{performOn, Inside, said-reply, judged-inside, unruled-none}
+use Rattle.model.proofs.Memory.{holder-octa}
+use Rattle.model.proofs.Apart.{Ruled, ruled-a, ruled-b}
+use Rattle.model.proofs.StepByArm.{step-unruled}
 
 -- ---- the reader judges as UNSAVE does
 
@@ -55,15 +60,7 @@ module _ {S T : Type 0} (w : Windows) (s bad : S) (found : ℕ → ℕ → ℕ �
       read-alike p 1 (λ v. contextCount bad found p (getD v 0 0 / 2 ^ 56) (getD v 0 0 % 2 ^ 56)) (λ v. contextCount worse held p (getD v 0 0 / 2 ^ 56) (getD v 0 0 % 2 ^ 56))
       (count-alike p _ _)
 
-pub reader-open : (w : Windows) (p : ℕ) → ruled (shapesOf w) ≡ true → readContext w p ≡ performOn w emptyPart (contextAt emptyPart (partAt w) p)
-unfolding readContext
-reader-open w p r = rw r
-
-pub reader-reply : (w : Windows) (s : State) (x y z : ℕ) → admissible s ≡ true → ruled (shapesOf w) ≡ true → readContext w (reg s z) .reply ≡ stepOf w s 0xFB x y z .reply
-reader-reply w s x y z a r =
-    rw (reader-open w (reg s z) r, unsave-open w s x y z a r) (context-alike w emptyPart emptyPart (partAt w) s (halted s) (unsavedNext s) (reg s z))
-
--- ---- the part that the reader hands back
+-- ---- a context that is found
 
 named-six : (r : ℕ) → named 6 r ≡ 0 → r ≡ 0
 unfolding named
@@ -138,36 +135,216 @@ offset-mod : (base a b : ℕ) → a % 2 ^ 64 ≡ b % 2 ^ 64 → offset base a �
 unfolding offset
 offset-mod base a b e = rw (octa-mod a b e)
 
+-- ---- the reader and UNSAVE
+
+-- UNSAVE's own checks, for the reader
+abbrev located : Windows → ℕ → Outcome Stretch Windows
+located w p = performOn w nowhere (contextAt nowhere stretchOf p)
+
+pub reader-open : (w : Windows) (p : ℕ) → unruledBy (shapesOf w) ≡ 0 → readContext w p ≡ handed w (located w p)
+unfolding readContext
+reader-open w p r = rw r
+
+pub reader-unruled : (w : Windows) (p : ℕ) → unruledBy (shapesOf w) ≢ 0 → readContext w p ≡ record { reply = unruledBy (shapesOf w); state = emptyPart; memory = w }
+unfolding readContext
+reader-unruled w p n = rw (ne-eqb (unruledBy (shapesOf w)) 0 n)
+
+-- a run under any addresses that name it
+pub held-mod : (w : Shapes) (k n a b : ℕ) → a % 2 ^ 64 ≡ b % 2 ^ 64 → heldBy w k a n ≡ heldBy w k b n
+unfolding heldBy
+held-mod w k zero a b e = refl
+held-mod w k (suc n) a b e = rw (holder-octa w a b (octa-mod a b e), held-mod w k n (a + 8) (b + 8) (omega arith))
+
+pub across-mod : (w : Shapes) (n a b : ℕ) → a % 2 ^ 64 ≡ b % 2 ^ 64 → across w a n ≡ across w b n
+unfolding across
+across-mod w n a b e = rw (holder-octa w a b (octa-mod a b e), held-mod w (holder w b) n a b e)
+
+-- what the checks found, where they pass
+record Stands (w : Windows) (p : ℕ) : Type 0 where
+  context : Context w p (thresholdAt w p) (look both w p % 2 ^ 56) (countAt w p)
+  at : ℕ
+  at-is : at % 2 ^ 64 ≡ firstAt w p % 2 ^ 64
+  located-is : located w p ≡ record { reply = 0; state = record { first = at; octas = octasAt w p }; memory = w }
+
+stands : (w : Windows) (p : ℕ) → located w p .reply ≡ 0 → Stands w p
+unfolding stretchOf
+stands w p h =
+    let c : Context w p (thresholdAt w p) (look both w p % 2 ^ 56) (countAt w p) = context-done w nowhere nowhere stretchOf p h in
+    let m : octasAt w p ≡ countAt w p + 269 - thresholdAt w p + 1 = omega (arith, c .g-high) in
+    let k : octasAt w p - 1 ≡ countAt w p + 269 - thresholdAt w p = omega arith in
+    record {
+      context = c;
+      at = below p (countAt w p + 269 - thresholdAt w p) % 2 ^ 64;
+      at-is = rw k (omega arith);
+      located-is = context-found w nowhere nowhere stretchOf p _ _ _ c;
+    }
+
+handed-reply : (w : Windows) (o : Outcome Stretch Windows)
+    → handed w o .reply ≡ cond (eqb (o .reply) 0) (cond (across (shapesOf w) (o .state .first) (o .state .octas)) 23 0) (o .reply)
+unfolding handed
+handed-reply w o = go (eqb (o .reply) 0) (across (shapesOf w) (o .state .first) (o .state .octas))
+  where
+    go : (b c : Bool) → (cond {A = Outcome Part Windows} b
+        (cond c (record { reply = 23; state = emptyPart; memory = o .memory }) (record { reply = 0; state = partAt w (o .state .first) (o .state .octas); memory = o .memory }))
+        (record { reply = o .reply; state = emptyPart; memory = o .memory })) .reply ≡ cond b (cond c 23 0) (o .reply)
+    go true true = refl
+    go true false = refl
+    go false c = refl
+
+pub reader-reply : (w : Windows) (s : State) (x y z : ℕ) → admissible s ≡ true
+    → readContext w (reg s z) .reply
+    ≡ cond (eqb (stepOf w s 0xFB x y z .reply) 0) (cond (acrossAt w (reg s z)) 23 0) (stepOf w s 0xFB x y z .reply)
+reader-reply w s x y z a = go (ℕ-discrete (unruledBy (shapesOf w)) 0)
+  where
+    p : ℕ
+    p = reg s z
+
+    -- the checks' reply is UNSAVE's; where they pass, the context is where they found it
+    judged : (r : ℕ) → located w p .reply ≡ r → handed w (located w p) .reply ≡ cond (eqb r 0) (cond (acrossAt w p) 23 0) r
+    judged r e = handed-reply w (located w p) ∙ rw e (passed (eqb r 0) refl)
+      where
+        passed : (b : Bool) → eqb r 0 ≡ b
+            → cond b (cond (across (shapesOf w) (located w p .state .first) (located w p .state .octas)) 23 0) r ≡ cond b (cond (acrossAt w p) 23 0) r
+        passed false f = refl
+        passed true f =
+            let t : Stands w p = stands w p (e ∙ eqb-true r 0 f) in
+            rw (t .located-is, across-mod (shapesOf w) (octasAt w p) (t .at) (firstAt w p) (t .at-is))
+
+    go : Dec (unruledBy (shapesOf w) ≡ 0)
+        → readContext w p .reply ≡ cond (eqb (stepOf w s 0xFB x y z .reply) 0) (cond (acrossAt w p) 23 0) (stepOf w s 0xFB x y z .reply)
+    go (yes r) = rw (reader-open w p r) (judged (stepOf w s 0xFB x y z .reply)
+        (context-alike w nowhere nowhere stretchOf s (halted s) (unsavedNext s) p ∙ ap (λ (o : Outcome State Windows). o .reply) (sym (unsave-open w s x y z a r))))
+    go (no n) = rw (reader-unruled w p n, step-unruled w s 0xFB x y z a n, ne-eqb (unruledBy (shapesOf w)) 0 n)
+
+-- ---- the part that the reader hands back
+
+-- octabyte i of a run that one window holds; it lies in that window
+pub held-at : (w : Shapes) (k n a i : ℕ) → heldBy w k a n ≡ true → i < n → holder w (a + 8 * i) ≡ k
+unfolding heldBy
+held-at w k zero a i h l = absurd (omega arith)
+held-at w k (suc n) a zero h l = let z : a + 8 * 0 ≡ a = omega arith in rw z (eqb-true _ _ (and-left (eqb (holder w a) k) _ h))
+held-at w k (suc n) a (suc i) h l =
+    let z : a + 8 * suc i ≡ a + 8 + 8 * i = omega arith in
+    rw z (held-at w k n (a + 8) i (and-right (eqb (holder w a) k) _ h) (omega arith))
+
+pub holder-has : (w : Windows) (k x : ℕ) → k ≤ 1 → holder (shapesOf w) x ≡ k → has (shapeOf (windowOf w k)) x ≡ true
+unfolding holder shapesOf
+holder-has w zero x l =
+    on (λ (n : ℕ). n ≡ 0 → has (shapeOf (w .a)) x ≡ true) (has (shapeOf (w .b)) x) (λ e h. absurd (omega arith))
+    (λ e. on (λ (n : ℕ). n ≡ 0 → has (shapeOf (w .a)) x ≡ true) (has (shapeOf (w .a)) x) (λ f h. f) (λ f h. absurd (omega arith)))
+holder-has w (suc zero) x l =
+    on (λ (n : ℕ). n ≡ 1 → has (shapeOf (w .b)) x ≡ true) (has (shapeOf (w .b)) x) (λ e h. e)
+    (λ e. on (λ (n : ℕ). n ≡ 1 → has (shapeOf (w .b)) x ≡ true) (has (shapeOf (w .a)) x) (λ f h. absurd (omega arith)) (λ f h. absurd (omega arith)))
+holder-has w (suc (suc k)) x l = absurd (omega arith)
+
+-- an octabyte that is lent is held by A or by B
+pub holder-most : (w : Shapes) (x : ℕ) → inside w x ≡ true → holder w x ≤ 1
+unfolding holder inside
+holder-most w x = go (has (w .b) x) (has (w .a) x)
+  where
+    go : (b c : Bool) → (b || c) ≡ true → cond b 1 (cond c 0 2) ≤ 1
+    go true c e = omega arith
+    go false true e = omega arith
+    go false false e = let z : false ≡ true = e in absurd (true≢false (sym z))
+
+window-ruled : (w : Windows) (k : ℕ) → ruled (shapesOf w) ≡ true → Ruled (shapeOf (windowOf w k))
+unfolding shapesOf
+window-ruled w k r = on (λ (v : Window). Ruled (shapeOf v)) (eqb k 1) (λ e. ruled-b (shapesOf w) r) (λ e. ruled-a (shapesOf w) r)
+
 -- an octabyte of a window that obeys the rules
-offset-small : (w : Windows) (a : ℕ) → ruled (shapesOf w) ≡ true → refusing (shapesOf w) a ≡ 0 → offset (w .base) a + 8 < 2 ^ 60
-unfolding shapeOf has one
-offset-small w a r h =
-    let m : length (w .bytes) < 2 ^ 60 = ruled-facts (shapesOf w) r .size-most in
-    let i : offset (w .base) a + 8 ≤ length (w .bytes) = leb-true _ _ (sound (shapesOf w) a h) in
-    omega arith
+offset-most : (v : Window) (a : ℕ) → has (shapeOf v) a ≡ true → offset (v .base) a + 8 ≤ length (v .bytes)
+unfolding shapeOf has
+offset-most v a h = leb-true _ _ h
+
+offset-small : (v : Window) (a : ℕ) → Ruled (shapeOf v) → has (shapeOf v) a ≡ true → offset (v .base) a + 8 < 2 ^ 60
+unfolding shapeOf
+offset-small v a r h = let m : length (v .bytes) < 2 ^ 60 = r .size-most in omega (arith, offset-most v a h)
 
 -- from the first local d octabytes on: the packed one
-offset-packed : (w : Windows) (p d : ℕ) → d ≤ 999 → ruled (shapesOf w) ≡ true → Inside w (below p d) (d + 1) → offset (w .base) p ≡ offset (w .base) (below p d) + 8 * d
-offset-packed w p d n r h =
-    sym (offset-mod (w .base) (below p d + 8 * d) p (omega arith)) ∙ offset-run (w .base) (below p d) d (λ i l. offset-small w (below p d + 8 * i) r (worst-of (refusing (shapesOf w)) (d + 1) (below p d) i h (omega arith)))
+offset-packed : (v : Window) (p d : ℕ) → d ≤ 999 → Ruled (shapeOf v) → ((i : ℕ) → i < d + 1 → has (shapeOf v) (below p d + 8 * i) ≡ true)
+    → offset (v .base) p ≡ offset (v .base) (below p d) + 8 * d
+offset-packed v p d n r h =
+    sym (offset-mod (v .base) (below p d + 8 * d) p (omega arith)) ∙ offset-run (v .base) (below p d) d (λ i l. offset-small v (below p d + 8 * i) r (h i (omega arith)))
 
-reader-ruled : (w : Windows) (p : ℕ) → readContext w p .reply ≡ 0 → ruled (shapesOf w) ≡ true
-unfolding readContext
-reader-ruled w p = on {A = Outcome Part Windows} (λ o. o .reply ≡ 0 → ruled (shapesOf w) ≡ true) (ruled (shapesOf w)) (λ e h. e) (λ e h. absurd (omega arith))
+-- a part that is handed back
+handed-done : (w : Windows) (o : Outcome Stretch Windows) → handed w o .reply ≡ 0
+    → (o .reply ≡ 0) × (across (shapesOf w) (o .state .first) (o .state .octas) ≡ false) × (handed w o .state ≡ partAt w (o .state .first) (o .state .octas))
+unfolding handed
+handed-done w o =
+    on {A = Outcome Part Windows} Fine (eqb (o .reply) 0)
+    (λ e. on {A = Outcome Part Windows} Fine (across (shapesOf w) (o .state .first) (o .state .octas)) (λ f h. absurd (omega arith)) (λ f h. (eqb-true _ _ e, f, refl)))
+    (λ e h. absurd (eqb-false _ _ e h))
+  where
+    Fine : Outcome Part Windows → Type 0
+    Fine q = q .reply ≡ 0
+        → (o .reply ≡ 0) × (across (shapesOf w) (o .state .first) (o .state .octas) ≡ false) × (q .state ≡ partAt w (o .state .first) (o .state .octas))
 
-part-is : (w : Windows) (p g a l : ℕ) (vs : List ℕ) → ruled (shapesOf w) ≡ true → Context w p g a l → octasAt w p ≡ l + 270 - g
-    → FromFirstToPacked w p (partAt w (below p (l + 269 - g) % 2 ^ 64) g a l vs)
+whole-held : (w : Shapes) (a n : ℕ) → across w a n ≡ false → heldBy w (holder w a) a n ≡ true
+unfolding across
+whole-held w a n = go (heldBy w (holder w a) a n)
+  where
+    go : (b : Bool) → not b ≡ false → b ≡ true
+    go true e = refl
+    go false e = sym e
+
+part-is : (w : Windows) (p : ℕ) → ruled (shapesOf w) ≡ true → (t : Stands w p) → across (shapesOf w) (t .at) (octasAt w p) ≡ false
+    → FromFirstToPacked w p (partAt w (t .at) (octasAt w p))
 unfolding partAt
-part-is w p g a l vs r c e =
-    let m : l + 270 - g ≡ l + 269 - g + 1 = omega (arith, c .g-high) in
-    let k : l + 269 - g ≡ octasAt w p - 1 = omega arith in
-    let o : offset (w .base) (below p (l + 269 - g) % 2 ^ 64) ≡ offset (w .base) (below p (l + 269 - g)) = offset-mod (w .base) (below p (l + 269 - g) % 2 ^ 64) (below p (l + 269 - g)) (omega arith) in
-    let q : offset (w .base) p ≡ offset (w .base) (below p (l + 269 - g)) + 8 * (l + 269 - g) = offset-packed w p (l + 269 - g) (omega (arith, c .l-g)) r (rw m at (c .rest)) in
-    record { starts = o ∙ ap (λ (n : ℕ). offset (w .base) (below p n)) k; ends = omega arith; octas = ap (λ (n : ℕ). 8 * n) (sym e) }
+part-is w p r t f = record {
+  one-of-two = least;
+  held = held;
+  starts = first;
+  ends = rw (first, last) (omega arith);
+  within = rw first (omega (arith, last, top));
+  octas = refl;
+}
+  where
+    k : ℕ
+    k = holder (shapesOf w) (t .at)
+
+    d : ℕ
+    d = octasAt w p - 1
+
+    v : Window
+    v = windowOf w k
+
+    octas-are : octasAt w p ≡ d + 1
+    octas-are = omega (arith, t .context .g-high)
+
+    inside-first : inside (shapesOf w) (firstAt w p) ≡ true
+    inside-first =
+        let m : countAt w p + 269 - thresholdAt w p ≡ d = omega (arith, t .context .g-high) in
+        let h : refusing (shapesOf w) (below p (countAt w p + 269 - thresholdAt w p) + 8 * 0) ≡ 0
+        = worst-of (refusing (shapesOf w)) (countAt w p + 270 - thresholdAt w p) (below p (countAt w p + 269 - thresholdAt w p)) 0 (t .context .rest) (omega arith) in
+        let z : below p (countAt w p + 269 - thresholdAt w p) + 8 * 0 ≡ firstAt w p = rw m (omega arith) in
+        judged-inside (shapesOf w) (firstAt w p) (rw z at h)
+
+    least : k ≤ 1
+    least = rw (holder-octa (shapesOf w) (t .at) (firstAt w p) (octa-mod (t .at) (firstAt w p) (t .at-is))) (holder-most (shapesOf w) (firstAt w p) inside-first)
+
+    held : heldBy (shapesOf w) k (firstAt w p) (octasAt w p) ≡ true
+    held = sym (held-mod (shapesOf w) k (octasAt w p) (t .at) (firstAt w p) (t .at-is)) ∙ whole-held (shapesOf w) (t .at) (octasAt w p) f
+
+    within : (i : ℕ) → i < d + 1 → has (shapeOf v) (below p d + 8 * i) ≡ true
+    within i l = holder-has w k (below p d + 8 * i) least (held-at (shapesOf w) k (octasAt w p) (firstAt w p) i held (omega (arith, octas-are)))
+
+    first : offset (v .base) (t .at) ≡ offset (v .base) (firstAt w p)
+    first = offset-mod (v .base) (t .at) (firstAt w p) (t .at-is)
+
+    last : offset (v .base) p ≡ offset (v .base) (below p d) + 8 * d
+    last = offset-packed v p d (omega (arith, t .context .l-g, t .context .g-high)) (window-ruled w k r) within
+
+    top : offset (v .base) p + 8 ≤ length (v .bytes)
+    top = rw (← offset-mod (v .base) (below p d + 8 * d) p (omega arith)) (offset-most v (below p d + 8 * d) (within d (omega arith)))
 
 pub reader-part : (w : Windows) (p : ℕ) → readContext w p .reply ≡ 0 → FromFirstToPacked w p (readContext w p .state)
-reader-part w p h =
-    let r : ruled (shapesOf w) ≡ true = reader-ruled w p h in
-    let c : Context w p (thresholdAt w p) (look both w p % 2 ^ 56) (countAt w p)
-    = context-done w emptyPart emptyPart (partAt w) p (ap (λ (o : Outcome Part Windows). o .reply) (sym (reader-open w p r)) ∙ h) in
-    rw (reader-open w p r, context-found w emptyPart emptyPart (partAt w) p _ _ _ c) (part-is w p _ _ _ _ r c refl)
+reader-part w p h = go (ℕ-discrete (unruledBy (shapesOf w)) 0)
+  where
+    go : Dec (unruledBy (shapesOf w) ≡ 0) → FromFirstToPacked w p (readContext w p .state)
+    go (no n) = absurd (n (ap (λ (o : Outcome Part Windows). o .reply) (sym (reader-unruled w p n)) ∙ h))
+    go (yes u) =
+        let g : (located w p .reply ≡ 0) × (across (shapesOf w) (located w p .state .first) (located w p .state .octas) ≡ false)
+        × (handed w (located w p) .state ≡ partAt w (located w p .state .first) (located w p .state .octas))
+        = handed-done w (located w p) (ap (λ (o : Outcome Part Windows). o .reply) (sym (reader-open w p u)) ∙ h) in
+        let t : Stands w p = stands w p (g .0) in
+        rw (reader-open w p u, g .2, t .located-is) (part-is w p (unruled-none (shapesOf w) u .0) t (rw (t .located-is) at (g .1)))

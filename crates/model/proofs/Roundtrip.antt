@@ -20,7 +20,7 @@ use Rattle.model.specs.Roundtrip.{unparked, unsaveAfter, ContextsKept}
 use Rattle.model.specs.declared.State.{State}
 use Rattle.model.proofs.Bools.{and-left, and-right, on, on-both}
 use Rattle.model.proofs.Fill.{length-over, over-in, over-below, over-above}
-use Rattle.model.proofs.Memory.{one-lawful}
+use Rattle.model.proofs.Memory.{both-lawful}
 use Rattle.model.proofs.Plan.{Kept·refl}
 use Rattle.model.proofs.AdmissibleKept.{Adm, Good, adm-of, spec-same, goes-good, saved-good, unsaved-good, unsaved-special}
 use Rattle.model.proofs.SaveUnsave.{Saves, savedOn, save-done, save-is, savedState-address, savedSpecial-low, savedSpecial-high, saved-local, saved-global, saved-twelve, withContext, Unsaves, unsave-back}
@@ -163,7 +163,7 @@ save-unsave w s x y z y' z' l n words h =
     let c : Saves w s x = save-done w s x y z h in
     let good : Good s = record { size = n; admits = c .admits } in
     let u : Unsaves s (parked s x) (savedOn w s) (stepOf (savedOn w s) (parked s x) 0xFB y' z' x)
-    = unsave-back w (savedOn w s) s x c words (Kept·refl both one-lawful (Within (sp s rO) (extent s)) (savedOn w s)) (parked s x) y' z' x
+    = unsave-back w (savedOn w s) s x c words (Kept·refl both both-lawful (Within (sp s rO) (extent s)) (savedOn w s)) (parked s x) y' z' x
     (adm-of (parked s x) (parked-good s x good .admits)) (parked-address s x n l) in
     rw (save-is w s x y z c) (u .outcome-is ∙ rw (back-is s x good (u .octas) (u .octas-are)))
 

@@ -11,18 +11,18 @@ use lib.ListN.{length, getD}
 use lib.Seq.{getD-set-same}
 use borrow.Author.Tests.{ltb-false, le-leb, lt-ltb, le-ltb, lt-leb, eq-eqb, ne-eqb}
 use Rattle.model.specs.Fill.{over, tab}
-use Rattle.model.specs.Memory.{Windows, Shapes, shapesOf, ruled, both, one}
+use Rattle.model.specs.Memory.{Windows, Shapes, shapesOf, both}
 use Rattle.model.specs.Plan.{Plan, answer, Outcome, perform, worst, look, looks, puts}
 use Rattle.model.specs.Registers.{rO, rG, rL, rA, rP, rR, sp, reg, Sized, Words, admissible, next, halted, withSpecial, stored, spilled}
 use Rattle.model.specs.Opcodes.{armOf}
 use Rattle.model.specs.NoMemory.{tell}
 use Rattle.model.specs.Contexts.{extent, savedSpecial, saved, contextAddress, savedUnspilled, savedState, saveContext, below, unsaved, contextRest, contextCount, contextAt, unsaveContext}
-use Rattle.model.specs.Step.{refusalOf, refusing, planOf, stepOf}
+use Rattle.model.specs.Step.{refusalOf, unruledBy, refusing, planOf, stepOf}
 use Rattle.model.specs.Demand.{Within}
 use Rattle.model.specs.declared.State.{State}
 use Rattle.model.proofs.Bools.{on}
 use Rattle.model.proofs.Fill.{length-over}
-use Rattle.model.proofs.Memory.{has-octa, one-lawful}
+use Rattle.model.proofs.Memory.{inside-octa, both-lawful}
 use Rattle.model.proofs.Plan.{Kept, puts-shape}
 use Rattle.model.proofs.Runs.{length-tab, octa-mod, worst-of, of-worst, getD-looks, stands, perform-read}
 use Rattle.model.proofs.AdmissibleKept.{Adm, adm, adm-of}
@@ -59,7 +59,7 @@ module _ {S : Type 0} (w : Windows) (s bad : S) (found : ℕ → ℕ → ℕ →
   unfolding contextRest
   rest-found h r =
       rw (le-leb l g h)
-      (perform-read both one-lawful (refusing (shapesOf w)) s 6 (below p (l + 269 - g)) (l + 270 - g)
+      (perform-read both both-lawful (refusing (shapesOf w)) s 6 (below p (l + 269 - g)) (l + 270 - g)
       (λ vs. answer 0 (found (below p (l + 269 - g) % 2 ^ 64) g a l vs) 0 []) w r
       ∙ said w s (found (below p (l + 269 - g) % 2 ^ 64) g a l (octasOf w p g l)) 0)
 
@@ -67,13 +67,13 @@ module _ {S : Type 0} (w : Windows) (s bad : S) (found : ℕ → ℕ → ℕ →
   unfolding contextCount
   count-found c =
       rw (le-leb 32 g (c .g-low), le-leb g 255 (c .g-high), le-leb a 0x3FFFF (c .a-high))
-      (perform-read both one-lawful (refusing (shapesOf w)) s 6 (below p (269 - g)) 1 (λ v. contextRest bad found p g a (getD v 0 0)) w (c .count)
+      (perform-read both both-lawful (refusing (shapesOf w)) s 6 (below p (269 - g)) 1 (λ v. contextRest bad found p g a (getD v 0 0)) w (c .count)
       ∙ rw (looked w (below p (269 - g)), c .count-is) (rest-found (c .l-g) (c .rest)))
 
   pub context-found : Context w p g a l → performOn w s (contextAt bad found p) ≡ foundAt
   unfolding contextAt
   context-found c =
-      perform-read both one-lawful (refusing (shapesOf w)) s 6 p 1 (λ v. contextCount bad found p (getD v 0 0 / 2 ^ 56) (getD v 0 0 % 2 ^ 56)) w (c .packed)
+      perform-read both both-lawful (refusing (shapesOf w)) s 6 p 1 (λ v. contextCount bad found p (getD v 0 0 / 2 ^ 56) (getD v 0 0 % 2 ^ 56)) w (c .packed)
       ∙ rw (looked w p, c .threshold-is, c .status-is) (count-found c)
 
 -- ---- a SAVE that is done
@@ -84,11 +84,11 @@ savedOn w s = puts both w (sp s rO) (tab 0 (extent s) (saved s))
 
 pub record Saves (w : Windows) (s : State) (x : ℕ) : Type 0 where
   pub admits : Adm s
-  pub fine : ruled (shapesOf w) ≡ true
+  pub fine : unruledBy (shapesOf w) ≡ 0
   pub global : sp s rG ≤ x
   pub fits : Inside w (sp s rO) (extent s)
 
-save-open : (w : Windows) (s : State) (x y z : ℕ) → admissible s ≡ true → ruled (shapesOf w) ≡ true → stepOf w s 0xFA x y z ≡ performOn w s (saveContext s x)
+save-open : (w : Windows) (s : State) (x y z : ℕ) → admissible s ≡ true → unruledBy (shapesOf w) ≡ 0 → stepOf w s 0xFA x y z ≡ performOn w s (saveContext s x)
 unfolding planOf armOf refusalOf
 save-open w s x y z a r = step-open w s 0xFA x y z a r refl
 
@@ -101,7 +101,7 @@ save-fits w s x =
 
 pub save-done : (w : Windows) (s : State) (x y z : ℕ) → stepOf w s 0xFA x y z .reply ≡ 0 → Saves w s x
 save-done w s x y z h =
-    let j : (admissible s ≡ true) × (ruled (shapesOf w) ≡ true) = step-done w s 0xFA x y z h in
+    let j : (admissible s ≡ true) × (unruledBy (shapesOf w) ≡ 0) = step-done w s 0xFA x y z h in
     let f : (sp s rG ≤ x) × Inside w (sp s rO) (extent s)
     = save-fits w s x (ap (λ (o : Outcome State Windows). o .reply) (sym (save-open w s x y z (j .0) (j .1))) ∙ h) in
     record { admits = adm s (j .0); fine = j .1; global = f .0; fits = f .1 }
@@ -189,7 +189,7 @@ further a b i k e = omega arith
 
 pub refusing-mod : (w : Shapes) (a b : ℕ) → a % 2 ^ 64 ≡ b % 2 ^ 64 → refusing w a ≡ refusing w b
 unfolding refusing
-refusing-mod w a b e = rw (has-octa w a b (octa-mod a b e))
+refusing-mod w a b e = rw (inside-octa w a b (octa-mod a b e))
 
 -- a part of a run that passes, under any addresses that name it
 pub part-passes : (w : Shapes) (a n b m i : ℕ) → worst (refusing w) a n ≡ 0 → b % 2 ^ 64 ≡ (a + 8 * i) % 2 ^ 64 → i + m ≤ n → worst (refusing w) b m ≡ 0
@@ -212,7 +212,7 @@ pub record Unsaves (s e : State) (v : Windows) (o : Outcome State Windows) : Typ
   pub octas-are : (i : ℕ) → i < extent s → getD octas i 0 ≡ saved s i
   pub outcome-is : o ≡ record { reply = 0; state = next (withContext s e octas); memory = v }
 
-pub unsave-open : (w : Windows) (s : State) (x y z : ℕ) → admissible s ≡ true → ruled (shapesOf w) ≡ true
+pub unsave-open : (w : Windows) (s : State) (x y z : ℕ) → admissible s ≡ true → unruledBy (shapesOf w) ≡ 0
     → stepOf w s 0xFB x y z ≡ performOn w s (contextAt (halted s) (unsavedNext s) (reg s z))
 unfolding planOf armOf refusalOf unsaveContext
 unsave-open w s x y z a r = step-open w s 0xFB x y z a r refl
@@ -220,13 +220,13 @@ unsave-open w s x y z a r = step-open w s 0xFB x y z a r refl
 -- v is any window that keeps all that the SAVE stored
 module _ (w v : Windows) (s : State) (x : ℕ) (done : Saves w s x) (words : Words s) (kept : Kept both (Within (sp s rO) (extent s)) (savedOn w s) v) where
   shape-same : shapesOf v ≡ shapesOf w
-  unfolding one
-  shape-same = kept .shape-kept ∙ puts-shape both one-lawful (tab 0 (extent s) (saved s)) w (sp s rO)
+  unfolding both
+  shape-same = kept .shape-kept ∙ puts-shape both both-lawful (tab 0 (extent s) (saved s)) w (sp s rO)
 
   stored-at : (i a : ℕ) → i < extent s → a % 2 ^ 64 ≡ (sp s rO + 8 * i) % 2 ^ 64 → look both v a ≡ saved s i
-  unfolding one
+  unfolding both
   stored-at i a l e =
-      stands both one-lawful (refusing (shapesOf w)) (extent s) (saved s) w v (sp s rO) (sound (shapesOf w)) (done .fits) (omega (arith, done .admits .l-g))
+      stands both both-lawful (refusing (shapesOf w)) (extent s) (saved s) w v (sp s rO) (sound (shapesOf w)) (done .fits) (omega (arith, done .admits .l-g))
       (λ k q. saved-word s (done .admits) words k) kept i a l e
 
   packed-is : look both v (contextAddress s) ≡ sp s rG * 2 ^ 56 + sp s rA
@@ -260,7 +260,7 @@ module _ (w v : Windows) (s : State) (x : ℕ) (done : Saves w s x) (words : Wor
       let o : below (contextAddress s) (sp s rL + 269 - sp s rG) % 2 ^ 64 ≡ sp s rO = omega (arith, words .special-word rO) in
       record {
         octas = octasOf v (contextAddress s) (sp s rG) (sp s rL);
-        octas-are = λ k l. getD-looks both one-lawful (extent s) v (below (contextAddress s) (sp s rL + 269 - sp s rG)) k l
+        octas-are = λ k l. getD-looks both both-lawful (extent s) v (below (contextAddress s) (sp s rL + 269 - sp s rG)) k l
             ∙ stored-at k _ l (further (sp s rO) (below (contextAddress s) (sp s rL + 269 - sp s rG)) 0 k first ∙ rw (zero-add k));
         outcome-is = unsave-open v e i j z a (rw shape-same (done .fine))
             ∙ rw p (context-found v e (halted e) (unsavedNext e) (contextAddress s) (sp s rG) (sp s rA) (sp s rL) stored-context ∙ rw o);

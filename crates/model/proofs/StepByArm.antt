@@ -1,6 +1,7 @@
 -- What a step comes to once 1 and 2 have passed, arm by arm, in the form in which code has it: an arm that touches no memory says it;
 -- the four others work on registers and window alone, and the layer above then sends PC on.
 use mathlib.Core.Path.{_≡_, refl, ap, _∙_}
+use mathlib.Core.Logic.{_≢_}
 use mathlib.Core.Bool.{Bool, true, false, cond}
 use mathlib.Core.List.{List, []}
 use Prim.Native.Nat.{ℕ, _+_, _-_, _≤_}
@@ -10,17 +11,18 @@ use lib.ListN.{length}
 use borrow.Author.Tests.{ne-eqb}
 use Rattle.model.specs.Fill.{tab}
 use Rattle.model.specs.Registers.{rO, rG, sp, admissible, following, goes, next, halted, withSpecial, stored, spilled}
-use Rattle.model.specs.Memory.{Windows, shapesOf, ruled, both}
+use Rattle.model.specs.Memory.{Windows, shapesOf, both}
 use Rattle.model.specs.Plan.{Plan, answer, read, Outcome, perform, worst, clear, named, looks}
 use Rattle.model.specs.Opcodes.{armOf}
 use Rattle.model.specs.NoMemory.{Said, say, tell}
 use Rattle.model.specs.Frames.{framed, pushed, pushFrame, popped, popTo, popRule, noFrame, misplaced, popFrame}
 use Rattle.model.specs.Contexts.{savedUnspilled, savedState, saveContext, unsavedUnspilled, unsaved, unsaveContext}
-use Rattle.model.specs.Step.{refusalOf, refusing, planOf, fromThree, stepPlan, stepOf}
+use Rattle.model.specs.Step.{refusalOf, unruledBy, refusing, planOf, fromThree, stepPlan, stepOf}
 use Rattle.model.specs.Numbers.{Lost}
+use Rattle.model.specs.Order.{Passes}
 use Rattle.model.specs.declared.State.{State}
 use Rattle.model.proofs.Bools.{on, on-both}
-use Rattle.model.proofs.Entry.{guarded-one, guarded-two, guarded-open, performOn, said, step-open}
+use Rattle.model.proofs.Entry.{guarded-one, guarded-unruled, guarded-open, performOn, said, step-open, none-unruled}
 use Rattle.model.proofs.ArmAnswers.{Answers, worst-six, context-meets, perform-meets}
 use Rattle.model.proofs.ItemInvariant.{Any}
 
@@ -29,7 +31,10 @@ pub told : (w : Windows) (s : State) (d : Said) → performOn w s (tell d) ≡ r
 unfolding tell
 told w s d = said w s (d .state) (d .reply)
 
-module _ (w : Windows) (s : State) (a : admissible s ≡ true) (r : ruled (shapesOf w) ≡ true) where
+pub passing : (w : Windows) (s : State) → Passes w s → unruledBy (shapesOf w) ≡ 0
+passing w s h = none-unruled (shapesOf w) (h .windowed) (h .apart)
+
+module _ (w : Windows) (s : State) (a : admissible s ≡ true) (r : unruledBy (shapesOf w) ≡ 0) where
   pub step-told : (op x y z : ℕ) (d : Said) → refusalOf (armOf op) x y z ≡ 0 → planOf s (armOf op) op x y z ≡ tell d
       → stepOf w s op x y z ≡ record { reply = d .reply; state = d .state; memory = w }
   step-told op x y z d e p = step-open w s op x y z a r e ∙ ap (λ (q : Plan State). performOn w s q) p ∙ told w s d
@@ -39,14 +44,15 @@ module _ (w : Windows) (s : State) (a : admissible s ≡ true) (r : ruled (shape
   unfolding stepOf stepPlan fromThree
   step-refused op x y z n e l = guarded-open w s s (fromThree s (armOf op) op x y z) a r ∙ rw (e, ne-eqb n 0 (λ q. let z : n ≡ 0 = q in omega arith)) (told w s (say n s))
 
--- 1, 2
+-- 1, then 2 and 22
 pub step-inadmissible : (w : Windows) (s : State) (op x y z : ℕ) → admissible s ≡ false → stepOf w s op x y z ≡ record { reply = 1; state = s; memory = w }
 unfolding stepOf stepPlan
 step-inadmissible w s op x y z a = guarded-one w s s (fromThree s (armOf op) op x y z) a
 
-pub step-unruled : (w : Windows) (s : State) (op x y z : ℕ) → admissible s ≡ true → ruled (shapesOf w) ≡ false → stepOf w s op x y z ≡ record { reply = 2; state = s; memory = w }
+pub step-unruled : (w : Windows) (s : State) (op x y z : ℕ) → admissible s ≡ true → unruledBy (shapesOf w) ≢ 0
+    → stepOf w s op x y z ≡ record { reply = unruledBy (shapesOf w); state = s; memory = w }
 unfolding stepOf stepPlan
-step-unruled w s op x y z a r = guarded-two w s s (fromThree s (armOf op) op x y z) a r
+step-unruled w s op x y z a n = guarded-unruled w s s (fromThree s (armOf op) op x y z) a n
 
 -- ---- PC sent on to t where the step is done
 

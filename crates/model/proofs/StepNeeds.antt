@@ -7,7 +7,7 @@ use native.Mathlib.Omega.{arith}
 use lib.Dec.{leb, ltb, eqb}
 use Rattle.model.specs.Fill.{tab}
 use Rattle.model.specs.Registers.{rO, rG, rL, sp, reg, admissible, goes, next, halted}
-use Rattle.model.specs.Memory.{Windows, shapesOf, ruled, inside, both, one}
+use Rattle.model.specs.Memory.{Windows, shapesOf, inside, both}
 use Rattle.model.specs.Plan.{Plan, answer, read, Outcome, perform, ups, worst, clear, missing, look, looks, needs}
 use Rattle.model.specs.Opcodes.{Width, Sign, Arm, forward, backward, register, immediate, branch, jump, getAddress, go, pushJump, pushGo, pop, put, get, save, unsave, sync, swym, trip, trap, load, store, arithmetic, none, armOf}
 use Rattle.model.specs.NoMemory.{Said, say, refuse, tell}
@@ -141,9 +141,9 @@ stored-done w s t a n f =
 entry-stored : (w : Windows) (s t : State) (op x y z a n : ℕ) (f : ℕ → ℕ) → refusalOf (armOf op) x y z ≡ 0
     → (admissible s ≡ true → stepOf w s op x y z .reply ≡ 0 → planOf s (armOf op) op x y z ≡ answer 0 t a (tab 0 n f))
     → stepOf w s op x y z .reply ≡ 0 → stepNeeds w s op x y z ≡ ups a n
-unfolding stepNeeds stepPlan guarded unruledBy fromThree
+unfolding stepNeeds stepPlan guarded fromThree
 entry-stored w s t op x y z a n f e p d =
-    let j : (admissible s ≡ true) × (ruled (shapesOf w) ≡ true) = step-done w s op x y z d in
+    let j : (admissible s ≡ true) × (unruledBy (shapesOf w) ≡ 0) = step-done w s op x y z d in
     let q : planOf s (armOf op) op x y z ≡ answer 0 t a (tab 0 n f) = p (j .0) d in
     rw (j .0, j .1, e, q) (stored-done w s t a n f
     (ap (λ (k : Plan State). perform both (refusing (shapesOf w)) s k w .reply) (sym q) ∙ sym (ap (λ (o : Outcome State Windows). o .reply) (step-open w s op x y z (j .0) (j .1) e)) ∙ d))
@@ -168,12 +168,12 @@ save-global w s x =
 save-done : (w : Windows) (s : State) (x y z : ℕ) → stepOf w s 0xFA x y z .reply ≡ 0 → stepNeeds w s 0xFA x y z ≡ ups (sp s rO) (sp s rL + 270 - sp s rG)
 unfolding planOf armOf refusalOf
 save-done w s x y z d =
-    let j : (admissible s ≡ true) × (ruled (shapesOf w) ≡ true) = step-done w s 0xFA x y z d in
+    let j : (admissible s ≡ true) × (unruledBy (shapesOf w) ≡ 0) = step-done w s 0xFA x y z d in
     entry-stored w s (next (savedState s x)) 0xFA x y z (sp s rO) (extent s) (saved s) refl
     (λ a b. save-global w s x (ap (λ (o : Outcome State Windows). o .reply) (sym (step-open w s 0xFA x y z (j .0) (j .1) refl)) ∙ d)) d
 
 pub needs-are : NeedsAre
-unfolding needsOf mmix itemPlan planOf armOf refusalOf one
+unfolding needsOf mmix itemPlan planOf armOf refusalOf both
 needs-are = record {
   by-step = step-needs;
   by-exception = λ w s f op x y z u v. tell-none w (exceptionOf s f op x y z u v);

@@ -15,7 +15,7 @@ use borrow.Author.Tests.{ltb-true}
 use Rattle.model.specs.Fill.{over}
 use Rattle.model.specs.Octa.{part, written, valueOf, bytesOf}
 use Rattle.model.specs.Registers.{rB, rD, rH, rJ, rBB, rO, rS, rG, rL, rA, rR, rP, rW, rX, rY, rZ, rWW, rXX, rYY, rZZ, sp, reg, following, Words, goes, halted, withSpecial, cleared, claimLocal, isMarginal, stored, setRegister, putLocals, putGlobals, spilled}
-use Rattle.model.specs.Memory.{Windows, shapesOf, offset, octaBytes, writeOcta, both, one}
+use Rattle.model.specs.Memory.{shapeOf, offset, has, octaBytes, writeOcta, Windows, shapesOf, octaAt, putOcta, both}
 use Rattle.model.specs.Plan.{Plan, answer, read, Outcome, perform, clear, look, looks, puts}
 use Rattle.model.specs.Opcodes.{Operand, register, immediate, Arm, armOf}
 use Rattle.model.specs.Control.{operandOf, sumOf}
@@ -212,8 +212,11 @@ value-small (suc n) l o v b h p =
     turn b n = mul-assoc b 256 (256 ^ n) ∙ ap (λ (k : ℕ). b * k) (sym (pow-succ' 256 n))
 
 look-word : (w : Windows) (a : ℕ) → Bytes w → Word (look both w a)
-unfolding look one octaBytes
-look-word w a h = value-small 8 (w .bytes) (offset (w .base) a) 0 1 (record { at = h .byte }) (omega arith)
+unfolding look both octaAt octaBytes
+look-word w a h =
+    on (λ (l : List ℕ). Word (valueOf 0 l)) (has (shapeOf (w .b)) a)
+    (λ e. value-small 8 (w .b .bytes) (offset (w .b .base) a) 0 1 (record { at = h .byte-b }) (omega arith))
+    (λ e. value-small 8 (w .a .bytes) (offset (w .a .base) a) 0 1 (record { at = h .byte-a }) (omega arith))
 
 looks-words : (n : ℕ) (w : Windows) (a : ℕ) → Bytes w → Below (2 ^ 64) (looks both w a n)
 unfolding looks
@@ -233,10 +236,17 @@ written-below-bound b (x ∷ xs) (suc o) vs h g = cons-below b x _ (h .at 0) (wr
 written-below-bound b (x ∷ xs) zero [] h g = h
 written-below-bound b (x ∷ xs) zero (v ∷ vs) h g = cons-below b v _ (g .at 0) (written-below-bound b xs zero vs (tail-below b x xs h) (tail-below b v vs g))
 
+put-bytes : (w : Windows) (a v : ℕ) → Bytes w → Bytes (putOcta w a v)
+unfolding putOcta writeOcta
+put-bytes w a v h =
+    on Bytes (has (shapeOf (w .b)) a)
+    (λ e. record { byte-a = h .byte-a; byte-b = written-below-bound 256 (w .b .bytes) (offset (w .b .base) a) (bytesOf v) (record { at = h .byte-b }) (bytes-byte v) .at })
+    (λ e. record { byte-a = written-below-bound 256 (w .a .bytes) (offset (w .a .base) a) (bytesOf v) (record { at = h .byte-a }) (bytes-byte v) .at; byte-b = h .byte-b })
+
 puts-bytes : (vs : List ℕ) (w : Windows) (a : ℕ) → Bytes w → Bytes (puts both w a vs)
-unfolding puts one writeOcta
+unfolding puts both
 puts-bytes [] w a h = h
-puts-bytes (v ∷ vs) w a h = puts-bytes vs _ (a + 8) (record { byte = written-below-bound 256 (w .bytes) (offset (w .base) a) (bytesOf v) (record { at = h .byte }) (bytes-byte v) .at })
+puts-bytes (v ∷ vs) w a h = puts-bytes vs _ (a + 8) (put-bytes w a v h)
 
 perform-bytes : {S : Type 0} (j : ℕ → ℕ) (s : S) (p : Plan S) (w : Windows) → Bytes w → Bytes (perform both j s p w .memory)
 unfolding perform
@@ -266,7 +276,7 @@ meets-words s h = record {
   word = λ n b. b;
   general-is = h .general-word;
   special-is = h .special-word;
-  refuses = λ n a. h;
+  refuses = h;
   halts = λ n a. halted-words s h;
   moves = λ a w. goes-words s a w h;
   writes = λ x v a w u. goes-words _ a u (set-words s x v w h);
@@ -309,7 +319,7 @@ meets-interrupt s m op x y z f h =
     operand-word immediate k b = omega arith
 
 pub item-words : (w : Windows) (s : State) (i : Item) → Fits i → Bytes w → Words s → Words (stepOn both mmix s w i .state)
-unfolding stepOn mmix itemPlan Fits one
+unfolding stepOn mmix itemPlan Fits both
 item-words w s (step op x y z) f b h =
     perform-meets w s (Below (2 ^ 64)) (λ r t vs. Words t) (λ o. Words (o .state)) h (λ r t a vs k. k) (λ a n. looks-words n w a b) (stepPlan s (shapesOf w) op x y z)
     (step-meets s (shapesOf w) (Below (2 ^ 64)) (λ r t vs. Words t) (λ n c. h) op x y z
