@@ -1,6 +1,7 @@
--- Laws of the octabytes of a window: what a read and a write of one are, inside and outside; addresses modulo 2^64; a list written
--- octabyte by octabyte; and a run written by a loop. The test of a run is in RunTest.
+-- Laws of reading and writing octabytes: one, inside and outside, of any lawful memory; addresses modulo 2^64; a run written by a loop; of one
+-- window as code has it; of the two windows by the one that holds the octabyte; and a list written octabyte by octabyte. The test of a run is in RunTest.
 use mathlib.Core.Path.{_≡_, refl, sym, ap, _∙_}
+use mathlib.Core.Logic.{_≢_}
 use mathlib.Core.Bool.{Bool, true, false, cond}
 use mathlib.Core.List.{List, [], _∷_, _++_}
 use Prim.Native.Nat.{ℕ, zero, suc, _+_, _-_, _*_, _%_, _^_, _≤_, _<_}
@@ -9,134 +10,258 @@ use native.Mathlib.Omega.{arith}
 use lib.ListN.{length}
 use borrow.Author.Tests.{leb-true}
 use Rattle.model.specs.Fill.{tab}
-use Rattle.model.specs.Octa.{part, written, valueOf, bytesOf}
-use Rattle.model.specs.Memory.{Window, Shape, shapeOf, offset, has, octaBytes, writeOcta, one}
+use Rattle.model.specs.Octa.{octa, part, written, valueOf, bytesOf}
+use Rattle.model.specs.Memory.{Store, Window, Shape, shapeOf, offset, has, octaBytes, writeOcta, one, Windows, Shapes, shapesOf, holder, inside, octaAt, putOcta, both}
 use Rattle.model.specs.Plan.{worst, look, puts}
 use Rattle.model.specs.Step.{refusing}
 use Rattle.model.specs.Parts.{lent}
-use Rattle.model.proofs.Memory.{write-shape, has-octa, one-lawful}
-use Rattle.model.proofs.Plan.{puts-more}
+use Rattle.model.specs.declared.Bases.{Bases}
+use Rattle.model.proofs.Memory.{Lawful, write-shape, has-octa, one-lawful, both-lawful}
+use Rattle.model.proofs.Plan.{puts-shape, puts-more}
+use Rattle.model.proofs.Entry.{judged-inside}
 use Rattle.model.proofs.SaveUnsave.{further}
 use Rattle.model.proofs.Runs.{octa-mod, worst-of, length-tab, look-mod}
-use Rattle.machine.specs.Octas.{readOcta, writtenOcta, writtenRun}
-use Rattle.machine.proofs.RunTest.{run-one}
+use Rattle.machine.specs.Octas.{readBy, writtenBy, writtenRunBy, readOcta, writtenOcta, writtenRun, lentOne, roomIn}
+use Rattle.machine.proofs.RunTest.{has-room, no-room, has-b, has-a, has-none}
 
--- ---- one octabyte
+-- ---- any memory
 
-pub passed-has : (w : Shape) (a : ℕ) → refusing w a ≡ 0 → has w a ≡ true
-unfolding refusing
-passed-has w a = go (has w a)
-  where
-    go : (t : Bool) → _≡_ {A = ℕ} (cond t 0 6) 0 → t ≡ true
-    go true e = refl
-    go false e = absurd (omega arith)
+module _ {M Sh : Type 0} (st : Store M Sh) where
+  module _ (m : M) (a : ℕ) where
+    pub inside-read : st .inside (st .shape m) a ≡ true → readBy st m a ≡ look st m a
+    unfolding readBy
+    inside-read h = ap (λ (t : Bool). cond t (look st m a) 0) h
 
-pub missed-has : (w : Shape) (a : ℕ) → (refusing w a ≡ 0 → ⊥) → has w a ≡ false
-unfolding refusing
-missed-has w a = go (has w a)
-  where
-    go : (t : Bool) → (_≡_ {A = ℕ} (cond t 0 6) 0 → ⊥) → t ≡ false
-    go true f = absurd (f refl)
-    go false f = refl
+    pub outside-read : st .inside (st .shape m) a ≡ false → readBy st m a ≡ 0
+    unfolding readBy
+    outside-read h = ap (λ (t : Bool). cond t (look st m a) 0) h
 
-module _ (w : Window) (a : ℕ) where
-  pub read-in : refusing (shapeOf w) a ≡ 0 → readOcta w a ≡ look one w a
-  unfolding readOcta
-  read-in h = ap (λ (t : Bool). cond t (look one w a) 0) (passed-has (shapeOf w) a h)
+    pub inside-written : (v : ℕ) → st .inside (st .shape m) a ≡ true → writtenBy st m a v ≡ st .put m a v
+    unfolding writtenBy
+    inside-written v h = ap (λ (t : Bool). cond t (st .put m a v) m) h
 
-  pub read-out : (refusing (shapeOf w) a ≡ 0 → ⊥) → readOcta w a ≡ 0
-  unfolding readOcta
-  read-out h = ap (λ (t : Bool). cond t (look one w a) 0) (missed-has (shapeOf w) a h)
+    pub outside-written : (v : ℕ) → st .inside (st .shape m) a ≡ false → writtenBy st m a v ≡ m
+    unfolding writtenBy
+    outside-written v h = ap (λ (t : Bool). cond t (st .put m a v) m) h
 
-  pub written-in : (v : ℕ) → refusing (shapeOf w) a ≡ 0 → writtenOcta w a v ≡ writeOcta w a v
-  unfolding writtenOcta
-  written-in v h = ap (λ (t : Bool). cond t (writeOcta w a v) w) (passed-has (shapeOf w) a h)
+  -- where a loop starts
+  pub run-none : (m : M) (a n : ℕ) (f : ℕ → ℕ) → n ≡ 0 → m ≡ writtenRunBy st m a n f
+  unfolding writtenRunBy
+  run-none m a n f e = rw e refl
 
-  pub written-out : (v : ℕ) → (refusing (shapeOf w) a ≡ 0 → ⊥) → writtenOcta w a v ≡ w
-  unfolding writtenOcta
-  written-out v h = ap (λ (t : Bool). cond t (writeOcta w a v) w) (missed-has (shapeOf w) a h)
+  module _ (ok : Lawful st) where
+    -- a write keeps the shape
+    pub written-shape : (m : M) (a v : ℕ) → st .shape (writtenBy st m a v) ≡ st .shape m
+    unfolding writtenBy
+    written-shape m a v = go (st .inside (st .shape m) a)
+      where
+        go : (t : Bool) → st .shape (cond t (st .put m a v) m) ≡ st .shape m
+        go true = ok .put-shape m a v
+        go false = refl
 
-  -- what an octabyte inside is, byte by byte
-  pub look-is : look one w a ≡ valueOf 0 (part (w .bytes) (offset (w .base) a) 8)
-  unfolding look one octaBytes
-  look-is = refl
+    pub run-shape : (n : ℕ) (m : M) (a : ℕ) (f : ℕ → ℕ) → st .shape (writtenRunBy st m a n f) ≡ st .shape m
+    unfolding writtenRunBy
+    run-shape zero m a f = refl
+    run-shape (suc n) m a f = written-shape (writtenRunBy st m a n f) (a + 8 * n) (f n) ∙ run-shape n m a f
 
-  pub passed-fits : refusing (shapeOf w) a ≡ 0 → offset (w .base) a + 8 ≤ length (w .bytes)
-  unfolding has shapeOf
-  passed-fits h = leb-true _ _ (passed-has (shapeOf w) a h)
+    pub read-at : (m : M) (a b : ℕ) → a % 2 ^ 64 ≡ b % 2 ^ 64 → readBy st m a ≡ readBy st m b
+    unfolding readBy
+    read-at m a b e = rw (ok .inside-octa (st .shape m) a b (octa-mod a b e), look-mod st ok m a b e)
 
--- reads and writes as code has them, judged by a run of one
+    pub read-wraps : (m : M) (a : ℕ) → readBy st m (a % 2 ^ 64) ≡ readBy st m a
+    read-wraps m a = let e : a % 2 ^ 64 % 2 ^ 64 ≡ a % 2 ^ 64 = omega arith in read-at m (a % 2 ^ 64) a e
+
+    -- a put knows an address by its octabyte alone
+    module _ (put-octa : (m : M) (a b v : ℕ) → octa a ≡ octa b → st .put m a v ≡ st .put m b v) where
+      pub written-at : (m : M) (a b v : ℕ) → a % 2 ^ 64 ≡ b % 2 ^ 64 → writtenBy st m a v ≡ writtenBy st m b v
+      unfolding writtenBy
+      written-at m a b v e = rw (ok .inside-octa (st .shape m) a b (octa-mod a b e), put-octa m a b v (octa-mod a b e))
+
+      -- a turn of the loop that writes a run: i counts from `from`, the address wraps
+      pub run-turn : (m u t : M) (a from i at v : ℕ) (f : ℕ → ℕ) → from ≤ i → u ≡ writtenRunBy st m a (i - from) f → at ≡ (a + 8 * (i - from)) % 2 ^ 64
+          → v ≡ f (i - from) → t ≡ writtenBy st u at v → t ≡ writtenRunBy st m a (i + 1 - from) f
+      unfolding writtenRunBy
+      run-turn m u t a from i at v f l eu ea ev et =
+          let count : i + 1 - from ≡ suc (i - from) = omega arith in
+          let same : at % 2 ^ 64 ≡ (a + 8 * (i - from)) % 2 ^ 64 = omega arith in
+          et ∙ written-at u at (a + 8 * (i - from)) v same ∙ rw (eu, ev, count)
+
+      -- a run written after a run: both are one
+      pub run-joined : (k : ℕ) (m : M) (a n at : ℕ) (f g : ℕ → ℕ) → at % 2 ^ 64 ≡ (a + 8 * n) % 2 ^ 64 → ((i : ℕ) → i < k → g i ≡ f (n + i))
+          → writtenRunBy st (writtenRunBy st m a n f) at k g ≡ writtenRunBy st m a (n + k) f
+      unfolding writtenRunBy
+      run-joined zero m a n at f g e h = ap (λ (j : ℕ). writtenRunBy st m a j f) (omega arith)
+      run-joined (suc k) m a n at f g e h =
+          let same : (at + 8 * k) % 2 ^ 64 ≡ (a + 8 * (n + k)) % 2 ^ 64 = further a at n k e in
+          let count : suc (n + k) ≡ n + suc k = omega arith in
+          ap (λ (u : M). writtenBy st u (at + 8 * k) (g k)) (run-joined k m a n at f g e (λ i b. h i (omega arith)))
+          ∙ written-at (writtenRunBy st m a (n + k) f) (at + 8 * k) (a + 8 * (n + k)) (g k) same
+          ∙ ap (writtenBy st (writtenRunBy st m a (n + k) f) (a + 8 * (n + k))) (h k (omega arith))
+          ∙ ap (λ (j : ℕ). writtenRunBy st m a j f) count
+
+-- ---- one window, as code has it
+
+pub write-octa : (w : Window) (a b v : ℕ) → octa a ≡ octa b → one .put w a v ≡ one .put w b v
+unfolding one writeOcta offset
+write-octa w a b v e = rw e
+
+-- what an octabyte inside is, byte by byte
+pub look-is : (w : Window) (a : ℕ) → look one w a ≡ valueOf 0 (part (w .bytes) (offset (w .base) a) 8)
+unfolding look one octaBytes
+look-is w a = refl
+
 module _ (base : ℕ) (l : List ℕ) (a : ℕ) where
-  abbrev judgement : ℕ
-  judgement = worst (refusing (shapeOf (lent base l))) a 1
+  abbrev room : ℕ
+  room = roomIn (shapeOf (lentOne base l)) a
 
-  pub one-fits : judgement ≡ 0 → offset base a + 8 ≤ length l
-  one-fits h = passed-fits (lent base l) a (sym (run-one _ a) ∙ h)
+  pub room-fits : (room ≡ 0 → ⊥) → offset base a + 8 ≤ length l
+  unfolding has shapeOf
+  room-fits h = leb-true _ _ (has-room (shapeOf (lentOne base l)) a h)
 
-  pub read-one : judgement ≡ 0 → readOcta (lent base l) a ≡ valueOf 0 (part l (offset base a) 8)
-  read-one h = read-in (lent base l) a (sym (run-one _ a) ∙ h) ∙ look-is (lent base l) a
+  pub room-read : (room ≡ 0 → ⊥) → readBy one (lentOne base l) a ≡ valueOf 0 (part l (offset base a) 8)
+  room-read h = inside-read one (lentOne base l) a (unfold one in (has-room (shapeOf (lentOne base l)) a h)) ∙ look-is (lentOne base l) a
 
-  pub read-none : (judgement ≡ 0 → ⊥) → readOcta (lent base l) a ≡ 0
-  read-none h = read-out (lent base l) a (λ e. h (run-one _ a ∙ e))
+  pub none-read : room ≡ 0 → readBy one (lentOne base l) a ≡ 0
+  none-read h = outside-read one (lentOne base l) a (unfold one in (no-room (shapeOf (lentOne base l)) a h))
 
-  pub write-one : (v d : ℕ) (m : List ℕ) → judgement ≡ 0 → d ≡ offset base a → m ≡ written l d (bytesOf v) → lent base m ≡ writtenOcta (lent base l) a v
-  unfolding writeOcta
-  write-one v d m h e f = ap (lent base) (f ∙ ap (λ (k : ℕ). written l k (bytesOf v)) e) ∙ sym (written-in (lent base l) a v (sym (run-one _ a) ∙ h))
+  pub room-written : (v d : ℕ) (m : List ℕ) → (room ≡ 0 → ⊥) → d ≡ offset base a → m ≡ written l d (bytesOf v) → lentOne base m ≡ writtenBy one (lentOne base l) a v
+  room-written v d m h e f =
+      ap (lentOne base) (f ∙ ap (λ (k : ℕ). written l k (bytesOf v)) e)
+      ∙ sym (inside-written one (lentOne base l) a v (unfold one in (has-room (shapeOf (lentOne base l)) a h)) ∙ (unfold one writeOcta in refl))
 
-  pub write-none : (v : ℕ) → (judgement ≡ 0 → ⊥) → writtenOcta (lent base l) a v ≡ lent base l
-  write-none v h = written-out (lent base l) a v (λ e. h (run-one _ a ∙ e))
+  pub none-written : (v : ℕ) → room ≡ 0 → lentOne base l ≡ writtenBy one (lentOne base l) a v
+  none-written v h = sym (outside-written one (lentOne base l) a v (unfold one in (no-room (shapeOf (lentOne base l)) a h)))
 
--- a write keeps the shape
-pub written-shape : (w : Window) (a v : ℕ) → shapeOf (writtenOcta w a v) ≡ shapeOf w
-unfolding writtenOcta
-written-shape w a v = go (has (shapeOf w) a)
-  where
-    go : (t : Bool) → shapeOf (cond t (writeOcta w a v) w) ≡ shapeOf w
-    go true = write-shape w a v
-    go false = refl
-
-same-size : (base : ℕ) (l m : List ℕ) (u : Window) → lent base m ≡ u → shapeOf u ≡ shapeOf (lent base l) → length m ≡ length l
+same-size : (base : ℕ) (l m : List ℕ) (u : Window) → lentOne base m ≡ u → shapeOf u ≡ shapeOf (lentOne base l) → length m ≡ length l
 unfolding shapeOf
 same-size base l m u e f = ap (λ (t : Window). length (t .bytes)) e ∙ ap (λ (t : Shape). t .size) f
 
-pub written-length : (base : ℕ) (l m : List ℕ) (a v : ℕ) → lent base m ≡ writtenOcta (lent base l) a v → length m ≡ length l
-written-length base l m a v e = same-size base l m _ e (written-shape (lent base l) a v)
+pub one-length : (base : ℕ) (l m : List ℕ) (a v : ℕ) → lentOne base m ≡ writtenBy one (lentOne base l) a v → length m ≡ length l
+one-length base l m a v e = same-size base l m _ e (unfold one in (written-shape one one-lawful (lentOne base l) a v))
 
--- ---- addresses modulo 2^64
+-- ---- two windows, by the one that holds the octabyte
 
-module _ (w : Window) (a b : ℕ) (e : a % 2 ^ 64 ≡ b % 2 ^ 64) where
-  pub read-mod : readOcta w a ≡ readOcta w b
-  unfolding readOcta
-  read-mod = rw (has-octa (shapeOf w) a b (octa-mod a b e), look-mod one one-lawful w a b e)
+pub put-octa : (m : Windows) (a b v : ℕ) → octa a ≡ octa b → both .put m a v ≡ both .put m b v
+unfolding both putOcta writeOcta offset
+put-octa m a b v e = rw (has-octa (shapeOf (m .b)) a b e, e)
 
-  pub write-mod : (v : ℕ) → writeOcta w a v ≡ writeOcta w b v
-  unfolding writeOcta offset
-  write-mod v = rw (octa-mod a b e)
+module _ (m : Windows) (x : ℕ) where
+  abbrev hasB : Bool
+  hasB = has (shapeOf (m .b)) x
 
-  pub written-mod : (v : ℕ) → writtenOcta w a v ≡ writtenOcta w b v
-  unfolding writtenOcta
-  written-mod v = rw (has-octa (shapeOf w) a b (octa-mod a b e), write-mod v)
+  abbrev hasA : Bool
+  hasA = has (shapeOf (m .a)) x
 
-pub read-wraps : (w : Window) (a : ℕ) → readOcta w (a % 2 ^ 64) ≡ readOcta w a
-read-wraps w a = let e : a % 2 ^ 64 % 2 ^ 64 ≡ a % 2 ^ 64 = omega arith in read-mod w (a % 2 ^ 64) a e
+  pub read-b : hasB ≡ true → readBy one (m .b) x ≡ readOcta m x
+  unfolding readBy inside shapesOf look both one octaAt
+  read-b h = rw h
+
+  pub read-a : hasB ≡ false → hasA ≡ true → readBy one (m .a) x ≡ readOcta m x
+  unfolding readBy inside shapesOf look both one octaAt
+  read-a h k = rw (h, k)
+
+  pub read-none : hasB ≡ false → hasA ≡ false → readOcta m x ≡ 0
+  unfolding readBy both inside shapesOf
+  read-none h k = rw (h, k)
+
+  pub write-b : (v : ℕ) → hasB ≡ true → record { a = m .a; b = writtenBy one (m .b) x v } ≡ writtenOcta m x v
+  unfolding writtenBy both one inside shapesOf putOcta
+  write-b v h = rw h
+
+  pub write-a : (v : ℕ) → hasB ≡ false → hasA ≡ true → record { a = writtenBy one (m .a) x v; b = m .b } ≡ writtenOcta m x v
+  unfolding writtenBy both one inside shapesOf putOcta
+  write-a v h k = rw (h, k)
+
+  pub write-none : (v : ℕ) → hasB ≡ false → hasA ≡ false → m ≡ writtenOcta m x v
+  unfolding writtenBy both inside shapesOf
+  write-none v h k = rw (h, k)
+
+-- a run that one window holds
+module _ (m : Windows) (x : ℕ) (f : ℕ → ℕ) where
+  abbrev Held : ℕ → ℕ → Type 0
+  Held h n = (i : ℕ) → i < n → holder (shapesOf m) (x + 8 * i) ≡ h
+
+  pub run-b : (n : ℕ) → Held 1 n → record { a = m .a; b = writtenRunBy one (m .b) x n f } ≡ writtenRun m x n f
+  unfolding writtenRunBy
+  run-b zero h = refl
+  run-b (suc n) h =
+      let u : Window = writtenRunBy one (m .b) x n f in
+      let t : has (shapeOf u) (x + 8 * n) ≡ true
+      = ap (λ (s : Shape). has s (x + 8 * n)) (unfold one in (run-shape one one-lawful n (m .b) x f)) ∙ (unfold shapesOf in (has-b (shapesOf m) (x + 8 * n) (h n (omega arith)))) in
+      write-b (record { a = m .a; b = u }) (x + 8 * n) (f n) t ∙ ap (λ (v : Windows). writtenOcta v (x + 8 * n) (f n)) (run-b n (λ i l. h i (omega arith)))
+
+  pub run-a : (n : ℕ) → Held 0 n → record { a = writtenRunBy one (m .a) x n f; b = m .b } ≡ writtenRun m x n f
+  unfolding writtenRunBy
+  run-a zero h = refl
+  run-a (suc n) h =
+      let u : Window = writtenRunBy one (m .a) x n f in
+      let p : (has (shapeOf (m .b)) (x + 8 * n) ≡ false) × (has (shapeOf (m .a)) (x + 8 * n) ≡ true) = unfold shapesOf in (has-a (shapesOf m) (x + 8 * n) (h n (omega arith))) in
+      let t : has (shapeOf u) (x + 8 * n) ≡ true = ap (λ (s : Shape). has s (x + 8 * n)) (unfold one in (run-shape one one-lawful n (m .a) x f)) ∙ p .1 in
+      write-a (record { a = u; b = m .b }) (x + 8 * n) (f n) (p .0) t ∙ ap (λ (v : Windows). writtenOcta v (x + 8 * n) (f n)) (run-a n (λ i l. h i (omega arith)))
+
+  -- one octabyte that neither does
+  pub run-lost : (n h : ℕ) → h ≢ 1 → h ≢ 0 → n ≤ 1 → Held h n → m ≡ writtenRun m x n f
+  unfolding writtenRunBy
+  run-lost zero h p q l g = refl
+  run-lost (suc n) h p q l g =
+      let none : n ≡ 0 = omega arith in
+      let e : holder (shapesOf m) (x + 8 * n) ≡ h = g n (omega arith) in
+      let r : (has (shapeOf (m .b)) (x + 8 * n) ≡ false) × (has (shapeOf (m .a)) (x + 8 * n) ≡ false)
+      = unfold shapesOf in (has-none (shapesOf m) (x + 8 * n) (λ t. p (sym e ∙ t)) (λ t. q (sym e ∙ t))) in
+      write-none m (x + 8 * n) (f n) (r .0) (r .1) ∙ ap (λ (u : Windows). writtenOcta u (x + 8 * n) (f n)) (run-none both m x n f none)
+
+-- addresses modulo 2^64
+pub read-mod : (m : Windows) (a b : ℕ) → a % 2 ^ 64 ≡ b % 2 ^ 64 → readOcta m a ≡ readOcta m b
+read-mod = read-at both both-lawful
+
+pub written-mod : (m : Windows) (a b v : ℕ) → a % 2 ^ 64 ≡ b % 2 ^ 64 → writtenOcta m a v ≡ writtenOcta m b v
+written-mod = written-at both both-lawful put-octa
+
+pub run-more : (m u t : Windows) (a from i at v : ℕ) (f : ℕ → ℕ) → from ≤ i → u ≡ writtenRun m a (i - from) f → at ≡ (a + 8 * (i - from)) % 2 ^ 64
+    → v ≡ f (i - from) → t ≡ writtenOcta u at v → t ≡ writtenRun m a (i + 1 - from) f
+run-more = run-turn both both-lawful put-octa
+
+-- what a write leaves of the lengths
+module _ (at : Bases) (k l k' l' : List ℕ) where
+  pub same-lengths : shapesOf (lent at k' l') ≡ shapesOf (lent at k l) → (length k' ≡ length k) × (length l' ≡ length l)
+  unfolding shapesOf shapeOf
+  same-lengths e = (ap (λ (s : Shapes). s .a .size) e, ap (λ (s : Shapes). s .b .size) e)
+
+  pub written-lengths : (a v : ℕ) → lent at k' l' ≡ writtenOcta (lent at k l) a v → (length k' ≡ length k) × (length l' ≡ length l)
+  written-lengths a v e = same-lengths (ap shapesOf e ∙ (unfold both in (written-shape both both-lawful (lent at k l) a v)))
+
+  pub run-lengths : (a n : ℕ) (f : ℕ → ℕ) → lent at k' l' ≡ writtenRun (lent at k l) a n f → (length k' ≡ length k) × (length l' ≡ length l)
+  run-lengths a n f e = same-lengths (ap shapesOf e ∙ (unfold both in (run-shape both both-lawful n (lent at k l) a f)))
+
+-- ---- octabytes that pass
+
+module _ (w : Windows) (a : ℕ) (h : refusing (shapesOf w) a ≡ 0) where
+  within : both .inside (both .shape w) a ≡ true
+  unfolding both
+  within = judged-inside (shapesOf w) a h
+
+  pub read-in : readOcta w a ≡ look both w a
+  read-in = inside-read both w a within
+
+  pub written-in : (v : ℕ) → writtenOcta w a v ≡ putOcta w a v
+  written-in v = inside-written both w a v within ∙ (unfold both in refl)
 
 -- octabyte i of a run that passes, under any address that names it
-module _ (w : Window) (a n : ℕ) (pass : worst (refusing (shapeOf w)) a n ≡ 0) (i at : ℕ) (l : i < n) (e : at % 2 ^ 64 ≡ (a + 8 * i) % 2 ^ 64) where
-  pub run-read : readOcta w at ≡ look one w (a + 8 * i)
-  run-read = read-mod w at (a + 8 * i) e ∙ read-in w (a + 8 * i) (worst-of (refusing (shapeOf w)) n a i pass l)
+module _ (w : Windows) (a n : ℕ) (pass : worst (refusing (shapesOf w)) a n ≡ 0) (i at : ℕ) (l : i < n) (e : at % 2 ^ 64 ≡ (a + 8 * i) % 2 ^ 64) where
+  pub run-read : readOcta w at ≡ look both w (a + 8 * i)
+  run-read = read-mod w at (a + 8 * i) e ∙ read-in w (a + 8 * i) (worst-of (refusing (shapesOf w)) n a i pass l)
 
-  pub run-written : (v : ℕ) → writtenOcta w at v ≡ writeOcta w (a + 8 * i) v
-  run-written v = written-mod w at (a + 8 * i) e v ∙ written-in w (a + 8 * i) v (worst-of (refusing (shapeOf w)) n a i pass l)
+  pub run-written : (v : ℕ) → writtenOcta w at v ≡ putOcta w (a + 8 * i) v
+  run-written v = written-mod w at (a + 8 * i) v e ∙ written-in w (a + 8 * i) (worst-of (refusing (shapesOf w)) n a i pass l) v
 
 -- ---- a list written
 
-pub puts-shape : (w : Window) (a : ℕ) (vs : List ℕ) → shapeOf (puts one w a vs) ≡ shapeOf w
-unfolding puts one
-puts-shape w a [] = refl
-puts-shape w a (v ∷ vs) = puts-shape (writeOcta w a v) (a + 8) vs ∙ write-shape w a v
+puts-shapes : (w : Windows) (a : ℕ) (vs : List ℕ) → shapesOf (puts both w a vs) ≡ shapesOf w
+unfolding both
+puts-shapes w a vs = puts-shape both both-lawful vs w a
 
 -- where a loop starts
-pub puts-none : (w : Window) (a : ℕ) (f : ℕ → ℕ) → puts one w a (tab 0 0 f) ≡ w
+pub puts-none : (w : Windows) (a : ℕ) (f : ℕ → ℕ) → puts both w a (tab 0 0 f) ≡ w
 unfolding puts tab
 puts-none w a f = refl
 
@@ -146,46 +271,31 @@ tab-more zero i f = ap (λ (k : ℕ). f k ∷ []) (omega arith)
 tab-more (suc n) i f = ap (λ (l : List ℕ). f i ∷ l) (tab-more n (suc i) f ∙ ap (λ (k : ℕ). tab (suc i) n f ++ (f k ∷ [])) (omega arith))
 
 -- the same as code has it: the address wraps, i octabytes are written already
-module _ (w : Window) (a n : ℕ) (pass : worst (refusing (shapeOf w)) a n ≡ 0) (i at : ℕ) (l : i < n) (e : at ≡ (a + 8 * i) % 2 ^ 64) where
-  pub puts-next : (vs : List ℕ) (v : ℕ) → length vs ≡ i → writtenOcta (puts one w a vs) at v ≡ puts one w a (vs ++ (v ∷ []))
+module _ (w : Windows) (a n : ℕ) (pass : worst (refusing (shapesOf w)) a n ≡ 0) (i at : ℕ) (l : i < n) (e : at ≡ (a + 8 * i) % 2 ^ 64) where
+  pub puts-next : (vs : List ℕ) (v : ℕ) → length vs ≡ i → writtenOcta (puts both w a vs) at v ≡ puts both w a (vs ++ (v ∷ []))
   puts-next vs v d =
-      let h : worst (refusing (shapeOf (puts one w a vs))) a n ≡ 0 = rw (puts-shape w a vs) pass in
-      run-written (puts one w a vs) a n h i at l (omega arith) v
-      ∙ ap (λ (k : ℕ). writeOcta (puts one w a vs) (a + 8 * k) v) (sym d)
-      ∙ sym (puts-more one w a vs v ∙ (unfold one in refl))
+      let h : worst (refusing (shapesOf (puts both w a vs))) a n ≡ 0 = rw (puts-shapes w a vs) pass in
+      run-written (puts both w a vs) a n h i at l (omega arith) v
+      ∙ ap (λ (k : ℕ). putOcta (puts both w a vs) (a + 8 * k) v) (sym d)
+      ∙ sym (puts-more both w a vs v ∙ (unfold both in refl))
 
   -- a turn of the loop that stores f 0, f 1, ..
-  pub puts-tab : (f : ℕ → ℕ) (v : ℕ) → v ≡ f i → writtenOcta (puts one w a (tab 0 i f)) at v ≡ puts one w a (tab 0 (i + 1) f)
+  pub puts-tab : (f : ℕ → ℕ) (v : ℕ) → v ≡ f i → writtenOcta (puts both w a (tab 0 i f)) at v ≡ puts both w a (tab 0 (i + 1) f)
   puts-tab f v q =
       puts-next (tab 0 i f) v (length-tab i 0 f)
-      ∙ ap (puts one w a) (ap (λ (x : ℕ). tab 0 i f ++ (x ∷ [])) q ∙ sym (tab-more i 0 f ∙ ap (λ (k : ℕ). tab 0 i f ++ (f k ∷ [])) (omega arith)) ∙ ap (λ (k : ℕ). tab 0 k f) (sym (add-one i)))
-
--- ---- a run written
-
-pub run-none : (w : Window) (a n : ℕ) (f : ℕ → ℕ) → n ≡ 0 → w ≡ writtenRun w a n f
-unfolding writtenRun
-run-none w a n f e = rw e refl
-
--- a turn of the loop that writes it: i counts from `from`, the address wraps
-pub run-more : (w u t : Window) (a from i at v : ℕ) (f : ℕ → ℕ) → from ≤ i → u ≡ writtenRun w a (i - from) f → at ≡ (a + 8 * (i - from)) % 2 ^ 64
-    → v ≡ f (i - from) → t ≡ writtenOcta u at v → t ≡ writtenRun w a (i + 1 - from) f
-unfolding writtenRun
-run-more w u t a from i at v f l eu ea ev et =
-    let count : i + 1 - from ≡ suc (i - from) = omega arith in
-    let same : at % 2 ^ 64 ≡ (a + 8 * (i - from)) % 2 ^ 64 = omega arith in
-    et ∙ written-mod u at (a + 8 * (i - from)) same v ∙ rw (eu, ev, count)
+      ∙ ap (puts both w a) (ap (λ (x : ℕ). tab 0 i f ++ (x ∷ [])) q ∙ sym (tab-more i 0 f ∙ ap (λ (k : ℕ). tab 0 i f ++ (f k ∷ [])) (omega arith)) ∙ ap (λ (k : ℕ). tab 0 k f) (sym (add-one i)))
 
 -- a run written after the first k octabytes of a list that passes, which are these: the first k + n
-module _ (w : Window) (o k m : ℕ) (f : ℕ → ℕ) (pass : worst (refusing (shapeOf w)) o m ≡ 0) (v : Window) (e : v ≡ puts one w o (tab 0 k f)) where
+module _ (w : Windows) (o k m : ℕ) (f : ℕ → ℕ) (pass : worst (refusing (shapesOf w)) o m ≡ 0) (v : Windows) (e : v ≡ puts both w o (tab 0 k f)) where
   pub puts-run : (a : ℕ) → a % 2 ^ 64 ≡ (o + 8 * k) % 2 ^ 64 → (g : ℕ → ℕ) (n : ℕ) → k + n ≤ m → ((i : ℕ) → i < n → g i ≡ f (k + i))
-      → writtenRun v a n g ≡ puts one w o (tab 0 (k + n) f)
-  unfolding writtenRun
-  puts-run a q g zero l h = e ∙ ap (λ (j : ℕ). puts one w o (tab 0 j f)) (omega arith)
+      → writtenRun v a n g ≡ puts both w o (tab 0 (k + n) f)
+  unfolding writtenRunBy
+  puts-run a q g zero l h = e ∙ ap (λ (j : ℕ). puts both w o (tab 0 j f)) (omega arith)
   puts-run a q g (suc n) l h =
       let last : ℕ = (o + 8 * (k + n)) % 2 ^ 64 in
       let same : (a + 8 * n) % 2 ^ 64 ≡ last % 2 ^ 64 = further o a k n q ∙ (omega arith) in
       let count : k + n + 1 ≡ k + suc n = omega arith in
-      ap (λ (u : Window). writtenOcta u (a + 8 * n) (g n)) (puts-run a q g n (omega arith) (λ i b. h i (omega arith)))
-      ∙ written-mod (puts one w o (tab 0 (k + n) f)) (a + 8 * n) last same (g n)
+      ap (λ (u : Windows). writtenOcta u (a + 8 * n) (g n)) (puts-run a q g n (omega arith) (λ i b. h i (omega arith)))
+      ∙ written-mod (puts both w o (tab 0 (k + n) f)) (a + 8 * n) last (g n) same
       ∙ puts-tab w o m pass (k + n) last (omega arith) refl f (g n) (h n (omega arith))
-      ∙ ap (λ (j : ℕ). puts one w o (tab 0 j f)) count
+      ∙ ap (λ (j : ℕ). puts both w o (tab 0 j f)) count

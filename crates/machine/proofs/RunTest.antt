@@ -1,23 +1,26 @@
--- Laws of the test of a run: distances; n octabytes from an address up lie in a window where its length reaches the end of the run, for a
--- window of any length below 2^64, and the first octabyte that does not fit is met before the distance wraps; addresses modulo 2^64.
--- What is read and written is in Octas.
-use mathlib.Core.Path.{_≡_, refl, _∙_}
-use mathlib.Core.Logic.{_⊎_, inl, inr, ⊎-elim}
-use mathlib.Core.Bool.{false}
-use Prim.Native.Nat.{ℕ, zero, suc, _+_, _-_, _*_, _%_, _^_, _≤_, _<_, max}
+-- Laws of rooms and pieces: distances; how many octabytes from an address up lie in a window, of any length below 2^64; which window holds
+-- them; and the test of a run over two windows, piece by piece. What is read and written is in Octas.
+use mathlib.Core.Path.{_≡_, refl, sym, ap, _∙_}
+use mathlib.Core.Logic.{_≢_, ⊎-elim}
+use mathlib.Core.Bool.{Bool, true, false, cond, _||_}
+use mathlib.Core.List.{List}
+use Prim.Native.Nat.{ℕ, zero, suc, _+_, _-_, _*_, _/_, _%_, _^_, _≤_, _<_}
 use native.Mathlib.Nat.{mod-eq-of-lt}
 use native.Mathlib.Omega.{arith}
 use lib.Dec.{eqb}
-use borrow.Author.Tests.{le-leb, lt-leb, eqb-true}
+use lib.ListN.{length}
+use borrow.Author.Tests.{le-leb, lt-leb, leb-false, ne-eqb}
 use Rattle.model.specs.Octa.{octa}
-use Rattle.model.specs.Memory.{Shape, offset, has}
+use Rattle.model.specs.Memory.{Shape, shapeOf, offset, has, Shapes, holder, inside}
 use Rattle.model.specs.Plan.{worst}
 use Rattle.model.specs.Step.{refusing}
 use Rattle.model.proofs.Fill.{flag, lt-or-le}
-use Rattle.model.proofs.Runs.{of-worst}
+use Rattle.model.proofs.Runs.{worst-of, of-worst}
 use Rattle.model.proofs.ArmAnswers.{worst-six}
 use Rattle.model.proofs.SaveUnsave.{refusing-mod}
 use Rattle.model.proofs.Reader.{offset-next}
+use Rattle.machine.specs.Octas.{lentOne, roomIn}
+use Rattle.machine.specs.Pieces.{PieceIs}
 
 -- ---- distances
 
@@ -40,57 +43,177 @@ offset-run (suc n) base a h =
     let r : offset base (a + 8 * n) ≡ offset base a + 8 * n = offset-run n base a (omega arith) in
     rw z (offset-next base (a + 8 * n) (omega arith) ∙ omega arith)
 
--- ---- a run of octabytes
+-- ---- the room from an address up in one window
 
-module _ (w : Shape) where
-  pub passes : (a : ℕ) → offset (w .from) a + 8 ≤ w .size → refusing w a ≡ 0
-  unfolding refusing has
-  passes a h = simp (le-leb _ _ h)
+pub room-past : (base : ℕ) (l : List ℕ) (x at : ℕ) → at ≡ offset base x → length l < at → 0 ≡ roomIn (shapeOf (lentOne base l)) x
+unfolding roomIn shapeOf
+room-past base l x at e h = omega arith
 
-  pub misses : (a : ℕ) → w .size < offset (w .from) a + 8 → refusing w a ≡ 6
-  unfolding refusing has
-  misses a h = simp (lt-leb _ _ h)
+pub room-is : (base : ℕ) (l : List ℕ) (x at : ℕ) → at ≡ offset base x → (length l - at) / 8 ≡ roomIn (shapeOf (lentOne base l)) x
+unfolding roomIn shapeOf
+room-is base l x at e = rw e
 
-  pub run-none : (a n : ℕ) → n ≡ 0 → worst (refusing w) a n ≡ 0
-  unfolding worst
-  run-none a n e = rw e
+module _ (w : Shape) (x : ℕ) where
+  -- there is none where the first octabyte lies outside
+  pub no-room : roomIn w x ≡ 0 → has w x ≡ false
+  unfolding roomIn has
+  no-room e = lt-leb (offset (w .from) x + 8) (w .size) (omega arith)
 
-  six : (r : ℕ) → (eqb r 0 ≡ false → r ≡ 6) → max 6 r ≡ 6
-  six r f = ⊎-elim (λ e. let z : r ≡ 0 = eqb-true r 0 e in omega arith) (λ e. let z : r ≡ 6 = f e in omega arith) (flag (eqb r 0))
+  pub has-room : (roomIn w x ≡ 0 → ⊥) → has w x ≡ true
+  unfolding roomIn has
+  has-room e = le-leb (offset (w .from) x + 8) (w .size) (omega arith)
 
   module _ (short : w .size < 2 ^ 64) where
-    pub run-fits : (a n : ℕ) → offset (w .from) a + 8 * n ≤ w .size → worst (refusing w) a n ≡ 0
-    run-fits a n h = of-worst (refusing w) n a (λ i l. passes (a + 8 * i) (omega (arith, offset-run i (w .from) a (omega arith))))
+    pub room-has : (i : ℕ) → i < roomIn w x → has w (x + 8 * i) ≡ true
+    unfolding roomIn has
+    room-has i l = le-leb _ _ (omega (arith, offset-run i (w .from) x (omega arith)))
 
-    pub run-lacks : (n a : ℕ) → 0 < n → w .size < offset (w .from) a + 8 * n → worst (refusing w) a n ≡ 6
-    unfolding worst
-    run-lacks zero a s h = absurd (omega arith)
-    run-lacks (suc n) a s h = go (lt-or-le (w .size) (offset (w .from) a + 8)) (run-lacks n (a + 8))
-      where
-        go : (w .size < offset (w .from) a + 8) ⊎ (offset (w .from) a + 8 ≤ w .size)
-            → (0 < n → w .size < offset (w .from) (a + 8) + 8 * n → worst (refusing w) (a + 8) n ≡ 6)
-            → max (refusing w a) (worst (refusing w) (a + 8) n) ≡ 6
-        go (inl out) rest = rw (misses a out) (six (worst (refusing w) (a + 8) n) (worst-six w n (a + 8)))
-        go (inr in-it) rest =
-            let e : offset (w .from) (a + 8) ≡ offset (w .from) a + 8 = offset-next (w .from) a (omega arith) in
-            let r : worst (refusing w) (a + 8) n ≡ 6 = rest (omega arith) (omega arith) in
-            let p : refusing w a ≡ 0 = passes a in-it in
-            omega arith
+    -- the first octabyte past it lies outside
+    pub room-ends : 0 < roomIn w x → has w (x + 8 * roomIn w x) ≡ false
+    unfolding roomIn has
+    room-ends l =
+        let k : ℕ = (w .size - offset (w .from) x) / 8 in
+        ⊎-elim
+        (λ lo. lt-leb _ _ (omega (arith, offset-run k (w .from) x lo)))
+        (λ hi. absurd (omega arith))
+        (lt-or-le (offset (w .from) x + 8 * k) (2 ^ 64))
 
-    -- where a run lies
-    pub run-end : (a n : ℕ) → 0 < n → worst (refusing w) a n ≡ 0 → offset (w .from) a + 8 * n ≤ w .size
-    run-end a n s e = ⊎-elim (λ out. let z : worst (refusing w) a n ≡ 6 = run-lacks n a s out in absurd (omega arith)) (λ h. h) (lt-or-le (w .size) (offset (w .from) a + 8 * n))
+    -- where a run ends all of which lies inside
+    pub run-end : (n : ℕ) → 0 < n → n ≤ roomIn w x → offset (w .from) x + 8 * n ≤ w .size
+    unfolding roomIn
+    run-end n s l = omega arith
+
+  -- what lies outside, up to where the distance wraps
+  pub stays-out : (i : ℕ) → has w x ≡ false → i ≤ (2 ^ 64 - 1 - offset (w .from) x) / 8 → has w (x + 8 * i) ≡ false
+  unfolding has
+  stays-out i h l =
+      let out : w .size < offset (w .from) x + 8 = leb-false _ _ h in
+      let near : offset (w .from) x < 2 ^ 64 = unfold offset in omega arith in
+      lt-leb _ _ (omega (arith, offset-run i (w .from) x (omega arith)))
+
+-- ---- which window holds an octabyte
+
+module _ (w : Shapes) (x : ℕ) where
+  pub held-b : has (w .b) x ≡ true → holder w x ≡ 1
+  unfolding holder
+  held-b h = rw h
+
+  pub held-a : has (w .b) x ≡ false → has (w .a) x ≡ true → holder w x ≡ 0
+  unfolding holder
+  held-a h k = rw (h, k)
+
+  pub held-none : has (w .b) x ≡ false → has (w .a) x ≡ false → holder w x ≡ 2
+  unfolding holder
+  held-none h k = rw (h, k)
+
+  -- and back
+  pub has-b : holder w x ≡ 1 → has (w .b) x ≡ true
+  unfolding holder
+  has-b = go (has (w .b) x) (has (w .a) x)
+    where
+      go : (t u : Bool) → _≡_ {A = ℕ} (cond t 1 (cond u 0 2)) 1 → t ≡ true
+      go true u e = refl
+      go false true e = absurd (omega arith)
+      go false false e = absurd (omega arith)
+
+  pub has-a : holder w x ≡ 0 → (has (w .b) x ≡ false) × (has (w .a) x ≡ true)
+  unfolding holder
+  has-a = go (has (w .b) x) (has (w .a) x)
+    where
+      go : (t u : Bool) → _≡_ {A = ℕ} (cond t 1 (cond u 0 2)) 0 → (t ≡ false) × (u ≡ true)
+      go true u e = absurd (omega arith)
+      go false true e = (refl, refl)
+      go false false e = absurd (omega arith)
+
+  pub has-none : holder w x ≢ 1 → holder w x ≢ 0 → (has (w .b) x ≡ false) × (has (w .a) x ≡ false)
+  unfolding holder
+  has-none = go (has (w .b) x) (has (w .a) x)
+    where
+      go : (t u : Bool) → (_≡_ {A = ℕ} (cond t 1 (cond u 0 2)) 1 → ⊥) → (_≡_ {A = ℕ} (cond t 1 (cond u 0 2)) 0 → ⊥) → (t ≡ false) × (u ≡ false)
+      go true u e f = absurd (e refl)
+      go false true e f = absurd (f refl)
+      go false false e f = (refl, refl)
+
+  pub held-inside : holder w x ≢ 2 → refusing w x ≡ 0
+  unfolding holder refusing inside
+  held-inside = go (has (w .b) x) (has (w .a) x)
+    where
+      go : (t u : Bool) → (_≡_ {A = ℕ} (cond t 1 (cond u 0 2)) 2 → ⊥) → _≡_ {A = ℕ} (cond (t || u) 0 6) 0
+      go true u e = refl
+      go false true e = refl
+      go false false e = absurd (e refl)
+
+  pub held-outside : holder w x ≡ 2 → refusing w x ≡ 6
+  unfolding holder refusing inside
+  held-outside = go (has (w .b) x) (has (w .a) x)
+    where
+      go : (t u : Bool) → _≡_ {A = ℕ} (cond t 1 (cond u 0 2)) 2 → _≡_ {A = ℕ} (cond (t || u) 0 6) 6
+      go true u e = absurd (omega arith)
+      go false true e = absurd (omega arith)
+      go false false e = refl
+
+-- ---- a piece
+
+module _ (w : Shapes) (x k : ℕ) where
+  pub piece-b : w .b .size < 2 ^ 64 → (k ≡ 0 → ⊥) → k ≡ roomIn (w .b) x → 8 * k < 2 ^ 64 → PieceIs w x 1 k
+  piece-b s n e h = record { held = λ i l. held-b w (x + 8 * i) (room-has (w .b) x s i (omega arith)); some = omega arith; short = h }
+
+  pub piece-a : w .a .size < 2 ^ 64 → roomIn (w .b) x ≡ 0 → 0 < k → k ≤ roomIn (w .a) x → k ≤ (2 ^ 64 - 1 - offset (w .b .from) x) / 8 + 1 → 8 * k < 2 ^ 64 → PieceIs w x 0 k
+  piece-a s n p e b h = record {
+    held = λ i l. held-a w (x + 8 * i) (stays-out (w .b) x i (no-room (w .b) x n) (omega arith)) (room-has (w .a) x s i (omega arith));
+    some = p;
+    short = h;
+  }
+
+pub piece-none : (w : Shapes) (x : ℕ) → roomIn (w .b) x ≡ 0 → roomIn (w .a) x ≡ 0 → PieceIs w x 2 1
+piece-none w x n m = record {
+  held = λ i l. let z : x + 8 * i ≡ x = omega arith in rw z (held-none w x (no-room (w .b) x n) (no-room (w .a) x m));
+  some = omega arith;
+  short = omega arith;
+}
+
+-- ---- a run of octabytes
 
 -- a run of one
-pub run-one : (w : Shape) (a : ℕ) → worst (refusing w) a 1 ≡ refusing w a
+pub run-one : (w : Shapes) (a : ℕ) → worst (refusing w) a 1 ≡ refusing w a
 unfolding worst
 run-one w a = omega arith
 
--- ---- addresses modulo 2^64
-
-pub worst-mod : (w : Shape) (n a b : ℕ) → a % 2 ^ 64 ≡ b % 2 ^ 64 → worst (refusing w) a n ≡ worst (refusing w) b n
+worst-least : (w : Shapes) (n x i : ℕ) → i < n → refusing w (x + 8 * i) ≤ worst (refusing w) x n
 unfolding worst
-worst-mod w zero a b e = refl
-worst-mod w (suc n) a b e =
-    let next : (a + 8) % 2 ^ 64 ≡ (b + 8) % 2 ^ 64 = omega arith in
-    rw (refusing-mod w a b e, worst-mod w n (a + 8) (b + 8) next)
+worst-least w zero x i l = absurd (omega arith)
+worst-least w (suc n) x zero l = let z : x + 8 * 0 ≡ x = omega arith in rw z (omega arith)
+worst-least w (suc n) x (suc i) l =
+    let z : x + 8 * suc i ≡ x + 8 + 8 * i = omega arith in
+    let r : refusing w (x + 8 + 8 * i) ≤ worst (refusing w) (x + 8) n = worst-least w n (x + 8) i (omega arith) in
+    rw z (omega arith)
+
+module _ (w : Shapes) (x : ℕ) where
+  abbrev Passed : ℕ → Type 0
+  Passed i = worst (refusing w) x i ≡ 0
+
+  -- a further piece, or its first octabytes
+  pub more : (i k p : ℕ) → Passed i → p ≡ (x + 8 * i) % 2 ^ 64 → ((l : ℕ) → l < k → refusing w (p + 8 * l) ≡ 0) → Passed (i + k)
+  more i k p e q f = of-worst (refusing w) (i + k) x (λ l h. ⊎-elim (λ lo. worst-of (refusing w) i x l e lo) (λ hi. far l hi h) (lt-or-le l i))
+    where
+      far : (l : ℕ) → i ≤ l → l < i + k → refusing w (x + 8 * l) ≡ 0
+      far l a b = refusing-mod w (x + 8 * l) (p + 8 * (l - i)) (omega arith) ∙ f (l - i) (omega arith)
+
+  -- none
+  pub lacks : (i n p k : ℕ) → i < n → p ≡ (x + 8 * i) % 2 ^ 64 → PieceIs w p 2 k → worst (refusing w) x n ≡ 6
+  lacks i n p k l q h =
+      let z : p + 8 * 0 ≡ p = omega arith in
+      let here : refusing w p ≡ 6 = held-outside w p (ap (holder w) (sym z) ∙ h .held 0 (h .some)) in
+      let at : refusing w (x + 8 * i) ≡ 6 = refusing-mod w (x + 8 * i) p (omega arith) ∙ here in
+      worst-six w n x (lacking n (omega (arith, worst-least w n x i l, at)))
+    where
+      lacking : (n : ℕ) → 6 ≤ worst (refusing w) x n → eqb (worst (refusing w) x n) 0 ≡ false
+      lacking n b = ne-eqb _ _ (omega arith)
+
+  pub passes : (i k n p h : ℕ) → Passed i → p ≡ (x + 8 * i) % 2 ^ 64 → PieceIs w p h k → h ≢ 2 → n ≤ k → Passed (i + n)
+  passes i k n p h e q z m b = more i n p e q (λ l o. held-inside w (p + 8 * l) (λ two. m (sym (z .held l (omega arith)) ∙ two)))
+
+  pub enough : (i k n p h : ℕ) → Passed i → p ≡ (x + 8 * i) % 2 ^ 64 → PieceIs w p h k → h ≢ 2 → n ≤ i + k → i ≤ n → worst (refusing w) x n ≡ 0
+  enough i k n p h e q z m l o =
+      let c : i + (n - i) ≡ n = omega arith in
+      rw c at (passes i k (n - i) p h e q z m (omega arith))

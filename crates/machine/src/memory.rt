@@ -1,113 +1,275 @@
-// The octabytes of a lent window (memory.rs). Distances from the base wrap at 2^64, so a window may cross the end of memory.
+// The octabytes of the two lent windows, A and B, as one memory: an octabyte is B's where B holds it, else A's. A run of octabytes goes
+// piece by piece, each in one window.
 ghost use mathlib.Core.Path.{_≡_};
-ghost use Prim.Native.Nat.{ℕ, _+_, _-_, _*_};
+ghost use Prim.Native.Nat.{ℕ, _+_, _-_, _*_, _<_, _≤_};
+ghost use mathlib.Core.Bool.{_&&_};
+ghost use lib.Dec.{ltb};
+ghost use lib.ListN.{length, getD};
 ghost use Rattle.model.specs.Fill.{over};
-ghost use Rattle.model.specs.Memory.{shapeOf, ruled, offset};
+ghost use Rattle.model.specs.Memory.{shapeOf, has, shapesOf, holder, shares};
 ghost use Rattle.model.specs.Plan.{worst};
-ghost use Rattle.model.specs.Step.{refusing};
+ghost use Rattle.model.specs.Step.{unruledBy, refusing};
 ghost use Rattle.model.specs.Parts.{lent};
-ghost use Rattle.machine.specs.Octas.{readOcta, writtenOcta, writtenRange};
+ghost use Rattle.machine.specs.Octas.{lentOne, readOcta, writtenOcta, writtenRun, writtenRange};
+ghost use Rattle.machine.specs.Pieces.{PieceIs};
+use model::Bases;
+use model::Octabyte;
 
-/// The longest window, in bytes.
-pub const WINDOW_MAX: usize = 65536;
+/// Octabytes from an address up that one window holds: which window, 0 for A, 1 for B, and how many. One octabyte that neither holds: 2.
+struct Piece {
+    holder: u64,
+    octas: u64,
+}
 
-/// Whether length and base obey the window's rule.
-pub fn is_ruled(window: &[u8], base: u64) -> bool
-    ensures { λ r. ⌜ r ≡ ruled (shapeOf (lent base (now (window .entry)))) ⌝ }
+/// Whether the first octabyte of the window `other`, which starts at `from`, lies in a window. An empty one has none.
+fn starts_in(window: &[u8], base: u64, other: &[u8], from: u64) -> bool
+    ensures { λ r. ⌜ r ≡ (ltb 0 (length (now (other .entry))) && has (shapeOf (lentOne base (now (window .entry)))) from) ⌝ }
 {
-    let len = window.len();
-    if base % 8 != 0 {
+    if other.len() == 0 {
         return false;
     }
-    if len % 8 != 0 {
+    if super::window::room(window, base, from) == 0 {
         return false;
     }
-    if len <= WINDOW_MAX {
+    true
+}
+
+/// Whether the two windows share an octabyte.
+fn is_shared(a: &[u8], b: &[u8], at: Bases) -> bool
+    ensures { λ r. ⌜ r ≡ shares (shapesOf (lent at (now (a .entry)) (now (b .entry)))) ⌝ }
+{
+    if starts_in(a, at.a, b, at.b) {
         return true;
     }
-    false
+    starts_in(b, at.b, a, at.a)
 }
 
-/// The distance from the base to the octabyte that `addr` names.
-pub fn distance(base: u64, addr: u64) -> u64
-    ensures { λ r. ⌜ r ≡ offset base addr ⌝ }
+/// The number that refuses the windows: 2 where one breaks its rule, 22 where they share an octabyte, else 0.
+pub fn windows_refusal(a: &[u8], b: &[u8], at: Bases) -> u64
+    ensures { λ r. ⌜ r ≡ unruledBy (shapesOf (lent at (now (a .entry)) (now (b .entry)))) ⌝ }
 {
-    super::number::wrapping_sub(addr - addr % 8, base)
+    if !super::window::is_ruled(a, at.a) {
+        return 2;
+    }
+    if !super::window::is_ruled(b, at.b) {
+        return 2;
+    }
+    if is_shared(a, b, at) {
+        return 22;
+    }
+    0
 }
 
-/// The number that refuses the n octabytes from `addr` up: 0 where all lie in the window, else 6.
-pub fn run_refusal(window: &[u8], base: u64, addr: u64, n: u64) -> u64
-    ensures { λ r. ⌜ r ≡ worst (refusing (shapeOf (lent base (now (window .entry))))) addr n ⌝ }
+/// Which window holds the octabyte that `addr` names: 0 for A, 1 for B, 2 for neither.
+fn holder_of(a: &[u8], b: &[u8], at: Bases, addr: u64) -> u64
+    ensures { λ r. ⌜ r ≡ holder (shapesOf (lent at (now (a .entry)) (now (b .entry)))) addr ⌝ }
 {
-    if n == 0 {
+    if super::window::room(b, at.b, addr) != 0 {
+        return 1;
+    }
+    if super::window::room(a, at.a, addr) != 0 {
         return 0;
     }
-    let at = distance(base, addr);
-    let len = window.len() as u64;
-    if len < at {
-        return 6;
+    2
+}
+
+/// The piece from `addr` up. One in A ends before B's base comes.
+fn next_piece(a: &[u8], b: &[u8], at: Bases, addr: u64) -> Piece
+    ensures { λ r. ⌜ PieceIs (shapesOf (lent at (now (a .entry)) (now (b .entry)))) addr (r .holder) (r .octas) ⌝ }
+{
+    let in_b = super::window::room(b, at.b, addr);
+    if in_b != 0 {
+        return Piece {
+            holder: 1,
+            octas: in_b,
+        };
     }
-    if (len - at) / 8 < n {
-        return 6;
+    let in_a = super::window::room(a, at.a, addr);
+    if in_a == 0 {
+        return Piece {
+            holder: 2,
+            octas: 1,
+        };
+    }
+    let before_b = (0xFFFF_FFFF_FFFF_FFFF - super::window::distance(at.b, addr)) / 8 + 1;
+    Piece {
+        holder: 0,
+        octas: super::number::least(in_a, before_b),
+    }
+}
+
+/// The number that refuses the n octabytes from `addr` up: 0 where each lies in a window, else 6.
+pub fn run_refusal(a: &[u8], b: &[u8], at: Bases, addr: u64, n: u64) -> u64
+    ensures { λ r. ⌜ r ≡ worst (refusing (shapesOf (lent at (now (a .entry)) (now (b .entry))))) addr n ⌝ }
+{
+    let mut i: u64 = 0;
+    let mut place = addr;
+    while i < n {
+        let next = next_piece(a, b, at, place);
+        if next.holder == 2 {
+            return 6;
+        }
+        if n - i <= next.octas {
+            return 0;
+        }
+        i += next.octas;
+        place = super::number::wrapping_add(place, 8 * next.octas);
     }
     0
 }
 
-/// The octabyte that `addr` names, or 0 where it lies outside the window.
-pub fn read_octa(window: &[u8], base: u64, addr: u64) -> u64
-    ensures { λ r. ⌜ r ≡ readOcta (lent base (now (window .entry))) addr ⌝ }
+/// The octabyte that `addr` names, 0 where neither window holds it, and which does.
+pub fn read_octa(a: &[u8], b: &[u8], at: Bases, addr: u64) -> Octabyte
+    ensures { λ r. ⌜ (r .value ≡ readOcta (lent at (now (a .entry)) (now (b .entry))) addr)
+        × (r .holder ≡ holder (shapesOf (lent at (now (a .entry)) (now (b .entry)))) addr) ⌝ }
 {
-    if run_refusal(window, base, addr, 1) == 0 {
-        let at = distance(base, addr) as usize;
-        return super::octabytes::load(window, at);
+    let holder = holder_of(a, b, at, addr);
+    if holder == 1 {
+        let v = super::window::read_octa(b, at.b, addr);
+        return Octabyte {
+            value: v,
+            holder: holder,
+        };
     }
-    0
+    if holder == 0 {
+        let v = super::window::read_octa(a, at.a, addr);
+        return Octabyte {
+            value: v,
+            holder: holder,
+        };
+    }
+    Octabyte {
+        value: 0,
+        holder: holder,
+    }
 }
 
-/// The octabyte that `addr` names becomes v; a window that does not hold it is left as it was.
-pub fn write_octa(window: &mut [u8], base: u64, addr: u64, v: u64)
-    ensures { λ _. ⌜ lent base (now (window .exit)) ≡ writtenOcta (lent base (now (window .entry))) addr v ⌝ }
+/// The octabyte that `addr` names becomes v, and which window holds it; where neither does nothing changes.
+pub fn write_octa(a: &mut [u8], b: &mut [u8], at: Bases, addr: u64, v: u64) -> u64
+    ensures { λ r. ⌜ (lent at (now (a .exit)) (now (b .exit)) ≡ writtenOcta (lent at (now (a .entry)) (now (b .entry))) addr v)
+        × (r ≡ holder (shapesOf (lent at (now (a .entry)) (now (b .entry)))) addr) ⌝ }
 {
-    if run_refusal(window, base, addr, 1) == 0 {
-        let at = distance(base, addr) as usize;
-        super::octabytes::store(window, at, v);
+    let holder = holder_of(a, b, at, addr);
+    if holder == 1 {
+        super::window::write_octa(b, at.b, addr, v);
+        return holder;
     }
+    if holder == 0 {
+        super::window::write_octa(a, at.a, addr, v);
+        return holder;
+    }
+    holder
+}
+
+/// Where a piece of k octabytes that starts with register `from` ends, at most `to`.
+fn end_of(k: u64, from: u64, to: u64) -> u64
+    requires { ⌜ (from < to) × (0 < k) ⌝ }
+    ensures { λ r. ⌜ (r ≤ from + k) × (from < r) × (r ≤ to) ⌝ }
+{
+    if to - from <= k {
+        return to;
+    }
+    from + k
+}
+
+/// The registers from `from` up become the octabytes of the piece from `addr` up, at most to `to`; how far. The octabyte that neither window
+/// holds is 0.
+fn load_piece(
+    general: &mut [u64; 256],
+    a: &[u8],
+    b: &[u8],
+    at: Bases,
+    addr: u64,
+    from: u64,
+    to: u64,
+) -> u64
+    requires { ⌜ (from < to) × (to ≤ 256) ⌝ }
+    ensures { λ r. ⌜ (now (general .exit)
+        ≡ over (λ (k : ℕ). readOcta (lent at (now (a .entry)) (now (b .entry))) (addr + 8 * (k - from))) from r (now (general .entry)))
+        × (from < r) × (r ≤ to) ⌝ }
+{
+    let next = next_piece(a, b, at, addr);
+    let end = end_of(next.octas, from, to);
+    if next.holder == 1 {
+        super::window::load_range(general, b, at.b, addr, from, end);
+        return end;
+    }
+    if next.holder == 0 {
+        super::window::load_range(general, a, at.a, addr, from, end);
+        return end;
+    }
+    super::registers::clear_range(general, from, end);
+    end
 }
 
 /// The general registers from `from` up to, not including, `to` become the octabytes from `addr` up; there are 256, whatever `to` says.
-pub fn load_range(general: &mut [u64; 256], window: &[u8], base: u64, addr: u64, from: u64, to: u64)
-    ensures { λ _. ⌜ now (general .exit)
-        ≡ over (λ (k : ℕ). readOcta (lent base (now (window .entry))) (addr + 8 * (k - from))) from to (now (general .entry)) ⌝ }
-{
-    super::registers::of_256(*general);
-    let end = super::number::least(to, 256);
-    let mut i = from;
-    while i < end {
-        let place = super::number::wrapping_add(addr, 8 * (i - from));
-        let v = read_octa(window, base, place);
-        general[i as usize] = v;
-        i += 1;
-    }
-}
-
-/// They go to the octabytes from `addr` up; those outside the window go nowhere.
-pub fn store_range(
-    general: &[u64; 256],
-    window: &mut [u8],
-    base: u64,
+pub fn load_range(
+    general: &mut [u64; 256],
+    a: &[u8],
+    b: &[u8],
+    at: Bases,
     addr: u64,
     from: u64,
     to: u64,
 )
-    ensures { λ _. ⌜ lent base (now (window .exit)) ≡ writtenRange (lent base (now (window .entry))) addr from to (now (general .entry)) ⌝ }
+    ensures { λ _. ⌜ now (general .exit)
+        ≡ over (λ (k : ℕ). readOcta (lent at (now (a .entry)) (now (b .entry))) (addr + 8 * (k - from))) from to (now (general .entry)) ⌝ }
 {
     super::registers::of_256(*general);
     let end = super::number::least(to, 256);
     let mut i = from;
     while i < end {
         let place = super::number::wrapping_add(addr, 8 * (i - from));
-        let v = general[i as usize];
-        write_octa(window, base, place, v);
-        i += 1;
+        i = load_piece(general, a, b, at, place, i, end);
+    }
+}
+
+/// The registers from `from` up go to the octabytes of the piece from `addr` up, at most to `to`; how far.
+fn store_piece(
+    general: &[u64; 256],
+    a: &mut [u8],
+    b: &mut [u8],
+    at: Bases,
+    addr: u64,
+    from: u64,
+    to: u64,
+) -> u64
+    requires { ⌜ (from < to) × (to ≤ 256) ⌝ }
+    ensures { λ r. ⌜ (lent at (now (a .exit)) (now (b .exit))
+        ≡ writtenRun (lent at (now (a .entry)) (now (b .entry))) addr (r - from) (λ (i : ℕ). getD (now (general .entry)) (from + i) 0))
+        × (from < r) × (r ≤ to) ⌝ }
+{
+    let next = next_piece(a, b, at, addr);
+    let end = end_of(next.octas, from, to);
+    if next.holder == 1 {
+        super::window::store_range(general, b, at.b, addr, from, end);
+        return end;
+    }
+    if next.holder == 0 {
+        super::window::store_range(general, a, at.a, addr, from, end);
+        return end;
+    }
+    end
+}
+
+/// They go to the octabytes from `addr` up; those in neither window go nowhere.
+pub fn store_range(
+    general: &[u64; 256],
+    a: &mut [u8],
+    b: &mut [u8],
+    at: Bases,
+    addr: u64,
+    from: u64,
+    to: u64,
+)
+    ensures { λ _. ⌜ lent at (now (a .exit)) (now (b .exit))
+        ≡ writtenRange (lent at (now (a .entry)) (now (b .entry))) addr from to (now (general .entry)) ⌝ }
+{
+    super::registers::of_256(*general);
+    let end = super::number::least(to, 256);
+    let mut i = from;
+    while i < end {
+        let place = super::number::wrapping_add(addr, 8 * (i - from));
+        i = store_piece(general, a, b, at, place, i, end);
     }
 }

@@ -1,6 +1,6 @@
 -- Laws of tests and of numbers compared by tests, where lib.Dec and borrow.Author.Tests have none.
-use mathlib.Core.Path.{_≡_, refl, sym}
-use mathlib.Core.Bool.{Bool, true, false, cond, _&&_, _||_}
+use mathlib.Core.Path.{_≡_, refl, sym, _∙_}
+use mathlib.Core.Bool.{Bool, true, false, cond, not, _&&_, _||_}
 use Prim.Native.Nat.{ℕ, zero, suc, _<_}
 use native.Mathlib.Omega.{arith}
 use native.Mathlib.Decide.{ℕ-discrete}
@@ -24,6 +24,15 @@ pub or-right : (a b : Bool) → (a || b) ≡ false → b ≡ false
 or-right false b e = e
 or-right true true e = e
 or-right true false e = refl
+
+-- a judgement t, which code has as b and branches on as `!b`
+pub denied : (b t : Bool) → b ≡ t → not b ≡ true → t ≡ false
+denied true t e h = sym e ∙ sym h
+denied false t e h = sym e
+
+pub granted : (b t : Bool) → b ≡ t → not b ≡ false → t ≡ true
+granted true t e h = sym e
+granted false t e h = sym e ∙ sym h
 
 pub eqb-swap : (a b : ℕ) → eqb a b ≡ false → eqb b a ≡ false
 eqb-swap a b e = ne-eqb b a (λ q. eqb-false a b e (sym q))

@@ -1,4 +1,4 @@
-//! What MMIX is: the state of the machine, the reply of a step, which field reaches an address, what a whole-number operation takes and gives.
+//! What MMIX is: the state of the machine, the reply of a step, the lent windows' bases, which field reaches an address, what a whole-number operation takes and gives.
 //! specs/ defines the rest.
 
 ghost use mathlib.Core.Path.{_≡_};
@@ -53,6 +53,12 @@ pub enum Reply {
     Shared,
     // The reader's alone: a context that lies across both windows.
     Across,
+}
+
+/// An octabyte that was read, and which window holds it: 0 for A, 1 for B, 2 for neither.
+pub struct Octabyte {
+    pub value: u64,
+    pub holder: u64,
 }
 
 /// Which field of an instruction reaches an address: its direction and its value.

@@ -1,74 +1,57 @@
--- `load_range` meets its contract. The loop's invariant: the registers below i are loaded; those past the 256th are none.
-use mathlib.Core.Path.{_≡_, ap, sym, _∙_}
-use Prim.Native.Nat.{ℕ, _+_, _-_, _*_, _≤_, max}
-use native.Mathlib.Omega.{arith}
-use borrow.Author.Needs.{needs}
-use Rattle.model.specs.Fill.{over}
-use Rattle.model.specs.Parts.{lent}
-use Rattle.model.proofs.Fill.{over-none, over-end}
-use Rattle.machine.specs.Octas.{readOcta}
-use Rattle.machine.proofs.Octas.{read-wraps}
-use Rattle.machine.proofs.RegisterRanges.{over-next, over-cut}
 use Rattle.machine.proofs.memory.load_range.Statement.{statement}
 use Rattle.machine.proofs.memory.load_range.Tie as tie
+use Rattle.machine.proofs.memory.load_range.Reads as reads
+use Rattle.machine.proofs.memory.load_range.Lts as lts
+use Rattle.machine.proofs.memory.load_piece.Reads as load-piece-reads
+use Rattle.machine.proofs.number.least.Reads as least-reads
+use Rattle.machine.proofs.number.wrapping_add.Reads as wrapping-add-reads
+use Rattle.machine.proofs.registers.of_256.Reads as of-256-reads
 
 abbrev Inv-loop : tie.InvT-loop
-Inv-loop general₀ window base addr from to end i₀ general i =
-    (general ≡ over (λ (k : ℕ). readOcta (lent base window) (addr + 8 * (k - from))) from i general₀) × (from ≤ i) × (i ≤ max from end)
+Inv-loop general₀ a b at addr from to end i₀ general i = ?
 
 abbrev μ-loop : tie.MeasureT-loop
-μ-loop general₀ window base addr from to end i₀ general i = end - i
+μ-loop general₀ a b at addr from to end i₀ general i = ?
 
+-- src/memory.rt:210:5
 of-256-requires : tie.Need-of-256-requires Inv-loop μ-loop
-of-256-requires c κs = search needs
+of-256-requires c κs = ?
 
+-- src/memory.rt:211:9
 least-requires : tie.Need-least-requires Inv-loop μ-loop
-least-requires c κs = search needs
+least-requires c κs = ?
 
+-- src/memory.rt:213:5
 loop-holds : tie.Need-loop-holds Inv-loop μ-loop
-loop-holds c = (sym (over-none _ _ _ _ (omega arith)), omega arith, omega arith)
+loop-holds c = ?
 
+-- src/memory.rt:214:60
 sub-wrapping-add : tie.Need-sub-wrapping-add Inv-loop μ-loop
-sub-wrapping-add c = omega arith
+sub-wrapping-add c = ?
 
+-- src/memory.rt:214:55
 mul-wrapping-add : tie.Need-mul-wrapping-add Inv-loop μ-loop
-mul-wrapping-add c = omega arith
+mul-wrapping-add c = ?
 
+-- src/memory.rt:214:13
 wrapping-add-requires : tie.Need-wrapping-add-requires Inv-loop μ-loop
-wrapping-add-requires c κs = search needs
+wrapping-add-requires c κs = ?
 
-read-octa-requires : tie.Need-read-octa-requires Inv-loop μ-loop
-read-octa-requires c κs = search needs
+-- src/memory.rt:215:9
+load-piece-requires : tie.Need-load-piece-requires Inv-loop μ-loop
+load-piece-requires c κs = ?
 
-mul-general : tie.Need-mul-general Inv-loop μ-loop
-mul-general c = omega arith
-
-element-write-general : tie.Need-element-write-general Inv-loop μ-loop
-element-write-general c = omega arith
-
-add-i : tie.Need-add-i Inv-loop μ-loop
-add-i c = omega arith
-
+-- src/memory.rt:213:5
 loop-less : tie.Need-loop-less Inv-loop μ-loop
-loop-less c = omega arith
+loop-less c = ?
 
+-- src/memory.rt:213:5
 loop-again : tie.Need-loop-again Inv-loop μ-loop
-loop-again c =
-    let at-loop = c .before .before .before in
-    let a = at-loop .before .before .before .before .before .args in
-    let w = lent (a .base) (a .window .now) in
-    let f : ℕ → ℕ = λ k. readOcta w (a .addr + 8 * (k - a .from)) in
-    let value : c .read-octa .result ≡ f (at-loop .loop .i) = c .read-octa .ensures ∙ ap (readOcta w) (c .before .wrapping-add .ensures) ∙ read-wraps w _ in
-    (rw (at-loop .loop .inv .0) (over-next f _ _ _ _ (omega arith) value), omega arith, omega arith)
+loop-again c = ?
 
+-- src/memory.rt:198:1
 returns : tie.Need-returns Inv-loop μ-loop
-returns c =
-    let a = c .before .before .before .before .before .before .args in
-    let f : ℕ → ℕ = λ k. readOcta (lent (a .base) (a .window .now)) (a .addr + 8 * (k - a .from)) in
-    c .before .loop .inv .0
-    ∙ over-end _ _ _ _ _ (omega arith) (omega arith) (omega arith)
-    ∙ ap (λ (n : ℕ). over f (a .from) n (a .general .now)) (c .before .before .least .ensures)
-    ∙ over-cut f (a .from) (a .to) 256 (a .general .now) (omega arith)
+returns c = ?
 
 pub load-range-spec : {M : Type 1} → statement M
 load-range-spec =
@@ -82,10 +65,7 @@ load-range-spec =
     sub-wrapping-add
     mul-wrapping-add
     wrapping-add-requires
-    read-octa-requires
-    mul-general
-    element-write-general
-    add-i
+    load-piece-requires
     loop-less
     loop-again
     returns)

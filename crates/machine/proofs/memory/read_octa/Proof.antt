@@ -1,32 +1,42 @@
--- `read_octa` meets its contract: a run of one that passes is the octabyte itself, and one that does not leaves 0.
-use mathlib.Core.Path.{ap, sym, _∙_}
-use Prim.Native.Nat.{ℕ}
-use native.Mathlib.Omega.{arith}
 use borrow.Author.Needs.{needs}
-use Rattle.model.specs.Octa.{part, valueOf}
-use Rattle.machine.proofs.Octas.{one-fits, read-one, read-none}
 use Rattle.machine.proofs.memory.read_octa.Statement.{statement}
 use Rattle.machine.proofs.memory.read_octa.Tie as tie
+use Rattle.machine.proofs.memory.read_octa.Reads as reads
+use Rattle.machine.proofs.memory.read_octa.Lts as lts
+use Rattle.machine.proofs.memory.holder_of.Reads as holder-of-reads
+use Rattle.machine.proofs.window.read_octa.Reads as read-octa-reads
 
-run-refusal-requires : tie.Need-run-refusal-requires
-run-refusal-requires c κs = search needs
+-- src/memory.rt:118:9
+holder-of-requires : tie.Need-holder-of-requires
+holder-of-requires c κs = search needs
 
-distance-requires : tie.Need-distance-requires
-distance-requires c κs = search needs
+-- src/memory.rt:120:13
+read-octa-requires : tie.Need-read-octa-requires
+read-octa-requires c κs = search needs
 
-load-requires : tie.Need-load-requires
-load-requires c κs =
-    omega (arith, c .distance .ensures, one-fits _ _ _ (sym (c .before .before .run-refusal .ensures) ∙ c .before .if1 .taken))
-
+-- src/memory.rt:121:9
 returns : tie.Need-returns
-returns c =
-    c .load .ensures
-    ∙ ap (λ (n : ℕ). valueOf 0 (part (c .before .before .before .before .before .args .window .now) n 8)) (c .before .distance .ensures)
-    ∙ sym (read-one _ _ _ (sym (c .before .before .before .run-refusal .ensures) ∙ c .before .before .if1 .taken))
+returns c = ?
 
+-- src/memory.rt:127:13
+read-octa-requires-2 : tie.Need-read-octa-requires-2
+read-octa-requires-2 c κs = search needs
+
+-- src/memory.rt:128:9
 returns-2 : tie.Need-returns-2
-returns-2 c = sym (read-none _ _ _ (λ e. c .if1 .left (c .before .run-refusal .ensures ∙ e)))
+returns-2 c = ?
+
+-- src/memory.rt:114:1
+returns-3 : tie.Need-returns-3
+returns-3 c = ?
 
 pub read-octa-spec : {M : Type 1} → statement M
 read-octa-spec =
-    tie.close (tie.spec run-refusal-requires distance-requires load-requires returns returns-2)
+    tie.close
+    (tie.spec
+    holder-of-requires
+    read-octa-requires
+    returns
+    read-octa-requires-2
+    returns-2
+    returns-3)

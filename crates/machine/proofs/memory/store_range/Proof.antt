@@ -1,79 +1,65 @@
--- `store_range` meets its contract. The loop's invariant: the registers below i are written; those past the 256th are none.
-use mathlib.Core.Path.{_≡_, refl, ap, _∙_}
-use Prim.Native.Nat.{ℕ, _+_, _-_, _≤_, max}
-use native.Mathlib.Omega.{arith}
-use borrow.Author.Needs.{needs}
-use lib.ListN.{length, getD}
-use Rattle.model.specs.Parts.{lent}
-use Rattle.machine.specs.Octas.{writtenRun, writtenRange}
-use Rattle.machine.proofs.Octas.{written-length, run-none, run-more}
 use Rattle.machine.proofs.memory.store_range.Statement.{statement}
 use Rattle.machine.proofs.memory.store_range.Tie as tie
+use Rattle.machine.proofs.memory.store_range.Reads as reads
+use Rattle.machine.proofs.memory.store_range.Lts as lts
+use Rattle.machine.proofs.memory.store_piece.Reads as store-piece-reads
+use Rattle.machine.proofs.number.least.Reads as least-reads
+use Rattle.machine.proofs.number.wrapping_add.Reads as wrapping-add-reads
+use Rattle.machine.proofs.registers.of_256.Reads as of-256-reads
 
 abbrev Inv-loop : tie.InvT-loop
-Inv-loop general window₀ base addr from to end i₀ window i =
-    (lent base window ≡ writtenRun (lent base window₀) addr (i - from) (λ (k : ℕ). getD general (from + k) 0)) × (from ≤ i) × (i ≤ max from end)
-    × (length window ≡ length window₀)
+Inv-loop general a₀ b₀ at addr from to end i₀ a b i = ?
 
 abbrev μ-loop : tie.MeasureT-loop
-μ-loop general window₀ base addr from to end i₀ window i = end - i
+μ-loop general a₀ b₀ at addr from to end i₀ a b i = ?
 
+-- src/memory.rt:260:5
 of-256-requires : tie.Need-of-256-requires Inv-loop μ-loop
-of-256-requires c κs = search needs
+of-256-requires c κs = ?
 
+-- src/memory.rt:261:9
 least-requires : tie.Need-least-requires Inv-loop μ-loop
-least-requires c κs = search needs
+least-requires c κs = ?
 
+-- src/memory.rt:263:5
 loop-holds : tie.Need-loop-holds Inv-loop μ-loop
-loop-holds c = (run-none _ _ _ _ (omega arith), omega arith, omega arith, refl)
+loop-holds c = ?
 
+-- src/memory.rt:264:60
 sub-wrapping-add : tie.Need-sub-wrapping-add Inv-loop μ-loop
-sub-wrapping-add c = omega arith
+sub-wrapping-add c = ?
 
+-- src/memory.rt:264:55
 mul-wrapping-add : tie.Need-mul-wrapping-add Inv-loop μ-loop
-mul-wrapping-add c = omega arith
+mul-wrapping-add c = ?
 
+-- src/memory.rt:264:13
 wrapping-add-requires : tie.Need-wrapping-add-requires Inv-loop μ-loop
-wrapping-add-requires c κs = search needs
+wrapping-add-requires c κs = ?
 
-mul-v : tie.Need-mul-v Inv-loop μ-loop
-mul-v c = omega arith
+-- src/memory.rt:265:9
+store-piece-requires : tie.Need-store-piece-requires Inv-loop μ-loop
+store-piece-requires c κs = ?
 
-element-copy-out-v : tie.Need-element-copy-out-v Inv-loop μ-loop
-element-copy-out-v c = omega arith
-
-write-octa-requires : tie.Need-write-octa-requires Inv-loop μ-loop
-write-octa-requires c κs = search needs
-
-add-i : tie.Need-add-i Inv-loop μ-loop
-add-i c = omega arith
-
+-- src/memory.rt:263:5
 loop-less : tie.Need-loop-less Inv-loop μ-loop
-loop-less c = omega arith
+loop-less c = ?
 
+-- src/memory.rt:263:5
 loop-again : tie.Need-loop-again Inv-loop μ-loop
-loop-again c =
-    let at-loop = c .before .before .before .before .before .before .before in
-    let sum = c .before .before .before .before .before .wrapping-add in
-    let call = c .before .before .write-octa in
-    let start = at-loop .before .before .before .before .before in
-    let value : getD (start .args .general .now) (at-loop .loop .i) 0 ≡ getD (start .args .general .now) (start .args .from + (at-loop .loop .i - start .args .from)) 0
-    = ap (λ (k : ℕ). getD (start .args .general .now) k 0) (omega arith) in (
-      run-more _ _ _ _ _ _ _ _ _ (at-loop .loop .inv .1) (at-loop .loop .inv .0) (sum .ensures) value (call .ensures),
-      omega arith,
-      omega arith,
-      written-length _ _ _ _ _ (call .ensures) ∙ at-loop .loop .inv .3,
-    )
+loop-again c = ?
 
+-- src/memory.rt:248:1
 same-length : tie.Need-same-length Inv-loop μ-loop
-same-length c = c .before .loop .inv .3
+same-length c = ?
 
+-- src/memory.rt:248:1
+same-length-2 : tie.Need-same-length-2 Inv-loop μ-loop
+same-length-2 c = ?
+
+-- src/memory.rt:248:1
 returns : tie.Need-returns Inv-loop μ-loop
-unfolding writtenRange
-returns c =
-    let a = c .before .before .before .before .before .before .args in
-    c .before .loop .inv .0
-    ∙ ap (λ (n : ℕ). writtenRun (lent (a .base) (a .window .now)) (a .addr) n (λ (k : ℕ). getD (a .general .now) (a .from + k) 0)) (omega (arith, c .before .before .least .ensures))
+returns c = ?
 
 pub store-range-spec : {M : Type 1} → statement M
 store-range-spec =
@@ -87,11 +73,9 @@ store-range-spec =
     sub-wrapping-add
     mul-wrapping-add
     wrapping-add-requires
-    mul-v
-    element-copy-out-v
-    write-octa-requires
-    add-i
+    store-piece-requires
     loop-less
     loop-again
     same-length
+    same-length-2
     returns)

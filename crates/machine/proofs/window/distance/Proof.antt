@@ -2,8 +2,8 @@
 use native.Mathlib.Omega.{arith}
 use borrow.Author.Needs.{needs}
 use Rattle.machine.proofs.RunTest.{offset-of}
-use Rattle.machine.proofs.memory.distance.Statement.{statement}
-use Rattle.machine.proofs.memory.distance.Tie as tie
+use Rattle.machine.proofs.window.distance.Statement.{statement}
+use Rattle.machine.proofs.window.distance.Tie as tie
 
 sub-wrapping-sub : tie.Need-sub-wrapping-sub
 sub-wrapping-sub c = search needs

@@ -1,0 +1,113 @@
+// The octabytes of one lent window (memory.rs). Distances from the base wrap at 2^64, so a window may cross the end of memory.
+ghost use mathlib.Core.Path.{_≡_};
+ghost use Prim.Native.Nat.{ℕ, _+_, _-_, _*_, _^_, _<_};
+ghost use Rattle.model.specs.Fill.{over};
+ghost use Rattle.model.specs.Memory.{shapeOf, ruledOne, offset, one};
+ghost use Rattle.machine.specs.Octas.{lentOne, roomIn, readBy, writtenBy, writtenRangeBy};
+
+/// The longest window, in bytes.
+pub const WINDOW_MAX: usize = 65536;
+
+/// Whether length and base obey the window's rule.
+pub fn is_ruled(window: &[u8], base: u64) -> bool
+    ensures { λ r. ⌜ r ≡ ruledOne (shapeOf (lentOne base (now (window .entry)))) ⌝ }
+{
+    let len = window.len();
+    if base % 8 != 0 {
+        return false;
+    }
+    if len % 8 != 0 {
+        return false;
+    }
+    if len <= WINDOW_MAX {
+        return true;
+    }
+    false
+}
+
+/// The distance from the base to the octabyte that `addr` names.
+pub fn distance(base: u64, addr: u64) -> u64
+    ensures { λ r. ⌜ r ≡ offset base addr ⌝ }
+{
+    super::number::wrapping_sub(addr - addr % 8, base)
+}
+
+/// How many octabytes from `addr` up lie in the window.
+pub fn room(window: &[u8], base: u64, addr: u64) -> u64
+    ensures { λ r. ⌜ (r ≡ roomIn (shapeOf (lentOne base (now (window .entry)))) addr) × (8 * r < 2 ^ 64) ⌝ }
+{
+    let at = distance(base, addr);
+    let len = window.len() as u64;
+    if len < at {
+        return 0;
+    }
+    (len - at) / 8
+}
+
+/// The octabyte that `addr` names, or 0 where it lies outside the window.
+pub(crate) fn read_octa(window: &[u8], base: u64, addr: u64) -> u64
+    ensures { λ r. ⌜ r ≡ readBy one (lentOne base (now (window .entry))) addr ⌝ }
+{
+    if room(window, base, addr) == 0 {
+        return 0;
+    }
+    let at = distance(base, addr) as usize;
+    super::octabytes::load(window, at)
+}
+
+/// The octabyte that `addr` names becomes v; a window that does not hold it is left as it was.
+pub(crate) fn write_octa(window: &mut [u8], base: u64, addr: u64, v: u64)
+    ensures { λ _. ⌜ lentOne base (now (window .exit)) ≡ writtenBy one (lentOne base (now (window .entry))) addr v ⌝ }
+{
+    if room(window, base, addr) == 0 {
+        return;
+    }
+    let at = distance(base, addr) as usize;
+    super::octabytes::store(window, at, v);
+}
+
+/// The general registers from `from` up to, not including, `to` become the octabytes from `addr` up; there are 256, whatever `to` says.
+pub(crate) fn load_range(
+    general: &mut [u64; 256],
+    window: &[u8],
+    base: u64,
+    addr: u64,
+    from: u64,
+    to: u64,
+)
+    ensures { λ _. ⌜ now (general .exit)
+        ≡ over (λ (k : ℕ). readBy one (lentOne base (now (window .entry))) (addr + 8 * (k - from))) from to (now (general .entry)) ⌝ }
+{
+    super::registers::of_256(*general);
+    let end = super::number::least(to, 256);
+    let mut i = from;
+    while i < end {
+        let place = super::number::wrapping_add(addr, 8 * (i - from));
+        let v = read_octa(window, base, place);
+        general[i as usize] = v;
+        i += 1;
+    }
+}
+
+/// They go to the octabytes from `addr` up; those outside the window go nowhere.
+pub(crate) fn store_range(
+    general: &[u64; 256],
+    window: &mut [u8],
+    base: u64,
+    addr: u64,
+    from: u64,
+    to: u64,
+)
+    ensures { λ _. ⌜ lentOne base (now (window .exit))
+        ≡ writtenRangeBy one (lentOne base (now (window .entry))) addr from to (now (general .entry)) ⌝ }
+{
+    super::registers::of_256(*general);
+    let end = super::number::least(to, 256);
+    let mut i = from;
+    while i < end {
+        let place = super::number::wrapping_add(addr, 8 * (i - from));
+        let v = general[i as usize];
+        write_octa(window, base, place, v);
+        i += 1;
+    }
+}
