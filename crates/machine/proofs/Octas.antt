@@ -4,12 +4,12 @@ use mathlib.Core.Path.{_≡_, refl, sym, ap, _∙_}
 use mathlib.Core.Logic.{_≢_}
 use mathlib.Core.Bool.{Bool, true, false, cond}
 use mathlib.Core.List.{List, [], _∷_, _++_}
-use Prim.Native.Nat.{ℕ, zero, suc, _+_, _-_, _*_, _%_, _^_, _≤_, _<_}
+use Prim.Native.Nat.{ℕ, zero, suc, _+_, _-_, _*_, _%_, _^_, _≤_, _<_, min}
 use native.Mathlib.Numerals.{add-one}
 use native.Mathlib.Omega.{arith}
-use lib.ListN.{length}
+use lib.ListN.{length, getD}
 use borrow.Author.Tests.{leb-true}
-use Rattle.model.specs.Fill.{tab}
+use Rattle.model.specs.Fill.{over, tab}
 use Rattle.model.specs.Octa.{octa, part, written, valueOf, bytesOf}
 use Rattle.model.specs.Memory.{Store, Window, Shape, shapeOf, offset, has, octaBytes, writeOcta, one, Windows, Shapes, shapesOf, holder, inside, octaAt, putOcta, both}
 use Rattle.model.specs.Plan.{worst, look, puts}
@@ -21,7 +21,9 @@ use Rattle.model.proofs.Plan.{puts-shape, puts-more}
 use Rattle.model.proofs.Entry.{judged-inside}
 use Rattle.model.proofs.SaveUnsave.{further}
 use Rattle.model.proofs.Runs.{octa-mod, worst-of, length-tab, look-mod}
-use Rattle.machine.specs.Octas.{readBy, writtenBy, writtenRunBy, readOcta, writtenOcta, writtenRun, lentOne, roomIn}
+use Rattle.machine.specs.Octas.{readBy, writtenBy, writtenRunBy, writtenRangeBy, readOcta, writtenOcta, writtenRun, lentOne, roomIn}
+use Rattle.machine.specs.Pieces.{PieceIs}
+use Rattle.machine.proofs.RegisterRanges.{over-alike}
 use Rattle.machine.proofs.RunTest.{has-room, no-room, has-b, has-a, has-none}
 
 -- ---- any memory
@@ -90,7 +92,7 @@ module _ {M Sh : Type 0} (st : Store M Sh) where
       pub run-joined : (k : ℕ) (m : M) (a n at : ℕ) (f g : ℕ → ℕ) → at % 2 ^ 64 ≡ (a + 8 * n) % 2 ^ 64 → ((i : ℕ) → i < k → g i ≡ f (n + i))
           → writtenRunBy st (writtenRunBy st m a n f) at k g ≡ writtenRunBy st m a (n + k) f
       unfolding writtenRunBy
-      run-joined zero m a n at f g e h = ap (λ (j : ℕ). writtenRunBy st m a j f) (omega arith)
+      run-joined zero m a n at f g e h = let z : n ≡ n + 0 = omega arith in ap (λ (j : ℕ). writtenRunBy st m a j f) z
       run-joined (suc k) m a n at f g e h =
           let same : (at + 8 * k) % 2 ^ 64 ≡ (a + 8 * (n + k)) % 2 ^ 64 = further a at n k e in
           let count : suc (n + k) ≡ n + suc k = omega arith in
@@ -176,6 +178,23 @@ module _ (m : Windows) (x : ℕ) where
   unfolding writtenBy both inside shapesOf
   write-none v h k = rw (h, k)
 
+-- the same by the holder
+pub in-b : (m : Windows) (x : ℕ) → holder (shapesOf m) x ≡ 1 → has (shapeOf (m .b)) x ≡ true
+unfolding shapesOf
+in-b m x e = has-b (shapesOf m) x e
+
+pub in-a : (m : Windows) (x : ℕ) → holder (shapesOf m) x ≡ 0 → (has (shapeOf (m .b)) x ≡ false) × (has (shapeOf (m .a)) x ≡ true)
+unfolding shapesOf
+in-a m x e = has-a (shapesOf m) x e
+
+pub in-none : (m : Windows) (x h : ℕ) → holder (shapesOf m) x ≡ h → h ≢ 1 → h ≢ 0 → (has (shapeOf (m .b)) x ≡ false) × (has (shapeOf (m .a)) x ≡ false)
+unfolding shapesOf
+in-none m x h e p q = has-none (shapesOf m) x (λ t. p (sym e ∙ t)) (λ t. q (sym e ∙ t))
+
+one-run-shape : (n : ℕ) (w : Window) (a : ℕ) (f : ℕ → ℕ) → shapeOf (writtenRunBy one w a n f) ≡ shapeOf w
+unfolding one
+one-run-shape n w a f = run-shape one one-lawful n w a f
+
 -- a run that one window holds
 module _ (m : Windows) (x : ℕ) (f : ℕ → ℕ) where
   abbrev Held : ℕ → ℕ → Type 0
@@ -186,8 +205,9 @@ module _ (m : Windows) (x : ℕ) (f : ℕ → ℕ) where
   run-b zero h = refl
   run-b (suc n) h =
       let u : Window = writtenRunBy one (m .b) x n f in
-      let t : has (shapeOf u) (x + 8 * n) ≡ true
-      = ap (λ (s : Shape). has s (x + 8 * n)) (unfold one in (run-shape one one-lawful n (m .b) x f)) ∙ (unfold shapesOf in (has-b (shapesOf m) (x + 8 * n) (h n (omega arith)))) in
+      let q : shapeOf u ≡ shapeOf (m .b) = one-run-shape n (m .b) x f in
+      let b : has (shapeOf (m .b)) (x + 8 * n) ≡ true = in-b m (x + 8 * n) (h n (omega arith)) in
+      let t : has (shapeOf u) (x + 8 * n) ≡ true = ap (λ (s : Shape). has s (x + 8 * n)) q ∙ b in
       write-b (record { a = m .a; b = u }) (x + 8 * n) (f n) t ∙ ap (λ (v : Windows). writtenOcta v (x + 8 * n) (f n)) (run-b n (λ i l. h i (omega arith)))
 
   pub run-a : (n : ℕ) → Held 0 n → record { a = writtenRunBy one (m .a) x n f; b = m .b } ≡ writtenRun m x n f
@@ -195,20 +215,66 @@ module _ (m : Windows) (x : ℕ) (f : ℕ → ℕ) where
   run-a zero h = refl
   run-a (suc n) h =
       let u : Window = writtenRunBy one (m .a) x n f in
-      let p : (has (shapeOf (m .b)) (x + 8 * n) ≡ false) × (has (shapeOf (m .a)) (x + 8 * n) ≡ true) = unfold shapesOf in (has-a (shapesOf m) (x + 8 * n) (h n (omega arith))) in
-      let t : has (shapeOf u) (x + 8 * n) ≡ true = ap (λ (s : Shape). has s (x + 8 * n)) (unfold one in (run-shape one one-lawful n (m .a) x f)) ∙ p .1 in
+      let q : shapeOf u ≡ shapeOf (m .a) = one-run-shape n (m .a) x f in
+      let p : (has (shapeOf (m .b)) (x + 8 * n) ≡ false) × (has (shapeOf (m .a)) (x + 8 * n) ≡ true) = in-a m (x + 8 * n) (h n (omega arith)) in
+      let t : has (shapeOf u) (x + 8 * n) ≡ true = ap (λ (s : Shape). has s (x + 8 * n)) q ∙ p .1 in
       write-a (record { a = u; b = m .b }) (x + 8 * n) (f n) (p .0) t ∙ ap (λ (v : Windows). writtenOcta v (x + 8 * n) (f n)) (run-a n (λ i l. h i (omega arith)))
 
-  -- one octabyte that neither does
-  pub run-lost : (n h : ℕ) → h ≢ 1 → h ≢ 0 → n ≤ 1 → Held h n → m ≡ writtenRun m x n f
+  pub run-lost : (n h : ℕ) → h ≢ 1 → h ≢ 0 → Held h n → m ≡ writtenRun m x n f
   unfolding writtenRunBy
-  run-lost zero h p q l g = refl
-  run-lost (suc n) h p q l g =
-      let none : n ≡ 0 = omega arith in
-      let e : holder (shapesOf m) (x + 8 * n) ≡ h = g n (omega arith) in
-      let r : (has (shapeOf (m .b)) (x + 8 * n) ≡ false) × (has (shapeOf (m .a)) (x + 8 * n) ≡ false)
-      = unfold shapesOf in (has-none (shapesOf m) (x + 8 * n) (λ t. p (sym e ∙ t)) (λ t. q (sym e ∙ t))) in
-      write-none m (x + 8 * n) (f n) (r .0) (r .1) ∙ ap (λ (u : Windows). writtenOcta u (x + 8 * n) (f n)) (run-none both m x n f none)
+  run-lost zero h p q g = refl
+  run-lost (suc n) h p q g =
+      let r : (has (shapeOf (m .b)) (x + 8 * n) ≡ false) × (has (shapeOf (m .a)) (x + 8 * n) ≡ false) = in-none m (x + 8 * n) h (g n (omega arith)) p q in
+      write-none m (x + 8 * n) (f n) (r .0) (r .1) ∙ ap (λ (u : Windows). writtenOcta u (x + 8 * n) (f n)) (run-lost n h p q (λ i l. g i (omega arith)))
+
+-- what code writes in the window that holds the octabyte
+module _ (m : Windows) (x v : ℕ) where
+  pub write-in-b : (w : Window) → w ≡ writtenBy one (m .b) x v → holder (shapesOf m) x ≡ 1 → record { a = m .a; b = w } ≡ writtenOcta m x v
+  write-in-b w e h = ap (λ (u : Window). record { a = m .a; b = u }) e ∙ write-b m x v (in-b m x h)
+
+  pub write-in-a : (w : Window) → w ≡ writtenBy one (m .a) x v → holder (shapesOf m) x ≡ 0 → record { a = w; b = m .b } ≡ writtenOcta m x v
+  write-in-a w e h = ap (λ (u : Window). record { a = u; b = m .b }) e ∙ write-a m x v (in-a m x h .0) (in-a m x h .1)
+
+-- a piece as code loads and stores it, `end` at most its end
+module _ (m : Windows) (x from end h octas : ℕ) (g : List ℕ) (piece : PieceIs (shapesOf m) x h octas) (short : end ≤ from + octas) where
+  abbrev reads : ℕ → ℕ
+  reads k = readOcta m (x + 8 * (k - from))
+
+  held-at : (k : ℕ) → from ≤ k → k < end → holder (shapesOf m) (x + 8 * (k - from)) ≡ h
+  held-at k a b = piece .held (k - from) (omega arith)
+
+  pub load-b : h ≡ 1 → over (λ (k : ℕ). readBy one (m .b) (x + 8 * (k - from))) from end g ≡ over reads from end g
+  load-b e = over-alike (λ k. readBy one (m .b) (x + 8 * (k - from))) reads from end g (λ k a b. read-b m (x + 8 * (k - from)) (in-b m (x + 8 * (k - from)) (held-at k a b ∙ e)))
+
+  pub load-a : h ≡ 0 → over (λ (k : ℕ). readBy one (m .a) (x + 8 * (k - from))) from end g ≡ over reads from end g
+  load-a e =
+      over-alike (λ k. readBy one (m .a) (x + 8 * (k - from))) reads from end g
+      (λ k a b. let p = in-a m (x + 8 * (k - from)) (held-at k a b ∙ e) in read-a m (x + 8 * (k - from)) (p .0) (p .1))
+
+  pub load-lost : h ≢ 1 → h ≢ 0 → over (λ (k : ℕ). 0) from end g ≡ over reads from end g
+  load-lost p q =
+      over-alike (λ k. 0) reads from end g
+      (λ k a b. let r = in-none m (x + 8 * (k - from)) h (held-at k a b) p q in sym (read-none m (x + 8 * (k - from)) (r .0) (r .1)))
+
+  abbrev stores : ℕ → ℕ
+  stores i = getD g (from + i) 0
+
+  held-run : (i : ℕ) → i < end - from → holder (shapesOf m) (x + 8 * i) ≡ h
+  held-run i l = piece .held i (omega arith)
+
+  module _ (most : end ≤ 256) where
+    one-range : (w u : Window) → u ≡ writtenRangeBy one w x from end g → u ≡ writtenRunBy one w x (end - from) stores
+    unfolding writtenRangeBy
+    one-range w u e = let n : min end 256 ≡ end = omega arith in rw n at e
+
+    pub store-b : h ≡ 1 → (w : Window) → w ≡ writtenRangeBy one (m .b) x from end g → record { a = m .a; b = w } ≡ writtenRun m x (end - from) stores
+    store-b e w z = ap (λ (u : Window). record { a = m .a; b = u }) (one-range (m .b) w z) ∙ run-b m x stores (end - from) (λ i l. held-run i l ∙ e)
+
+    pub store-a : h ≡ 0 → (w : Window) → w ≡ writtenRangeBy one (m .a) x from end g → record { a = w; b = m .b } ≡ writtenRun m x (end - from) stores
+    store-a e w z = ap (λ (u : Window). record { a = u; b = m .b }) (one-range (m .a) w z) ∙ run-a m x stores (end - from) (λ i l. held-run i l ∙ e)
+
+  pub store-lost : h ≢ 1 → h ≢ 0 → m ≡ writtenRun m x (end - from) stores
+  store-lost p q = run-lost m x stores (end - from) h p q held-run
 
 -- addresses modulo 2^64
 pub read-mod : (m : Windows) (a b : ℕ) → a % 2 ^ 64 ≡ b % 2 ^ 64 → readOcta m a ≡ readOcta m b
@@ -220,6 +286,27 @@ written-mod = written-at both both-lawful put-octa
 pub run-more : (m u t : Windows) (a from i at v : ℕ) (f : ℕ → ℕ) → from ≤ i → u ≡ writtenRun m a (i - from) f → at ≡ (a + 8 * (i - from)) % 2 ^ 64
     → v ≡ f (i - from) → t ≡ writtenOcta u at v → t ≡ writtenRun m a (i + 1 - from) f
 run-more = run-turn both both-lawful put-octa
+
+-- register k in a loop that reads it from a further piece, which starts with register i
+pub alike-at : (m : Windows) (a at from i k : ℕ) → from ≤ i → i ≤ k → at % 2 ^ 64 ≡ (a + 8 * (i - from)) % 2 ^ 64
+    → readOcta m (at + 8 * (k - i)) ≡ readOcta m (a + 8 * (k - from))
+alike-at m a at from i k p q e =
+    let n : i - from + (k - i) ≡ k - from = omega arith in
+    let same : (at + 8 * (k - i)) % 2 ^ 64 ≡ (a + 8 * (k - from)) % 2 ^ 64 = further a at (i - from) (k - i) e ∙ ap (λ (j : ℕ). (a + 8 * j) % 2 ^ 64) n in
+    read-mod m (at + 8 * (k - i)) (a + 8 * (k - from)) same
+
+-- a turn of a loop that writes the registers of l from `from` up, piece by piece: those from i up to r follow
+pub run-further : (m u t : Windows) (a at from i r : ℕ) (l : List ℕ) → from ≤ i → i ≤ r → at % 2 ^ 64 ≡ (a + 8 * (i - from)) % 2 ^ 64
+    → u ≡ writtenRun m a (i - from) (λ (k : ℕ). getD l (from + k) 0) → t ≡ writtenRun u at (r - i) (λ (k : ℕ). getD l (i + k) 0)
+    → t ≡ writtenRun m a (r - from) (λ (k : ℕ). getD l (from + k) 0)
+run-further m u t a at from i r l p q e eu et =
+    let f : ℕ → ℕ = λ k. getD l (from + k) 0 in
+    let g : ℕ → ℕ = λ k. getD l (i + k) 0 in
+    let count : i - from + (r - i) ≡ r - from = omega arith in
+    let first : t ≡ writtenRun (writtenRun m a (i - from) f) at (r - i) g = et ∙ ap (λ (w : Windows). writtenRun w at (r - i) g) eu in
+    let joined : writtenRun (writtenRun m a (i - from) f) at (r - i) g ≡ writtenRun m a (i - from + (r - i)) f
+    = run-joined both both-lawful put-octa (r - i) m a (i - from) at f g e (λ j b. let z : i + j ≡ from + (i - from + j) = omega arith in ap (λ (k : ℕ). getD l k 0) z) in
+    first ∙ joined ∙ ap (λ (n : ℕ). writtenRun m a n f) count
 
 -- what a write leaves of the lengths
 module _ (at : Bases) (k l k' l' : List ℕ) where

@@ -11,7 +11,7 @@ use lib.Dec.{eqb}
 use lib.ListN.{length}
 use borrow.Author.Tests.{le-leb, lt-leb, leb-false, ne-eqb}
 use Rattle.model.specs.Octa.{octa}
-use Rattle.model.specs.Memory.{Shape, shapeOf, offset, has, Shapes, holder, inside}
+use Rattle.model.specs.Memory.{Shape, shapeOf, offset, has, Shapes, holder, inside, ruledOne, ruled}
 use Rattle.model.specs.Plan.{worst}
 use Rattle.model.specs.Step.{refusing}
 use Rattle.model.proofs.Fill.{flag, lt-or-le}
@@ -35,6 +35,10 @@ offset-of base a r h l e =
     let low : a - a % 8 ≡ octa a = low-bits a l in
     let whole : base % 2 ^ 64 ≡ base = mod-eq-of-lt h in
     e ∙ rw (low, whole)
+
+offset-near : (base a : ℕ) → offset base a < 2 ^ 64
+unfolding offset
+offset-near base a = omega arith
 
 offset-run : (n base a : ℕ) → offset base a + 8 * n < 2 ^ 64 → offset base (a + 8 * n) ≡ offset base a + 8 * n
 offset-run zero base a h = let z : a + 8 * 0 ≡ a = omega arith in rw z (omega arith)
@@ -66,7 +70,7 @@ module _ (w : Shape) (x : ℕ) where
   module _ (short : w .size < 2 ^ 64) where
     pub room-has : (i : ℕ) → i < roomIn w x → has w (x + 8 * i) ≡ true
     unfolding roomIn has
-    room-has i l = le-leb _ _ (omega (arith, offset-run i (w .from) x (omega arith)))
+    room-has i l = le-leb (offset (w .from) (x + 8 * i) + 8) (w .size) (omega (arith, offset-run i (w .from) x (omega arith)))
 
     -- the first octabyte past it lies outside
     pub room-ends : 0 < roomIn w x → has w (x + 8 * roomIn w x) ≡ false
@@ -74,7 +78,7 @@ module _ (w : Shape) (x : ℕ) where
     room-ends l =
         let k : ℕ = (w .size - offset (w .from) x) / 8 in
         ⊎-elim
-        (λ lo. lt-leb _ _ (omega (arith, offset-run k (w .from) x lo)))
+        (λ lo. lt-leb (offset (w .from) (x + 8 * k) + 8) (w .size) (omega (arith, offset-run k (w .from) x lo)))
         (λ hi. absurd (omega arith))
         (lt-or-le (offset (w .from) x + 8 * k) (2 ^ 64))
 
@@ -88,8 +92,8 @@ module _ (w : Shape) (x : ℕ) where
   unfolding has
   stays-out i h l =
       let out : w .size < offset (w .from) x + 8 = leb-false _ _ h in
-      let near : offset (w .from) x < 2 ^ 64 = unfold offset in omega arith in
-      lt-leb _ _ (omega (arith, offset-run i (w .from) x (omega arith)))
+      let near : offset (w .from) x < 2 ^ 64 = offset-near (w .from) x in
+      lt-leb (offset (w .from) (x + 8 * i) + 8) (w .size) (omega (arith, offset-run i (w .from) x (omega arith)))
 
 -- ---- which window holds an octabyte
 
@@ -200,15 +204,15 @@ module _ (w : Shapes) (x : ℕ) where
       far l a b = refusing-mod w (x + 8 * l) (p + 8 * (l - i)) (omega arith) ∙ f (l - i) (omega arith)
 
   -- none
-  pub lacks : (i n p k : ℕ) → i < n → p ≡ (x + 8 * i) % 2 ^ 64 → PieceIs w p 2 k → worst (refusing w) x n ≡ 6
-  lacks i n p k l q h =
-      let z : p + 8 * 0 ≡ p = omega arith in
-      let here : refusing w p ≡ 6 = held-outside w p (ap (holder w) (sym z) ∙ h .held 0 (h .some)) in
+  pub lacks : (i n p k h : ℕ) → i < n → p ≡ (x + 8 * i) % 2 ^ 64 → PieceIs w p h k → h ≡ 2 → worst (refusing w) x n ≡ 6
+  lacks i n p k h l q z two =
+      let first : p ≡ p + 8 * 0 = omega arith in
+      let here : refusing w p ≡ 6 = held-outside w p (ap (holder w) first ∙ z .held 0 (z .some) ∙ two) in
       let at : refusing w (x + 8 * i) ≡ 6 = refusing-mod w (x + 8 * i) p (omega arith) ∙ here in
       worst-six w n x (lacking n (omega (arith, worst-least w n x i l, at)))
     where
       lacking : (n : ℕ) → 6 ≤ worst (refusing w) x n → eqb (worst (refusing w) x n) 0 ≡ false
-      lacking n b = ne-eqb _ _ (omega arith)
+      lacking n b = ne-eqb (worst (refusing w) x n) 0 (omega arith)
 
   pub passes : (i k n p h : ℕ) → Passed i → p ≡ (x + 8 * i) % 2 ^ 64 → PieceIs w p h k → h ≢ 2 → n ≤ k → Passed (i + n)
   passes i k n p h e q z m b = more i n p e q (λ l o. held-inside w (p + 8 * l) (λ two. m (sym (z .held l (omega arith)) ∙ two)))
@@ -217,3 +221,18 @@ module _ (w : Shapes) (x : ℕ) where
   enough i k n p h e q z m l o =
       let c : i + (n - i) ≡ n = omega arith in
       rw c at (passes i k (n - i) p h e q z m (omega arith))
+
+-- ---- 2 of either window
+
+module _ (w : Shapes) where
+  pub first-unruled : ruledOne (w .a) ≡ false → ruled w ≡ false
+  unfolding ruled
+  first-unruled e = rw e
+
+  pub second-unruled : ruledOne (w .a) ≡ true → ruledOne (w .b) ≡ false → ruled w ≡ false
+  unfolding ruled
+  second-unruled e f = rw (e, f)
+
+  pub both-ruled : ruledOne (w .a) ≡ true → ruledOne (w .b) ≡ true → ruled w ≡ true
+  unfolding ruled
+  both-ruled e f = rw (e, f)

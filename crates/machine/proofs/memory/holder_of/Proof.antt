@@ -18,12 +18,12 @@ room-requires-2 c κs = search needs
 
 returns-2 : tie.Need-returns-2
 unfolding shapesOf
-returns-2 c = 
+returns-2 c =
     sym (held-a _ _ (no-room _ _ (sym (c .before .before .before .room .ensures .0) ∙ c .before .before .if1 .left)) (has-room _ _ (λ z. c .if2 .taken (c .before .room2 .ensures .0 ∙ z))))
 
 returns-3 : tie.Need-returns-3
 unfolding shapesOf
-returns-3 c = 
+returns-3 c =
     sym (held-none _ _ (no-room _ _ (sym (c .before .before .before .room .ensures .0) ∙ c .before .before .if1 .left)) (no-room _ _ (sym (c .before .room2 .ensures .0) ∙ c .if2 .left)))
 
 pub holder-of-spec : {M : Type 1} → statement M

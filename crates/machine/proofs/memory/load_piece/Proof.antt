@@ -1,44 +1,49 @@
+-- `load_piece` meets its contract: each octabyte of a piece is the one window's, or neither's.
+use mathlib.Core.Path.{_∙_}
+use Rattle.model.specs.Parts.{lent}
+use Rattle.machine.proofs.Octas.{load-a, load-b, load-lost}
 use borrow.Author.Needs.{needs}
 use Rattle.machine.proofs.memory.load_piece.Statement.{statement}
 use Rattle.machine.proofs.memory.load_piece.Tie as tie
-use Rattle.machine.proofs.memory.load_piece.Reads as reads
-use Rattle.machine.proofs.memory.load_piece.Lts as lts
-use Rattle.machine.proofs.memory.end_of.Reads as end-of-reads
-use Rattle.machine.proofs.memory.next_piece.Reads as next-piece-reads
-use Rattle.machine.proofs.registers.clear_range.Reads as clear-range-reads
-use Rattle.machine.proofs.window.load_range.Reads as load-range-reads
 
--- src/memory.rt:183:9
 next-piece-requires : tie.Need-next-piece-requires
 next-piece-requires c κs = search needs
 
--- src/memory.rt:184:9
 end-of-requires : tie.Need-end-of-requires
 end-of-requires c κs = search needs
 
--- src/memory.rt:186:9
 load-range-requires : tie.Need-load-range-requires
 load-range-requires c κs = search needs
 
--- src/memory.rt:187:9
 returns : tie.Need-returns
-returns c = ?
+returns c =
+    let known = c .before .before .before in
+    let ends = known .before in
+    let piece = ends .before in
+    let a = piece .before .before .before .args in
+    (c .load-range .ensures ∙ load-b (lent (a .at) (a .a .now) (a .b .now)) (a .addr) (a .from) _ _ _ (a .general .now) (piece .next-piece .ensures) (ends .end-of .ensures .0) (c .before .before .if1 .taken), ends .end-of .ensures .1, ends .end-of .ensures .2)
 
--- src/memory.rt:190:9
 load-range-requires-2 : tie.Need-load-range-requires-2
 load-range-requires-2 c κs = search needs
 
--- src/memory.rt:191:9
 returns-2 : tie.Need-returns-2
-returns-2 c = ?
+returns-2 c =
+    let left = c .before .before .before .before in
+    let ends = left .before .before in
+    let piece = ends .before in
+    let a = piece .before .before .before .args in
+    (c .load-range2 .ensures ∙ load-a (lent (a .at) (a .a .now) (a .b .now)) (a .addr) (a .from) _ _ _ (a .general .now) (piece .next-piece .ensures) (ends .end-of .ensures .0) (c .before .before .if2 .taken), ends .end-of .ensures .1, ends .end-of .ensures .2)
 
--- src/memory.rt:193:5
 clear-range-requires : tie.Need-clear-range-requires
 clear-range-requires c κs = search needs
 
--- src/memory.rt:169:1
 returns-3 : tie.Need-returns-3
-returns-3 c = ?
+returns-3 c =
+    let left = c .before .before .before .before in
+    let ends = left .before .before in
+    let piece = ends .before in
+    let a = piece .before .before .before .args in
+    (c .clear-range .ensures ∙ load-lost (lent (a .at) (a .a .now) (a .b .now)) (a .addr) (a .from) _ _ _ (a .general .now) (piece .next-piece .ensures) (ends .end-of .ensures .0) (left .if1 .left) (c .before .before .if2 .left), ends .end-of .ensures .1, ends .end-of .ensures .2)
 
 pub load-piece-spec : {M : Type 1} → statement M
 load-piece-spec =

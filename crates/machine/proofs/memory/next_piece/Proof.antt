@@ -20,7 +20,7 @@ room-requires-2 c κs = search needs
 
 returns-2 : tie.Need-returns-2
 unfolding shapesOf
-returns-2 c = 
+returns-2 c =
     piece-none _ _ (sym (c .before .before .before .room .ensures .0) ∙ c .before .before .if1 .left) (sym (c .before .room2 .ensures .0) ∙ c .if2 .taken)
 
 distance-requires : tie.Need-distance-requires
@@ -37,7 +37,7 @@ least-requires c κs = search needs
 
 returns-3 : tie.Need-returns-3
 unfolding shapesOf shapeOf
-returns-3 c = 
+returns-3 c =
     let in-a = c .before .before .before in
     let shorter : 8 * c .least .result < 2 ^ 64 = omega (arith, c .least .ensures, in-a .room2 .ensures .1) in
     piece-a _ _ _ (omega arith) (sym (in-a .before .before .room .ensures .0) ∙ in-a .before .if1 .left) (omega (arith, c .least .ensures))

@@ -1,34 +1,42 @@
+-- `read_octa` meets its contract: the octabyte of the window that holds it.
+use mathlib.Core.Path.{sym, _∙_}
+use Rattle.model.specs.Parts.{lent}
+use Rattle.machine.proofs.Octas.{in-a, in-b, in-none, read-a, read-b, read-none}
 use borrow.Author.Needs.{needs}
 use Rattle.machine.proofs.memory.read_octa.Statement.{statement}
 use Rattle.machine.proofs.memory.read_octa.Tie as tie
-use Rattle.machine.proofs.memory.read_octa.Reads as reads
-use Rattle.machine.proofs.memory.read_octa.Lts as lts
-use Rattle.machine.proofs.memory.holder_of.Reads as holder-of-reads
-use Rattle.machine.proofs.window.read_octa.Reads as read-octa-reads
 
--- src/memory.rt:118:9
 holder-of-requires : tie.Need-holder-of-requires
 holder-of-requires c κs = search needs
 
--- src/memory.rt:120:13
 read-octa-requires : tie.Need-read-octa-requires
 read-octa-requires c κs = search needs
 
--- src/memory.rt:121:9
 returns : tie.Need-returns
-returns c = ?
+returns c =
+    let holds = c .before .before in
+    let a = holds .before .before .before .args in
+    let m = lent (a .at) (a .a .now) (a .b .now) in
+    (c .read-octa .ensures ∙ read-b m (a .addr) (in-b m (a .addr) (sym (holds .holder-of .ensures) ∙ c .before .if1 .taken)), holds .holder-of .ensures)
 
--- src/memory.rt:127:13
 read-octa-requires-2 : tie.Need-read-octa-requires-2
 read-octa-requires-2 c κs = search needs
 
--- src/memory.rt:128:9
 returns-2 : tie.Need-returns-2
-returns-2 c = ?
+returns-2 c =
+    let holds = c .before .before .before in
+    let a = holds .before .before .before .args in
+    let m = lent (a .at) (a .a .now) (a .b .now) in
+    let p = in-a m (a .addr) (sym (holds .holder-of .ensures) ∙ c .before .if2 .taken) in
+    (c .read-octa2 .ensures ∙ read-a m (a .addr) (p .0) (p .1), holds .holder-of .ensures)
 
--- src/memory.rt:114:1
 returns-3 : tie.Need-returns-3
-returns-3 c = ?
+returns-3 c =
+    let holds = c .before .before in
+    let a = holds .before .before .before .args in
+    let m = lent (a .at) (a .a .now) (a .b .now) in
+    let p = in-none m (a .addr) _ (sym (holds .holder-of .ensures)) (c .before .if1 .left) (c .if2 .left) in
+    (sym (read-none m (a .addr) (p .0) (p .1)), holds .holder-of .ensures)
 
 pub read-octa-spec : {M : Type 1} → statement M
 read-octa-spec =

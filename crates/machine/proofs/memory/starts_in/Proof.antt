@@ -1,25 +1,28 @@
+-- `starts_in` meets its contract: each answer is its tests'.
+use mathlib.Core.Path.{sym, _∙_}
+use native.Mathlib.Omega.{arith}
+use lib.ListN.{length}
+use borrow.Author.Tests.{lt-ltb}
+use Rattle.machine.proofs.RunTest.{no-room, has-room}
 use borrow.Author.Needs.{needs}
 use Rattle.machine.proofs.memory.starts_in.Statement.{statement}
 use Rattle.machine.proofs.memory.starts_in.Tie as tie
-use Rattle.machine.proofs.memory.starts_in.Reads as reads
-use Rattle.machine.proofs.memory.starts_in.Lts as lts
-use Rattle.machine.proofs.window.room.Reads as room-reads
 
--- src/memory.rt:29:9
 returns : tie.Need-returns
-returns c = ?
+returns c = rw (c .if1 .taken)
 
--- src/memory.rt:31:8
 room-requires : tie.Need-room-requires
 room-requires c κs = search needs
 
--- src/memory.rt:32:9
 returns-2 : tie.Need-returns-2
-returns-2 c = ?
+returns-2 c =
+    let none = no-room _ _ (sym (c .before .room .ensures .0) ∙ c .if2 .taken) in
+    rw (lt-ltb 0 (length (c .before .before .before .before .before .args .other .now)) (omega arith), none)
 
--- src/memory.rt:25:1
 returns-3 : tie.Need-returns-3
-returns-3 c = ?
+returns-3 c =
+    let some = has-room _ _ (λ z. c .if2 .left (c .before .room .ensures .0 ∙ z)) in
+    rw (lt-ltb 0 (length (c .before .before .before .before .before .args .other .now)) (omega arith), some)
 
 pub starts-in-spec : {M : Type 1} → statement M
 starts-in-spec = tie.close (tie.spec returns room-requires returns-2 returns-3)

@@ -1,63 +1,66 @@
+-- `store_piece` meets its contract: each octabyte of a piece is the one window's, or neither's.
+use native.Mathlib.Omega.{arith}
+use Rattle.model.specs.Parts.{lent}
+use Rattle.machine.proofs.Octas.{store-a, store-b, store-lost}
 use borrow.Author.Needs.{needs}
 use Rattle.machine.proofs.memory.store_piece.Statement.{statement}
 use Rattle.machine.proofs.memory.store_piece.Tie as tie
-use Rattle.machine.proofs.memory.store_piece.Reads as reads
-use Rattle.machine.proofs.memory.store_piece.Lts as lts
-use Rattle.machine.proofs.memory.end_of.Reads as end-of-reads
-use Rattle.machine.proofs.memory.next_piece.Reads as next-piece-reads
-use Rattle.machine.proofs.window.store_range.Reads as store-range-reads
 
--- src/memory.rt:234:9
 next-piece-requires : tie.Need-next-piece-requires
 next-piece-requires c κs = search needs
 
--- src/memory.rt:235:9
 end-of-requires : tie.Need-end-of-requires
 end-of-requires c κs = search needs
 
--- src/memory.rt:237:9
 store-range-requires : tie.Need-store-range-requires
 store-range-requires c κs = search needs
 
--- src/memory.rt:238:9
 same-length : tie.Need-same-length
 same-length c = search needs
 
--- src/memory.rt:238:9
 same-length-2 : tie.Need-same-length-2
 same-length-2 c = search needs
 
--- src/memory.rt:238:9
 returns : tie.Need-returns
-returns c = ?
+returns c =
+    let taken = c .before .before .before .before in
+    let ends = taken .before .before in
+    let piece = ends .before in
+    let start = piece .before .before .before .before .before in
+    let a = start .args in
+    (store-b (lent (a .at) (a .a .now) (a .b .now)) (a .addr) (a .from) _ _ _ (a .general .now) (piece .next-piece .ensures) (ends .end-of .ensures .0) (omega (arith, ends .end-of .ensures .2, start .pre .1)) (taken .if1 .taken) _ (c .before .before .store-range .ensures), ends .end-of .ensures .1, ends .end-of .ensures .2)
 
--- src/memory.rt:241:9
 store-range-requires-2 : tie.Need-store-range-requires-2
 store-range-requires-2 c κs = search needs
 
--- src/memory.rt:242:9
 same-length-3 : tie.Need-same-length-3
 same-length-3 c = search needs
 
--- src/memory.rt:242:9
 same-length-4 : tie.Need-same-length-4
 same-length-4 c = search needs
 
--- src/memory.rt:242:9
 returns-2 : tie.Need-returns-2
-returns-2 c = ?
+returns-2 c =
+    let taken = c .before .before .before .before in
+    let ends = taken .before .before .before .before in
+    let piece = ends .before in
+    let start = piece .before .before .before .before .before in
+    let a = start .args in
+    (store-a (lent (a .at) (a .a .now) (a .b .now)) (a .addr) (a .from) _ _ _ (a .general .now) (piece .next-piece .ensures) (ends .end-of .ensures .0) (omega (arith, ends .end-of .ensures .2, start .pre .1)) (taken .if2 .taken) _ (c .before .before .store-range2 .ensures), ends .end-of .ensures .1, ends .end-of .ensures .2)
 
--- src/memory.rt:220:1
 same-length-5 : tie.Need-same-length-5
 same-length-5 c = search needs
 
--- src/memory.rt:220:1
 same-length-6 : tie.Need-same-length-6
 same-length-6 c = search needs
 
--- src/memory.rt:220:1
 returns-3 : tie.Need-returns-3
-returns-3 c = ?
+returns-3 c =
+    let left = c .before .before in
+    let ends = left .before .before in
+    let piece = ends .before in
+    let a = piece .before .before .before .before .before .args in
+    (store-lost (lent (a .at) (a .a .now) (a .b .now)) (a .addr) (a .from) _ _ _ (a .general .now) (piece .next-piece .ensures) (ends .end-of .ensures .0) (left .if1 .left) (c .if2 .left), ends .end-of .ensures .1, ends .end-of .ensures .2)
 
 pub store-piece-spec : {M : Type 1} → statement M
 store-piece-spec =

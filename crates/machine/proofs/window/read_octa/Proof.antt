@@ -18,11 +18,11 @@ distance-requires : tie.Need-distance-requires
 distance-requires c κs = search needs
 
 load-requires : tie.Need-load-requires
-load-requires c κs = 
+load-requires c κs =
     omega (arith, c .distance .ensures, room-fits _ _ _ (λ z. c .before .if1 .left (c .before .before .room .ensures .0 ∙ z)))
 
 returns-2 : tie.Need-returns-2
-returns-2 c = 
+returns-2 c =
     c .load .ensures
     ∙ ap (λ (n : ℕ). valueOf 0 (part (c .before .before .before .before .before .args .window .now) n 8)) (c .before .distance .ensures)
     ∙ sym (room-read _ _ _ (λ z. c .before .before .if1 .left (c .before .before .before .room .ensures .0 ∙ z)))

@@ -19,14 +19,14 @@ distance-requires : tie.Need-distance-requires
 distance-requires c κs = search needs
 
 store-requires : tie.Need-store-requires
-store-requires c κs = 
+store-requires c κs =
     omega (arith, c .before .distance .ensures, room-fits _ _ _ (λ z. c .before .before .if1 .left (c .before .before .before .room .ensures .0 ∙ z)))
 
 same-length-2 : tie.Need-same-length-2
 same-length-2 c = search needs
 
 returns-2 : tie.Need-returns-2
-returns-2 c = 
+returns-2 c =
     let left = c .before .before .before .before .before in
     let a = left .before .before .before .before .args in
     room-written (a .base) (a .window .now) (a .addr) (a .v) _ _ (λ z. left .if1 .left (left .before .room .ensures .0 ∙ z)) (c .before .before .before .before .distance .ensures)
