@@ -2,16 +2,16 @@
 -- them; and the test of a run over two windows, piece by piece. What is read and written is in Octas.
 use mathlib.Core.Path.{_≡_, refl, sym, ap, _∙_}
 use mathlib.Core.Logic.{_≢_, ⊎-elim}
-use mathlib.Core.Bool.{Bool, true, false, cond, _||_}
+use mathlib.Core.Bool.{Bool, true, false, cond, _&&_, _||_}
 use mathlib.Core.List.{List}
 use Prim.Native.Nat.{ℕ, zero, suc, _+_, _-_, _*_, _/_, _%_, _^_, _≤_, _<_}
 use native.Mathlib.Nat.{mod-eq-of-lt}
 use native.Mathlib.Omega.{arith}
-use lib.Dec.{eqb}
+use lib.Dec.{ltb, eqb}
 use lib.ListN.{length}
 use borrow.Author.Tests.{le-leb, lt-leb, leb-false, ne-eqb}
 use Rattle.model.specs.Octa.{octa}
-use Rattle.model.specs.Memory.{Shape, shapeOf, offset, has, Shapes, holder, inside, ruledOne, ruled}
+use Rattle.model.specs.Memory.{Shape, shapeOf, offset, has, Shapes, holder, inside, ruledOne, ruled, shares}
 use Rattle.model.specs.Plan.{worst}
 use Rattle.model.specs.Step.{refusing}
 use Rattle.model.proofs.Fill.{flag, lt-or-le}
@@ -222,7 +222,7 @@ module _ (w : Shapes) (x : ℕ) where
       let c : i + (n - i) ≡ n = omega arith in
       rw c at (passes i k (n - i) p h e q z m (omega arith))
 
--- ---- 2 of either window
+-- ---- 2 and 22
 
 module _ (w : Shapes) where
   pub first-unruled : ruledOne (w .a) ≡ false → ruled w ≡ false
@@ -236,3 +236,18 @@ module _ (w : Shapes) where
   pub both-ruled : ruledOne (w .a) ≡ true → ruledOne (w .b) ≡ true → ruled w ≡ true
   unfolding ruled
   both-ruled e f = rw (e, f)
+
+  -- 22: B's first octabyte in A, or A's in B
+  abbrev b-in-a : Bool
+  b-in-a = ltb 0 (w .b .size) && has (w .a) (w .b .from)
+
+  abbrev a-in-b : Bool
+  a-in-b = ltb 0 (w .a .size) && has (w .b) (w .a .from)
+
+  pub shared-first : (r : Bool) → r ≡ b-in-a → r ≡ true → true ≡ shares w
+  unfolding shares
+  shared-first r e t = sym (ap (λ (u : Bool). u || a-in-b) (sym e ∙ t))
+
+  pub shared-second : (r q : Bool) → r ≡ b-in-a → r ≡ false → q ≡ a-in-b → q ≡ shares w
+  unfolding shares
+  shared-second r q e f z = z ∙ sym (ap (λ (u : Bool). u || a-in-b) (sym e ∙ f))
