@@ -7,7 +7,7 @@ use mathlib.Core.List.{List, [], _∷_, _++_}
 use lib.Dec.{eqb}
 use lib.ListN.{replicate}
 use Rattle.model.specs.Fill.{tab}
-use Rattle.model.specs.Memory.{Windows, Shape, Shapes, ruled, putOcta}
+use Rattle.model.specs.Memory.{Windows, Shape, ruled, putOcta}
 use Rattle.model.specs.Registers.{rB, rD, rE, rH, rJ, rM, rR, rBB, rC, rN, rO, rS, rI, rT, rTT, rK, rQ, rU, rV, rG, rL, rA, rF, rP, rW, rX, rY, rZ, rWW, rXX, rYY, rZZ, stackStart, fresh, goes, halted, withSpecial, stored}
 use Rattle.model.specs.Step.{Item, step, exception}
 use Rattle.model.specs.Reader.{readContext}
