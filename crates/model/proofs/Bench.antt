@@ -1,5 +1,5 @@
--- Theorems 6, 10, 11, 12 and 14 and those of arithmetic: the points, 01's and more, those of loads and stores, fields, operations and two windows, and the examples of the
--- departures, carried through the definitions by one result that antt computes.
+-- Theorems 6, 10, 11, 12 and 14 and those of arithmetic and of two windows: the points, 01's and more, those of loads and stores, fields, operations and windows,
+-- and the examples of the departures, carried through the definitions by one result that antt computes.
 use mathlib.Core.Path.{refl}
 use lib.Count.{leadingZeros}
 use Rattle.model.specs.Fill.{over, indexed, within, tab}

@@ -8,7 +8,7 @@ use native.Mathlib.Omega.{arith}
 use native.Mathlib.Decide.{ℕ-discrete}
 use lib.Dec.{leb, eqb}
 use lib.ListN.{length, getD}
-use borrow.Author.Tests.{leb-true, eqb-true, eqb-false, ne-eqb}
+use borrow.Author.Tests.{leb-true, eqb-true, eqb-false, eq-eqb, ne-eqb}
 use Rattle.model.specs.Octa.{octa}
 use Rattle.model.specs.Memory.{Window, shapeOf, offset, has, Windows, Shapes, shapesOf, holder, inside, both, ruled}
 use Rattle.model.specs.Plan.{Plan, answer, read, Outcome, perform, worst, clear, named, look, looks}
@@ -218,7 +218,7 @@ reader-reply w s x y z a = go (ℕ-discrete (unruledBy (shapesOf w)) 0)
 
 -- ---- the part that the reader hands back
 
--- octabyte i of a run that one window holds; it lies in that window
+-- octabyte i of a run that one window holds
 pub held-at : (w : Shapes) (k n a i : ℕ) → heldBy w k a n ≡ true → i < n → holder w (a + 8 * i) ≡ k
 unfolding heldBy
 held-at w k zero a i h l = absurd (omega arith)
@@ -227,6 +227,27 @@ held-at w k (suc n) a (suc i) h l =
     let z : a + 8 * suc i ≡ a + 8 + 8 * i = omega arith in
     rw z (held-at w k n (a + 8) i (and-right (eqb (holder w a) k) _ h) (omega arith))
 
+-- a run of which each octabyte is held by one window; one that lies in one window, and one that does not
+pub of-held : (w : Shapes) (k n a : ℕ) → ((i : ℕ) → i < n → holder w (a + 8 * i) ≡ k) → heldBy w k a n ≡ true
+unfolding heldBy
+of-held w k zero a h = refl
+of-held w k (suc n) a h =
+    let e : holder w a ≡ k = ap (holder w) (omega arith) ∙ h 0 (omega arith) in
+    rw (e, eq-eqb k k refl) (of-held w k n (a + 8) (λ i l. ap (holder w) (omega arith) ∙ h (suc i) (omega arith)))
+
+pub whole-one : (w : Shapes) (a n : ℕ) → ((i : ℕ) → i < n → holder w (a + 8 * i) ≡ holder w a) → across w a n ≡ false
+unfolding across
+whole-one w a n h = rw (of-held w (holder w a) n a h)
+
+pub across-two : (w : Shapes) (a n i : ℕ) → i < n → holder w (a + 8 * i) ≢ holder w a → across w a n ≡ true
+unfolding across
+across-two w a n i l h = go (heldBy w (holder w a) a n) refl
+  where
+    go : (b : Bool) → heldBy w (holder w a) a n ≡ b → not b ≡ true
+    go true e = absurd (h (held-at w (holder w a) n a i e l))
+    go false e = refl
+
+-- the window that holds an octabyte has it
 pub holder-has : (w : Windows) (k x : ℕ) → k ≤ 1 → holder (shapesOf w) x ≡ k → has (shapeOf (windowOf w k)) x ≡ true
 unfolding holder shapesOf
 holder-has w zero x l =

@@ -51,7 +51,8 @@ framePoints =
     ++ (wraps (windows (minus 8) (0 ∷ []) 0 (0 ∷ 0 ∷ [])) (windows (minus 8) (7 ∷ []) 0 (9 ∷ 2 ∷ []))
     ∷ wraps (windows 0 (0 ∷ 0 ∷ []) (minus 8) (0 ∷ [])) (windows 0 (9 ∷ 2 ∷ []) (minus 8) (7 ∷ []))
     -- an octabyte between them that lies in neither: 6
-    ∷ point two (windows stackStart (0 ∷ []) (stackStart + 16) (0 ∷ [])) (step 0xF2 32 0 1 ∷ []) (6 ∷ []) two (windows stackStart (0 ∷ []) (stackStart + 16) (0 ∷ []))
+    ∷ point two (windows stackStart (0 ∷ []) (stackStart + 16) (0 ∷ [])) (step 0xF2 32 0 1 ∷ []) (6 ∷ [])
+    two (windows stackStart (0 ∷ []) (stackStart + 16) (0 ∷ []))
     -- "One step may use both", and two steps one each: a store to A while the frame is in B
     ∷ point (stored (stored two 33 3) 34 1000) (windows 1000 (0 ∷ []) stackStart (0 ∷ 0 ∷ 0 ∷ []))
     (step 0xF2 32 0 1 ∷ step 0xAD 33 34 0 ∷ step 0xF8 0 0 0 ∷ []) (0 ∷ 0 ∷ 0 ∷ [])
@@ -62,16 +63,29 @@ framePoints =
 abbrev storing : State
 storing = stored (stored (withSpecial start rL 4) 1 5) 2 stackStart
 
+-- A or B at the stack's start holds u, the other, right above it, v
+abbrev aLow : ℕ → ℕ → Windows
+aLow u v = windows stackStart (u ∷ []) (stackStart + 8) (v ∷ [])
+
+abbrev bLow : ℕ → ℕ → Windows
+bLow u v = windows (stackStart + 8) (v ∷ []) stackStart (u ∷ [])
+
+abbrev does : Windows → ℕ → ℕ → ℕ → State → Windows → Point
+does w op x z t v = point storing w (step op x 2 z ∷ []) (0 ∷ []) (goes t 4) v
+
 abbrev touchPoints : List Point
 touchPoints =
-    point storing (windows stackStart (1 ∷ []) (stackStart + 8) (2 ∷ [])) (step 0xAD 1 2 0 ∷ []) (0 ∷ []) (goes storing 4) (windows stackStart (5 ∷ []) (stackStart + 8) (2 ∷ []))
-    ∷ point storing (windows stackStart (1 ∷ []) (stackStart + 8) (2 ∷ [])) (step 0xAD 1 2 8 ∷ []) (0 ∷ []) (goes storing 4) (windows stackStart (1 ∷ []) (stackStart + 8) (5 ∷ []))
-    ∷ point storing (windows (stackStart + 8) (1 ∷ []) stackStart (2 ∷ [])) (step 0xAD 1 2 0 ∷ []) (0 ∷ []) (goes storing 4) (windows (stackStart + 8) (1 ∷ []) stackStart (5 ∷ []))
-    ∷ point storing (windows (stackStart + 8) (1 ∷ []) stackStart (2 ∷ [])) (step 0xAD 1 2 8 ∷ []) (0 ∷ []) (goes storing 4) (windows (stackStart + 8) (5 ∷ []) stackStart (2 ∷ []))
-    ∷ point storing (windows stackStart (1 ∷ []) (stackStart + 8) (2 ∷ [])) (step 0x8D 3 2 0 ∷ []) (0 ∷ []) (goes (stored storing 3 1) 4) (windows stackStart (1 ∷ []) (stackStart + 8) (2 ∷ []))
-    ∷ point storing (windows stackStart (1 ∷ []) (stackStart + 8) (2 ∷ [])) (step 0x8D 3 2 8 ∷ []) (0 ∷ []) (goes (stored storing 3 2) 4) (windows stackStart (1 ∷ []) (stackStart + 8) (2 ∷ []))
+    does (aLow 1 2) 0xAD 1 0 storing (aLow 5 2)
+    ∷ does (aLow 1 2) 0xAD 1 8 storing (aLow 1 5)
+    ∷ does (bLow 1 2) 0xAD 1 0 storing (bLow 5 2)
+    ∷ does (bLow 1 2) 0xAD 1 8 storing (bLow 1 5)
+    ∷ point storing (aLow 1 2) (step 0xAD 1 2 0 ∷ step 0xAD 1 2 8 ∷ []) (0 ∷ 0 ∷ []) (goes storing 8) (aLow 5 5)
+    ∷ does (aLow 1 2) 0x8D 3 0 (stored storing 3 1) (aLow 1 2)
+    ∷ does (aLow 1 2) 0x8D 3 8 (stored storing 3 2) (aLow 1 2)
+    ∷ does (bLow 1 2) 0x8D 3 0 (stored storing 3 1) (bLow 1 2)
+    ∷ does (bLow 1 2) 0x8D 3 8 (stored storing 3 2) (bLow 1 2)
     -- 6 means in neither
-    ∷ point storing (windows stackStart (1 ∷ []) (stackStart + 8) (2 ∷ [])) (step 0x8D 3 2 16 ∷ []) (6 ∷ []) storing (windows stackStart (1 ∷ []) (stackStart + 8) (2 ∷ [])) ∷ []
+    ∷ point storing (aLow 1 2) (step 0x8D 3 2 16 ∷ []) (6 ∷ []) storing (aLow 1 2) ∷ []
 
 -- ---- a context across both: SAVE $255 with rG 255 stores 15 octabytes, here 7 of them in one window and 8 in the other; then UNSAVE
 
