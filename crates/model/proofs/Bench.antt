@@ -17,7 +17,7 @@ use Rattle.model.specs.Trips.{interrupted, tripRule, tripTo, trapRule, t
 use Rattle.model.specs.LoadStore.{bytesIn, unitAt, operandIn, merged, extended, fits, loadFrom, storeSays, storeTo}
 use Rattle.model.specs.Whole.{signedOf, octaOf, isSigned, productHigh, productLow, floorBy, floorQuotient, floorRemainder, compared, powerOf}
 use Rattle.model.specs.Arithmetic.{divided, dividedWide, resultsOf}
-use Rattle.model.specs.Reader.{stretchOf, heldBy, across, partAt, handed, readContext}
+use Rattle.model.specs.Reader.{spanOf, heldBy, across, partAt, handed, readContext}
 use Rattle.model.specs.Lists.{stepOn, runs}
 use Rattle.model.specs.Step.{refusalOf, unruledBy, judged, refusing, planOf, guarded, fromThree, stepPlan, stepOf, exceptionOf, itemPlan, mmix}
 use Rattle.model.specs.Numbers.{numberOf}
@@ -34,7 +34,7 @@ use Rattle.model.specs.ArithmeticStepPoints.{arithmeticStepPoints, Arith
 use Rattle.model.specs.ArithmeticPoints.{allSame, arithmeticPoints, ArithmeticPointsMet}
 
 computed : PointsMet × MorePointsMet × ExamplesShown × LoadStorePointsMet × FieldPointsMet × ArithmeticPointsMet × ArithmeticStepPointsMet × WindowPointsMet
-unfolding leadingZeros over indexed within tab octa part written valueOf bytesOf admissible fresh goes halted withSpecial cleared claimLocal stored setRegister putLocals putGlobals spilled shapeOf ruledOne offset has octaBytes writeOcta shapesOf holder inside octaAt putOcta both ruled shares worst named look looks puts perform conditionOf armOf tell targetOf holds hole framed slid slide pushedRule pushed pushFrame countOf lastOutput restored unslide popped popTo popRule noFrame misplaced popFrame savedSpecial saved savedUnspilled savedState saveContext unsavedGeneral unsavedSpecial unsavedUnspilled unsaved contextRest contextCount contextAt unsaveContext putRefusal putState putSpecial got syncOf interrupted tripRule tripTo trapOf added withAdded raised stepOn runs refusalOf unruledBy judged refusing planOf guarded fromThree stepPlan exceptionOf itemPlan mmix start shows met allMet points framedRule gotRule trapRule leftmost exactUnderflow addedRule mapPlan stepOf readRule pushRule belowTop poppedRule popHoleRule popAnyRule unsavedGeneralRule unsavedSpecialRule unsavedRule unsaveRestRule unsaveCountRule unsaveRule ruleOf stepRule withAddedRule raisedRule exceptionRule ruledShapes numbered freshIs readerPoints stretchOf heldBy across partAt handed readContext morePoints shown allShown shownException allShownExceptions examples exceptionExamples cutExamples countExample counted widthOf signOf bytesIn unitAt operandIn merged extended fits loadFrom storeSays storeTo loadRule storeState storeRule loadStorePoints numberOf fieldAt fieldOf answerOf fieldPoints allFound signedOf octaOf isSigned productHigh productLow floorBy floorQuotient floorRemainder compared powerOf divided dividedWide resultsOf allSame arithmeticPoints operationOf firstOf withResults arithmeticSays arithmeticRule arithmeticStepPoints windowReads windowPoints
+unfolding leadingZeros over indexed within tab octa part written valueOf bytesOf admissible fresh goes halted withSpecial cleared claimLocal stored setRegister putLocals putGlobals spilled shapeOf ruledOne offset has octaBytes writeOcta shapesOf holder inside octaAt putOcta both ruled shares worst named look looks puts perform conditionOf armOf tell targetOf holds hole framed slid slide pushedRule pushed pushFrame countOf lastOutput restored unslide popped popTo popRule noFrame misplaced popFrame savedSpecial saved savedUnspilled savedState saveContext unsavedGeneral unsavedSpecial unsavedUnspilled unsaved contextRest contextCount contextAt unsaveContext putRefusal putState putSpecial got syncOf interrupted tripRule tripTo trapOf added withAdded raised stepOn runs refusalOf unruledBy judged refusing planOf guarded fromThree stepPlan exceptionOf itemPlan mmix start shows met allMet points framedRule gotRule trapRule leftmost exactUnderflow addedRule mapPlan stepOf readRule pushRule belowTop poppedRule popHoleRule popAnyRule unsavedGeneralRule unsavedSpecialRule unsavedRule unsaveRestRule unsaveCountRule unsaveRule ruleOf stepRule withAddedRule raisedRule exceptionRule ruledShapes numbered freshIs readerPoints spanOf heldBy across partAt handed readContext morePoints shown allShown shownException allShownExceptions examples exceptionExamples cutExamples countExample counted widthOf signOf bytesIn unitAt operandIn merged extended fits loadFrom storeSays storeTo loadRule storeState storeRule loadStorePoints numberOf fieldAt fieldOf answerOf fieldPoints allFound signedOf octaOf isSigned productHigh productLow floorBy floorQuotient floorRemainder compared powerOf divided dividedWide resultsOf allSame arithmeticPoints operationOf firstOf withResults arithmeticSays arithmeticRule arithmeticStepPoints windowReads windowPoints
 computed = (refl, (refl, refl, refl, refl, refl), (refl, refl, refl, refl), refl, refl, refl, refl, (refl, refl))
 
 pub points-met : PointsMet

@@ -1,29 +1,27 @@
 -- Theorem 1: which replies there are, and what each leaves.
 use mathlib.Core.Path.{_≡_, refl, sym, _∙_}
-use mathlib.Core.Logic.{_⊎_, inl, inr, ⊎-elim, _≢_}
-use mathlib.Core.Bool.{Bool, true, false}
+use mathlib.Core.Logic.{_⊎_, inl, inr, ⊎-elim}
+use mathlib.Core.Bool.{true}
 use mathlib.Core.List.{List, []}
 use Prim.Native.Nat.{ℕ, _+_, _≤_, _<_}
 use native.Mathlib.Omega.{arith}
 use lib.Dec.{eqb}
 use lib.ListN.{length, set, length-set}
 use lib.Seq.{getD-set-same, getD-set-other}
-use borrow.Author.Tests.{eqb-true, eqb-false}
 use Rattle.model.specs.Registers.{rB, rH, rJ, rR, rL, rBB, rA, rW, rX, rY, rZ, rWW, rXX, rYY, rZZ, sp, reg, following, Sized, admissible, goes, halted, withSpecial, cleared, claimLocal, stored, setRegister, putLocals, putGlobals, isMarginal, spilled}
 use Rattle.model.specs.Memory.{Windows, shapesOf, putOcta, both}
 use Rattle.model.specs.Plan.{Plan, Outcome, perform, worst, clear, named, look, looks, puts}
 use Rattle.model.specs.Opcodes.{Width, Sign, signed, Operand, Arm, trip, store, arithmetic, armOf}
 use Rattle.model.specs.Frames.{slide, pushedRule, pushed, unslide, popped}
-use Rattle.model.specs.Contexts.{contextAt, savedUnspilled, savedState, unsavedUnspilled, unsaved}
+use Rattle.model.specs.Contexts.{savedUnspilled, savedState, unsavedUnspilled, unsaved}
 use Rattle.model.specs.NoMemory.{Said, tell}
 use Rattle.model.specs.Control.{operandOf, sumOf}
 use Rattle.model.specs.Trips.{interrupted, tripped, trapped, wordOf, withAdded}
 use Rattle.model.specs.LoadStore.{merged, fits, flagV, storeSays, storeTo}
 use Rattle.model.specs.ArithmeticStep.{resultsIn, withResults}
 use Rattle.model.specs.Step.{refusalOf, unruledBy, judged, refusing, planOf, guarded, fromThree, stepPlan, stepOf, exceptionOf}
-use Rattle.model.specs.Reader.{Stretch, nowhere, stretchOf, across, handed, readContext}
-use Rattle.model.specs.Leaves.{Interrupted, Tripped, Trapped, StoreLeaves, Sharing, StepLeaves, ExceptionLeaves, ReaderLeaves, FieldLeaves, RepliesLeave}
-use Rattle.model.specs.Numbers.{Early, Lost, Halting, OfStep, numberOf}
+use Rattle.model.specs.Leaves.{Interrupted, Tripped, Trapped, StoreLeaves, Sharing, StepLeaves, ExceptionLeaves, FieldLeaves, RepliesLeave}
+use Rattle.model.specs.Numbers.{Early, Lost, Halting, numberOf}
 use Rattle.model.specs.Field.{answerOf, fieldOf}
 use Rattle.model.specs.declared.State.{State}
 use Rattle.model.specs.declared.Reach.{Reach}
@@ -34,9 +32,10 @@ use Rattle.model.specs.Fill.{over}
 use Rattle.model.proofs.Bools.{on}
 use Rattle.model.proofs.Fill.{length-over}
 use Rattle.model.proofs.ItemInvariant.{Any}
-use Rattle.model.proofs.ArmAnswers.{Answers, Meets, MeetsTrip, MeetsRaise, MeetsInterrupt, plan-meets, refusal-most, judged-early, step-judged, step-meets, raised-meets, exception-meets, context-meets, worst-six, perform-meets}
-use Rattle.model.proofs.Entry.{performOn, said-reply, shared-only, unruled-is}
+use Rattle.model.proofs.ArmAnswers.{Answers, Meets, MeetsTrip, MeetsRaise, MeetsInterrupt, plan-meets, refusal-most, judged-early, step-judged, step-meets, raised-meets, exception-meets, worst-six, perform-meets}
+use Rattle.model.proofs.Entry.{performOn, said-reply, shared-only}
 use Rattle.model.proofs.LoadStore.{store-made}
+use Rattle.model.proofs.ReaderLeaves.{reader-leaves}
 
 -- ---- the trip and trap registers
 
@@ -102,7 +101,7 @@ Nineteen s op x y z t vs =
     ((armOf op ≡ trip) × Tripped s t (wordOf op x y z) (reg s y) (reg s z) × (vs ≡ [])) ⊎ (IsStore (armOf op) ⊎ Computed s op x y z t vs)
 
 record Answered (s : State) (op x y z : ℕ) (r : ℕ) (t : State) (vs : List ℕ) : Type 0 where
-  most : OfStep r
+  most : (r ≤ 20) ⊎ (r ≡ 22)
   early : Early r → (t ≡ s) × (vs ≡ [])
   lost : Lost r → (t ≡ s) × (vs ≡ [])
   halting : Halting r → (t ≡ halted s) × (vs ≡ [])
@@ -420,67 +419,6 @@ exception-leaves s f op x y z u v n =
             };
           };
         }))
-
--- ---- the reader
-
--- what UNSAVE's own checks give of a context
-record Found (r : ℕ) (vs : List ℕ) : Type 0 where
-  among : (r ≡ 0) ⊎ ((6 ≤ r) × (r ≤ 16))
-  six-or : (r ≡ 0) ⊎ ((r ≡ 6) ⊎ ((r ≡ 14) ⊎ ((r ≡ 15) ⊎ (r ≡ 16))))
-  none : vs ≡ []
-
-one-of : (r : ℕ) → 14 ≤ r → r ≤ 16 → (r ≡ 0) ⊎ ((r ≡ 6) ⊎ ((r ≡ 14) ⊎ ((r ≡ 15) ⊎ (r ≡ 16))))
-one-of r l h = go (eqb r 14) (eqb r 15) refl refl
-  where
-    go : (p q : Bool) → eqb r 14 ≡ p → eqb r 15 ≡ q → (r ≡ 0) ⊎ ((r ≡ 6) ⊎ ((r ≡ 14) ⊎ ((r ≡ 15) ⊎ (r ≡ 16))))
-    go true q e f = inr (inr (inl (eqb-true _ _ e)))
-    go false true e f = inr (inr (inr (inl (eqb-true _ _ f))))
-    go false false e f =
-        let n : r ≢ 14 = eqb-false _ _ e in
-        let m : r ≢ 15 = eqb-false _ _ f in
-        inr (inr (inr (inr (omega arith))))
-
-abbrev Given : ℕ → Type 0
-Given r = (r ≡ 0) ⊎ ((r ≡ 2) ⊎ ((r ≡ 6) ⊎ ((r ≡ 14) ⊎ ((r ≡ 15) ⊎ ((r ≡ 16) ⊎ ((r ≡ 22) ⊎ (r ≡ 23)))))))
-
-given : (r : ℕ) → (r ≡ 0) ⊎ ((r ≡ 6) ⊎ ((r ≡ 14) ⊎ ((r ≡ 15) ⊎ (r ≡ 16)))) → Given r
-given r (inl e) = inl e
-given r (inr (inl e)) = inr (inr (inl e))
-given r (inr (inr (inl e))) = inr (inr (inr (inl e)))
-given r (inr (inr (inr (inl e)))) = inr (inr (inr (inr (inl e))))
-given r (inr (inr (inr (inr e)))) = inr (inr (inr (inr (inr (inl e)))))
-
-handed-leaves : (w : Windows) (o : Outcome Stretch Windows) → Found (o .reply) [] → o .memory ≡ w → ReaderLeaves w (handed w o)
-unfolding handed
-handed-leaves w o h m =
-    on (ReaderLeaves w) (eqb (o .reply) 0)
-    (λ e. on (ReaderLeaves w) (across (shapesOf w) (o .state .first) (o .state .octas))
-    (λ f. record { among = inr (inr (inr (inr (inr (inr (inr refl)))))); shared = λ p. absurd (omega arith); refused = λ n. refl; unchanged = m })
-    (λ f. record { among = inl refl; shared = λ p. absurd (omega arith); refused = λ n. absurd (n refl); unchanged = m }))
-    (λ e. record { among = given (o .reply) (h .six-or); shared = λ p. absurd (⊎-elim (λ z. omega arith) (λ k. omega arith) (h .among)); refused = λ n. refl; unchanged = m })
-
-reader-leaves : (w : Windows) (p : ℕ) → ReaderLeaves w (readContext w p)
-unfolding readContext
-reader-leaves w p =
-    on (ReaderLeaves w) (eqb (unruledBy (shapesOf w)) 0)
-    (λ e. let k : Found (located .reply) [] × (located .memory ≡ w) = found in handed-leaves w located (k .0) (k .1))
-    (λ e. record {
-      among = ⊎-elim (λ z. inl z) (⊎-elim (λ t. inr (inl t)) (λ t. inr (inr (inr (inr (inr (inr (inl t)))))))) (unruled-is (shapesOf w));
-      shared = shared-only (shapesOf w);
-      refused = λ n. refl;
-      unchanged = refl;
-    })
-  where
-    located : Outcome Stretch Windows
-    located = performOn w nowhere (contextAt nowhere stretchOf p)
-
-    found : Found (located .reply) [] × (located .memory ≡ w)
-    found = perform-meets w nowhere Any (λ r t vs. Found r vs) (λ o. Found (o .reply) [] × (o .memory ≡ w))
-        (record { among = inr (omega arith, omega arith); six-or = inr (inl refl); none = refl }, refl)
-        (λ r t a vs h. (record { among = h .among; six-or = h .six-or; none = refl }, stored-none w a vs (h .none)))
-        (λ a n. tt) (contextAt nowhere stretchOf p)
-        (context-meets nowhere stretchOf p Any (λ r t vs. Found r vs) (λ n a b. record { among = inr (omega arith, b); six-or = one-of n a b; none = refl })
-        (λ o g a l vs b c d e f i. record { among = inl refl; six-or = inl refl; none = refl }))
 
 -- ---- the search for a field
 

@@ -22,6 +22,7 @@ pub mod Invariants
 pub mod Entry
 pub mod PushPop
 pub mod Demand
+pub mod ReaderLeaves
 pub mod Leaves
 pub mod StepNeeds
 pub mod Locality
@@ -33,6 +34,7 @@ pub mod Departures
 pub mod Order
 pub mod StepByArm
 pub mod SaveUnsave
+pub mod Held
 pub mod Reader
 pub mod Roundtrip
 pub mod Reaches

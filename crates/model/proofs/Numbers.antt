@@ -1,12 +1,12 @@
 -- The numbers of the replies.
 use mathlib.Core.Path.{_≡_, refl}
-use mathlib.Core.Logic.{⊎-elim}
+use mathlib.Core.Logic.{_⊎_, ⊎-elim}
 use mathlib.Core.Bool.{true}
-use Prim.Native.Nat.{ℕ}
+use Prim.Native.Nat.{ℕ, _≤_}
 use native.Mathlib.Omega.{arith}
 use lib.Dec.{eqb}
 use borrow.Author.Tests.{eqb-true}
-use Rattle.model.specs.Numbers.{OfStep, numberOf, replyOf, Numbered}
+use Rattle.model.specs.Numbers.{numberOf, replyOf, Numbered}
 use Rattle.model.specs.declared.Reply.{Reply}
 use Rattle.model.specs.declared.Reply.the-variants.{Done, NotAdmissible, WindowRule, NoArm, NamedTrap, NoSpecial, Missing, PutUnknown, PutPrivileged, PutIllegal, PutThreshold, PutStatus, Misplaced, SaveLocal, SavedThreshold, SavedStatus, SavedCount, SyncPrivileged, SyncIllegal, NotLoaded, Trapped, OutOfReach, Shared, Across}
 use Rattle.model.proofs.Bools.{each, at-each}
@@ -46,5 +46,5 @@ pub numbered : Numbered
 numbered = record { reply-number = there; number-reply = λ n l. eqb-true (numberOf (replyOf n)) n (at-each 24 (λ k. eqb (numberOf (replyOf k)) k) all n (omega arith)) }
 
 -- a step's number is one of 0 to 20, or 22
-pub step-number : (n : ℕ) → OfStep n → numberOf (replyOf n) ≡ n
+pub step-number : (n : ℕ) → (n ≤ 20) ⊎ (n ≡ 22) → numberOf (replyOf n) ≡ n
 step-number n h = numbered .number-reply n (⊎-elim (λ l. omega arith) (λ e. let f : n ≡ 22 = e in omega arith) h)

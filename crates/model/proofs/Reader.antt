@@ -1,21 +1,21 @@
 -- The context reader: it judges as UNSAVE does, but for 23, and what it hands back is the context's own bytes, first local to packed octabyte.
-use mathlib.Core.Path.{_≡_, refl, sym, ap, _∙_}
+use mathlib.Core.Path.{_≡_, refl, sym, ap, _∙_, subst}
 use mathlib.Core.Logic.{_≢_}
-use mathlib.Core.Bool.{Bool, true, false, cond, not, _&&_, _||_, true≢false}
+use mathlib.Core.Bool.{true, false, cond, _&&_}
 use mathlib.Core.List.{List, []}
 use Prim.Native.Nat.{ℕ, zero, suc, _+_, _-_, _*_, _/_, _%_, _^_, _≤_, _<_}
 use native.Mathlib.Omega.{arith}
 use native.Mathlib.Decide.{ℕ-discrete}
 use lib.Dec.{leb, eqb}
 use lib.ListN.{length, getD}
-use borrow.Author.Tests.{leb-true, eqb-true, eqb-false, eq-eqb, ne-eqb}
+use borrow.Author.Tests.{leb-true, eqb-true, eqb-false, ne-eqb}
 use Rattle.model.specs.Octa.{octa}
-use Rattle.model.specs.Memory.{Window, shapeOf, offset, has, Windows, Shapes, shapesOf, holder, inside, both, ruled}
+use Rattle.model.specs.Memory.{Window, shapeOf, offset, has, Windows, shapesOf, holder, inside, both, ruled}
 use Rattle.model.specs.Plan.{Plan, answer, read, Outcome, perform, worst, clear, named, look, looks}
 use Rattle.model.specs.Registers.{reg, admissible, halted}
 use Rattle.model.specs.Contexts.{below, contextRest, contextCount, contextAt}
 use Rattle.model.specs.Step.{unruledBy, refusing, stepOf}
-use Rattle.model.specs.Reader.{Part, emptyPart, windowOf, Stretch, nowhere, stretchOf, heldBy, across, partAt, handed, readContext}
+use Rattle.model.specs.Reader.{Part, emptyPart, windowOf, nowhere, octabytes, spanOf, heldBy, across, partAt, handed, checked, readContext}
 use Rattle.model.specs.Roundtrip.{thresholdAt, countAt, octasAt, firstAt, acrossAt, FromFirstToPacked}
 use Rattle.model.specs.declared.State.{State}
 use Rattle.model.proofs.Bools.{and-left, and-right, on, on-both}
@@ -23,8 +23,11 @@ use Rattle.model.proofs.Runs.{octa-mod, worst-of}
 use Rattle.model.proofs.SaveUnsave.{looked, Context, context-found, unsavedNext, unsave-open}
 use Rattle.model.proofs.Entry.{performOn, Inside, said-reply, judged-inside, unruled-none}
 use Rattle.model.proofs.Memory.{holder-octa}
+use Rattle.model.proofs.Held.{holder-has, holder-most, held-at, whole-held, held-mod, across-mod}
 use Rattle.model.proofs.Apart.{Ruled, ruled-a, ruled-b}
 use Rattle.model.proofs.StepByArm.{step-unruled}
+use Rattle.model.proofs.ItemInvariant.{Any}
+use Rattle.model.proofs.ArmAnswers.{context-meets, perform-meets}
 
 -- ---- the reader judges as UNSAVE does
 
@@ -137,11 +140,7 @@ offset-mod base a b e = rw (octa-mod a b e)
 
 -- ---- the reader and UNSAVE
 
--- UNSAVE's own checks, for the reader
-abbrev located : Windows → ℕ → Outcome Stretch Windows
-located w p = performOn w nowhere (contextAt nowhere stretchOf p)
-
-pub reader-open : (w : Windows) (p : ℕ) → unruledBy (shapesOf w) ≡ 0 → readContext w p ≡ handed w (located w p)
+pub reader-open : (w : Windows) (p : ℕ) → unruledBy (shapesOf w) ≡ 0 → readContext w p ≡ handed w (checked w p .reply) (checked w p .state)
 unfolding readContext
 reader-open w p r = rw r
 
@@ -149,47 +148,43 @@ pub reader-unruled : (w : Windows) (p : ℕ) → unruledBy (shapesOf w) ≢ 0 �
 unfolding readContext
 reader-unruled w p n = rw (ne-eqb (unruledBy (shapesOf w)) 0 n)
 
--- a run under any addresses that name it
-pub held-mod : (w : Shapes) (k n a b : ℕ) → a % 2 ^ 64 ≡ b % 2 ^ 64 → heldBy w k a n ≡ heldBy w k b n
-unfolding heldBy
-held-mod w k zero a b e = refl
-held-mod w k (suc n) a b e = rw (holder-octa w a b (octa-mod a b e), held-mod w k n (a + 8) (b + 8) (omega arith))
-
-pub across-mod : (w : Shapes) (n a b : ℕ) → a % 2 ^ 64 ≡ b % 2 ^ 64 → across w a n ≡ across w b n
-unfolding across
-across-mod w n a b e = rw (holder-octa w a b (octa-mod a b e), held-mod w (holder w b) n a b e)
-
 -- what the checks found, where they pass
 record Stands (w : Windows) (p : ℕ) : Type 0 where
   context : Context w p (thresholdAt w p) (look both w p % 2 ^ 56) (countAt w p)
-  at : ℕ
-  at-is : at % 2 ^ 64 ≡ firstAt w p % 2 ^ 64
-  located-is : located w p ≡ record { reply = 0; state = record { first = at; octas = octasAt w p }; memory = w }
+  first : ℕ
+  first-is : first % 2 ^ 64 ≡ firstAt w p % 2 ^ 64
+  checked-is : checked w p ≡ record { reply = 0; state = octabytes first (octasAt w p); memory = w }
 
-stands : (w : Windows) (p : ℕ) → located w p .reply ≡ 0 → Stands w p
-unfolding stretchOf
+stands : (w : Windows) (p : ℕ) → checked w p .reply ≡ 0 → Stands w p
+unfolding spanOf
 stands w p h =
-    let c : Context w p (thresholdAt w p) (look both w p % 2 ^ 56) (countAt w p) = context-done w nowhere nowhere stretchOf p h in
+    let c : Context w p (thresholdAt w p) (look both w p % 2 ^ 56) (countAt w p) = context-done w nowhere nowhere spanOf p h in
     let m : octasAt w p ≡ countAt w p + 269 - thresholdAt w p + 1 = omega (arith, c .g-high) in
     let k : octasAt w p - 1 ≡ countAt w p + 269 - thresholdAt w p = omega arith in
     record {
       context = c;
-      at = below p (countAt w p + 269 - thresholdAt w p) % 2 ^ 64;
-      at-is = rw k (omega arith);
-      located-is = context-found w nowhere nowhere stretchOf p _ _ _ c;
+      first = below p (countAt w p + 269 - thresholdAt w p) % 2 ^ 64;
+      first-is = rw k (omega arith);
+      checked-is = context-found w nowhere nowhere spanOf p _ _ _ c;
     }
 
-handed-reply : (w : Windows) (o : Outcome Stretch Windows)
-    → handed w o .reply ≡ cond (eqb (o .reply) 0) (cond (across (shapesOf w) (o .state .first) (o .state .octas)) 23 0) (o .reply)
+-- a reader that is refused by the checks gives their number
+refused-is : (w : Windows) (p : ℕ) → checked w p .reply ≢ 0 → checked w p .state ≡ nowhere
+refused-is w p =
+    perform-meets w nowhere Any (λ r t vs. r ≢ 0 → t ≡ nowhere) (λ o. o .reply ≢ 0 → o .state ≡ nowhere) (λ n. refl) (λ r t a vs h. h) (λ a n. tt) (contextAt nowhere spanOf p)
+    (context-meets nowhere spanOf p Any (λ r t vs. r ≢ 0 → t ≡ nowhere) (λ n a b m. refl) (λ o g a l vs b c d e f i m. absurd (m refl)))
+
+found-reply : (w : Windows) (a n : ℕ) → handed w 0 (octabytes a n) .reply ≡ cond (across (shapesOf w) a n) 23 0
 unfolding handed
-handed-reply w o = go (eqb (o .reply) 0) (across (shapesOf w) (o .state .first) (o .state .octas))
-  where
-    go : (b c : Bool) → (cond {A = Outcome Part Windows} b
-        (cond c (record { reply = 23; state = emptyPart; memory = o .memory }) (record { reply = 0; state = partAt w (o .state .first) (o .state .octas); memory = o .memory }))
-        (record { reply = o .reply; state = emptyPart; memory = o .memory })) .reply ≡ cond b (cond c 23 0) (o .reply)
-    go true true = refl
-    go true false = refl
-    go false c = refl
+found-reply w a n = on-both {A = Outcome Part Windows} (λ o r. o .reply ≡ r) (across (shapesOf w) a n) (λ e. refl) (λ e. refl)
+
+refused-reply : (w : Windows) (r : ℕ) → handed w r nowhere .reply ≡ r
+unfolding handed
+refused-reply w r = refl
+
+stands-reply : (w : Windows) (p : ℕ) → Stands w p → handed w (checked w p .reply) (checked w p .state) .reply ≡ cond (acrossAt w p) 23 0
+stands-reply w p t =
+    rw (t .checked-is) (found-reply w (t .first) (octasAt w p) ∙ rw (across-mod (shapesOf w) (octasAt w p) (t .first) (firstAt w p) (t .first-is)))
 
 pub reader-reply : (w : Windows) (s : State) (x y z : ℕ) → admissible s ≡ true
     → readContext w (reg s z) .reply
@@ -200,73 +195,21 @@ reader-reply w s x y z a = go (ℕ-discrete (unruledBy (shapesOf w)) 0)
     p = reg s z
 
     -- the checks' reply is UNSAVE's; where they pass, the context is where they found it
-    judged : (r : ℕ) → located w p .reply ≡ r → handed w (located w p) .reply ≡ cond (eqb r 0) (cond (acrossAt w p) 23 0) r
-    judged r e = handed-reply w (located w p) ∙ rw e (passed (eqb r 0) refl)
+    judged : (r : ℕ) → checked w p .reply ≡ r → handed w (checked w p .reply) (checked w p .state) .reply ≡ cond (eqb r 0) (cond (acrossAt w p) 23 0) r
+    judged r e = passed (ℕ-discrete r 0)
       where
-        passed : (b : Bool) → eqb r 0 ≡ b
-            → cond b (cond (across (shapesOf w) (located w p .state .first) (located w p .state .octas)) 23 0) r ≡ cond b (cond (acrossAt w p) 23 0) r
-        passed false f = refl
-        passed true f =
-            let t : Stands w p = stands w p (e ∙ eqb-true r 0 f) in
-            rw (t .located-is, across-mod (shapesOf w) (octasAt w p) (t .at) (firstAt w p) (t .at-is))
+        passed : Dec (r ≡ 0) → handed w (checked w p .reply) (checked w p .state) .reply ≡ cond (eqb r 0) (cond (acrossAt w p) 23 0) r
+        passed (no f) = rw (refused-is w p (λ z. f (sym e ∙ z)), ne-eqb r 0 f) (refused-reply w (checked w p .reply) ∙ e)
+        passed (yes f) =
+            subst (λ (k : ℕ). handed w (checked w p .reply) (checked w p .state) .reply ≡ cond (eqb k 0) (cond (acrossAt w p) 23 0) k) (sym f) (stands-reply w p (stands w p (e ∙ f)))
 
     go : Dec (unruledBy (shapesOf w) ≡ 0)
         → readContext w p .reply ≡ cond (eqb (stepOf w s 0xFB x y z .reply) 0) (cond (acrossAt w p) 23 0) (stepOf w s 0xFB x y z .reply)
     go (yes r) = rw (reader-open w p r) (judged (stepOf w s 0xFB x y z .reply)
-        (context-alike w nowhere nowhere stretchOf s (halted s) (unsavedNext s) p ∙ ap (λ (o : Outcome State Windows). o .reply) (sym (unsave-open w s x y z a r))))
+        (context-alike w nowhere nowhere spanOf s (halted s) (unsavedNext s) p ∙ ap (λ (o : Outcome State Windows). o .reply) (sym (unsave-open w s x y z a r))))
     go (no n) = rw (reader-unruled w p n, step-unruled w s 0xFB x y z a n, ne-eqb (unruledBy (shapesOf w)) 0 n)
 
 -- ---- the part that the reader hands back
-
--- octabyte i of a run that one window holds
-pub held-at : (w : Shapes) (k n a i : ℕ) → heldBy w k a n ≡ true → i < n → holder w (a + 8 * i) ≡ k
-unfolding heldBy
-held-at w k zero a i h l = absurd (omega arith)
-held-at w k (suc n) a zero h l = let z : a + 8 * 0 ≡ a = omega arith in rw z (eqb-true _ _ (and-left (eqb (holder w a) k) _ h))
-held-at w k (suc n) a (suc i) h l =
-    let z : a + 8 * suc i ≡ a + 8 + 8 * i = omega arith in
-    rw z (held-at w k n (a + 8) i (and-right (eqb (holder w a) k) _ h) (omega arith))
-
--- a run of which each octabyte is held by one window; one that lies in one window, and one that does not
-pub of-held : (w : Shapes) (k n a : ℕ) → ((i : ℕ) → i < n → holder w (a + 8 * i) ≡ k) → heldBy w k a n ≡ true
-unfolding heldBy
-of-held w k zero a h = refl
-of-held w k (suc n) a h =
-    let e : holder w a ≡ k = ap (holder w) (omega arith) ∙ h 0 (omega arith) in
-    rw (e, eq-eqb k k refl) (of-held w k n (a + 8) (λ i l. ap (holder w) (omega arith) ∙ h (suc i) (omega arith)))
-
-pub whole-one : (w : Shapes) (a n : ℕ) → ((i : ℕ) → i < n → holder w (a + 8 * i) ≡ holder w a) → across w a n ≡ false
-unfolding across
-whole-one w a n h = rw (of-held w (holder w a) n a h)
-
-pub across-two : (w : Shapes) (a n i : ℕ) → i < n → holder w (a + 8 * i) ≢ holder w a → across w a n ≡ true
-unfolding across
-across-two w a n i l h = go (heldBy w (holder w a) a n) refl
-  where
-    go : (b : Bool) → heldBy w (holder w a) a n ≡ b → not b ≡ true
-    go true e = absurd (h (held-at w (holder w a) n a i e l))
-    go false e = refl
-
--- the window that holds an octabyte has it
-pub holder-has : (w : Windows) (k x : ℕ) → k ≤ 1 → holder (shapesOf w) x ≡ k → has (shapeOf (windowOf w k)) x ≡ true
-unfolding holder shapesOf
-holder-has w zero x l =
-    on (λ (n : ℕ). n ≡ 0 → has (shapeOf (w .a)) x ≡ true) (has (shapeOf (w .b)) x) (λ e h. absurd (omega arith))
-    (λ e. on (λ (n : ℕ). n ≡ 0 → has (shapeOf (w .a)) x ≡ true) (has (shapeOf (w .a)) x) (λ f h. f) (λ f h. absurd (omega arith)))
-holder-has w (suc zero) x l =
-    on (λ (n : ℕ). n ≡ 1 → has (shapeOf (w .b)) x ≡ true) (has (shapeOf (w .b)) x) (λ e h. e)
-    (λ e. on (λ (n : ℕ). n ≡ 1 → has (shapeOf (w .b)) x ≡ true) (has (shapeOf (w .a)) x) (λ f h. absurd (omega arith)) (λ f h. absurd (omega arith)))
-holder-has w (suc (suc k)) x l = absurd (omega arith)
-
--- an octabyte that is lent is held by A or by B
-pub holder-most : (w : Shapes) (x : ℕ) → inside w x ≡ true → holder w x ≤ 1
-unfolding holder inside
-holder-most w x = go (has (w .b) x) (has (w .a) x)
-  where
-    go : (b c : Bool) → (b || c) ≡ true → cond b 1 (cond c 0 2) ≤ 1
-    go true c e = omega arith
-    go false true e = omega arith
-    go false false e = let z : false ≡ true = e in absurd (true≢false (sym z))
 
 window-ruled : (w : Windows) (k : ℕ) → ruled (shapesOf w) ≡ true → Ruled (shapeOf (windowOf w k))
 unfolding shapesOf
@@ -288,28 +231,14 @@ offset-packed v p d n r h =
     sym (offset-mod (v .base) (below p d + 8 * d) p (omega arith)) ∙ offset-run (v .base) (below p d) d (λ i l. offset-small v (below p d + 8 * i) r (h i (omega arith)))
 
 -- a part that is handed back
-handed-done : (w : Windows) (o : Outcome Stretch Windows) → handed w o .reply ≡ 0
-    → (o .reply ≡ 0) × (across (shapesOf w) (o .state .first) (o .state .octas) ≡ false) × (handed w o .state ≡ partAt w (o .state .first) (o .state .octas))
+handed-done : (w : Windows) (a n : ℕ) → handed w 0 (octabytes a n) .reply ≡ 0 → (across (shapesOf w) a n ≡ false) × (handed w 0 (octabytes a n) .state ≡ partAt w a n)
 unfolding handed
-handed-done w o =
-    on {A = Outcome Part Windows} Fine (eqb (o .reply) 0)
-    (λ e. on {A = Outcome Part Windows} Fine (across (shapesOf w) (o .state .first) (o .state .octas)) (λ f h. absurd (omega arith)) (λ f h. (eqb-true _ _ e, f, refl)))
-    (λ e h. absurd (eqb-false _ _ e h))
-  where
-    Fine : Outcome Part Windows → Type 0
-    Fine q = q .reply ≡ 0
-        → (o .reply ≡ 0) × (across (shapesOf w) (o .state .first) (o .state .octas) ≡ false) × (q .state ≡ partAt w (o .state .first) (o .state .octas))
+handed-done w a n =
+    on {A = Outcome Part Windows} (λ q. q .reply ≡ 0 → (across (shapesOf w) a n ≡ false) × (q .state ≡ partAt w a n)) (across (shapesOf w) a n)
+    (λ f h. absurd (omega arith)) (λ f h. (f, refl))
 
-whole-held : (w : Shapes) (a n : ℕ) → across w a n ≡ false → heldBy w (holder w a) a n ≡ true
-unfolding across
-whole-held w a n = go (heldBy w (holder w a) a n)
-  where
-    go : (b : Bool) → not b ≡ false → b ≡ true
-    go true e = refl
-    go false e = sym e
-
-part-is : (w : Windows) (p : ℕ) → ruled (shapesOf w) ≡ true → (t : Stands w p) → across (shapesOf w) (t .at) (octasAt w p) ≡ false
-    → FromFirstToPacked w p (partAt w (t .at) (octasAt w p))
+part-is : (w : Windows) (p : ℕ) → ruled (shapesOf w) ≡ true → (t : Stands w p) → across (shapesOf w) (t .first) (octasAt w p) ≡ false
+    → FromFirstToPacked w p (partAt w (t .first) (octasAt w p))
 unfolding partAt
 part-is w p r t f = record {
   one-of-two = least;
@@ -321,7 +250,7 @@ part-is w p r t f = record {
 }
   where
     k : ℕ
-    k = holder (shapesOf w) (t .at)
+    k = holder (shapesOf w) (t .first)
 
     d : ℕ
     d = octasAt w p - 1
@@ -341,16 +270,16 @@ part-is w p r t f = record {
         judged-inside (shapesOf w) (firstAt w p) (rw z at h)
 
     least : k ≤ 1
-    least = rw (holder-octa (shapesOf w) (t .at) (firstAt w p) (octa-mod (t .at) (firstAt w p) (t .at-is))) (holder-most (shapesOf w) (firstAt w p) inside-first)
+    least = rw (holder-octa (shapesOf w) (t .first) (firstAt w p) (octa-mod (t .first) (firstAt w p) (t .first-is))) (holder-most (shapesOf w) (firstAt w p) inside-first)
 
     held : heldBy (shapesOf w) k (firstAt w p) (octasAt w p) ≡ true
-    held = sym (held-mod (shapesOf w) k (octasAt w p) (t .at) (firstAt w p) (t .at-is)) ∙ whole-held (shapesOf w) (t .at) (octasAt w p) f
+    held = sym (held-mod (shapesOf w) k (octasAt w p) (t .first) (firstAt w p) (t .first-is)) ∙ whole-held (shapesOf w) (t .first) (octasAt w p) f
 
     within : (i : ℕ) → i < d + 1 → has (shapeOf v) (below p d + 8 * i) ≡ true
     within i l = holder-has w k (below p d + 8 * i) least (held-at (shapesOf w) k (octasAt w p) (firstAt w p) i held (omega (arith, octas-are)))
 
-    first : offset (v .base) (t .at) ≡ offset (v .base) (firstAt w p)
-    first = offset-mod (v .base) (t .at) (firstAt w p) (t .at-is)
+    first : offset (v .base) (t .first) ≡ offset (v .base) (firstAt w p)
+    first = offset-mod (v .base) (t .first) (firstAt w p) (t .first-is)
 
     last : offset (v .base) p ≡ offset (v .base) (below p d) + 8 * d
     last = offset-packed v p d (omega (arith, t .context .l-g, t .context .g-high)) (window-ruled w k r) within
@@ -364,8 +293,12 @@ reader-part w p h = go (ℕ-discrete (unruledBy (shapesOf w)) 0)
     go : Dec (unruledBy (shapesOf w) ≡ 0) → FromFirstToPacked w p (readContext w p .state)
     go (no n) = absurd (n (ap (λ (o : Outcome Part Windows). o .reply) (sym (reader-unruled w p n)) ∙ h))
     go (yes u) =
-        let g : (located w p .reply ≡ 0) × (across (shapesOf w) (located w p .state .first) (located w p .state .octas) ≡ false)
-        × (handed w (located w p) .state ≡ partAt w (located w p .state .first) (located w p .state .octas))
-        = handed-done w (located w p) (ap (λ (o : Outcome Part Windows). o .reply) (sym (reader-open w p u)) ∙ h) in
-        let t : Stands w p = stands w p (g .0) in
-        rw (reader-open w p u, g .2, t .located-is) (part-is w p (unruled-none (shapesOf w) u .0) t (rw (t .located-is) at (g .1)))
+        let d : handed w (checked w p .reply) (checked w p .state) .reply ≡ 0 = ap (λ (o : Outcome Part Windows). o .reply) (sym (reader-open w p u)) ∙ h in
+        let t : Stands w p = stands w p (passed (checked w p .reply) (ℕ-discrete (checked w p .reply) 0) refl d) in
+        let g : (across (shapesOf w) (t .first) (octasAt w p) ≡ false) × (handed w 0 (octabytes (t .first) (octasAt w p)) .state ≡ partAt w (t .first) (octasAt w p))
+        = handed-done w (t .first) (octasAt w p) (rw (t .checked-is) at d) in
+        rw (reader-open w p u, t .checked-is, g .1) (part-is w p (unruled-none (shapesOf w) u .0) t (g .0))
+      where
+        passed : (r : ℕ) → Dec (r ≡ 0) → checked w p .reply ≡ r → handed w (checked w p .reply) (checked w p .state) .reply ≡ 0 → checked w p .reply ≡ 0
+        passed r (yes e) f d = f ∙ e
+        passed r (no n) f d = sym (refused-reply w (checked w p .reply)) ∙ (rw (refused-is w p (λ z. n (sym f ∙ z))) at d)

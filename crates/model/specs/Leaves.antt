@@ -14,7 +14,7 @@ use Rattle.model.specs.LoadStore.{valuesOf, unitAt, operandIn, merged, f
 use Rattle.model.specs.ArithmeticStep.{resultsIn, withResults}
 use Rattle.model.specs.Step.{stepOf, exceptionOf}
 use Rattle.model.specs.Reader.{Part, emptyPart, readContext}
-use Rattle.model.specs.Numbers.{Early, Lost, Halting, OfStep}
+use Rattle.model.specs.Numbers.{Early, Lost, Halting}
 use Rattle.model.specs.Field.{FieldAnswer, fieldOf, answerOf}
 use Rattle.model.specs.declared.State.{State}
 use Rattle.model.specs.declared.Operation.{Operation}
@@ -76,7 +76,7 @@ Sharing w = (ruled w ≡ true) × (shares w ≡ true)
 
 -- what a step leaves
 pub record StepLeaves (w : Windows) (s : State) (op x y z : ℕ) (o : Outcome State Windows) : Type 0 where
-  pub most : OfStep (o .reply)
+  pub most : (o .reply ≤ 20) ⊎ (o .reply ≡ 22)
   -- 1 to 6 and 22
   pub early : Early (o .reply) → (o .state ≡ s) × (o .memory ≡ w)
   pub lost : Lost (o .reply) → (o .state ≡ s) × (o .memory ≡ w)

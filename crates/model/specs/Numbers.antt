@@ -18,10 +18,6 @@ Lost n = n ≡ 6
 abbrev pub Halting : ℕ → Type 0
 Halting n = (7 ≤ n) × (n ≤ 18)
 
--- the numbers that a step may give: 0 to 20, and 22
-abbrev pub OfStep : ℕ → Type 0
-OfStep n = (n ≤ 20) ⊎ (n ≡ 22)
-
 unfoldable pub numberOf : Reply → ℕ
 numberOf Done = 0
 numberOf NotAdmissible = 1

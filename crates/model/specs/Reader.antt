@@ -23,17 +23,14 @@ emptyPart = record { which = 0; start = 0; size = 0 }
 abbrev pub windowOf : Windows → ℕ → Window
 windowOf w k = cond (eqb k 1) (w .b) (w .a)
 
--- where a context lies: the first local's address, and how many octabytes from there up
-pub record Stretch : Type 0 where
-  pub first : ℕ
-  pub octas : ℕ
-
-abbrev pub nowhere : Stretch
-nowhere = record { first = 0; octas = 0 }
+-- where a context lies: nowhere, or so many octabytes from the first local's address up
+pub data Span : Type 0 where
+  nowhere : Span
+  octabytes : ℕ → ℕ → Span
 
 -- the context of l locals and threshold g whose first local is at o
-unfoldable pub stretchOf : ℕ → ℕ → ℕ → ℕ → List ℕ → Stretch
-stretchOf o g a l vs = record { first = o; octas = octasOf l g }
+unfoldable pub spanOf : ℕ → ℕ → ℕ → ℕ → List ℕ → Span
+spanOf o g a l vs = octabytes o (octasOf l g)
 
 -- each octabyte of a run of n from a up is held by the window of number k
 unfoldable pub heldBy : Shapes → ℕ → ℕ → ℕ → Bool
@@ -48,20 +45,21 @@ across w a n = not (heldBy w (holder w a) a n)
 unfoldable pub partAt : Windows → ℕ → ℕ → Part
 partAt w a n = record { which = holder (shapesOf w) a; start = offset (windowOf w (holder (shapesOf w) a) .base) a; size = 8 * n }
 
--- 23 is "given only by the reader after UNSAVE's checks"
-unfoldable pub handed : Windows → Outcome Stretch Windows → Outcome Part Windows
-handed w o =
-    cond (eqb (o .reply) 0)
-    (cond (across (shapesOf w) (o .state .first) (o .state .octas))
-    (record { reply = 23; state = emptyPart; memory = o .memory })
-    (record { reply = 0; state = partAt w (o .state .first) (o .state .octas); memory = o .memory }))
-    (record { reply = o .reply; state = emptyPart; memory = o .memory })
+-- r is the reply of UNSAVE's own checks; 23 is "given only by the reader after UNSAVE's checks"
+unfoldable pub handed : Windows → ℕ → Span → Outcome Part Windows
+handed w r nowhere = record { reply = r; state = emptyPart; memory = w }
+handed w r (octabytes a n) =
+    cond (across (shapesOf w) a n) (record { reply = 23; state = emptyPart; memory = w }) (record { reply = r; state = partAt w a n; memory = w })
+
+-- UNSAVE's own checks of the context whose packed octabyte is at p
+abbrev pub checked : Windows → ℕ → Outcome Span Windows
+checked w p = perform both (refusing (shapesOf w)) nowhere (contextAt nowhere spanOf p) w
 
 -- THE reader: its reply and the part
 unfoldable pub readContext : Windows → ℕ → Outcome Part Windows
 readContext w p =
     cond (eqb (unruledBy (shapesOf w)) 0)
-    (handed w (perform both (refusing (shapesOf w)) nowhere (contextAt nowhere stretchOf p) w))
+    (handed w (checked w p .reply) (checked w p .state))
     (record { reply = unruledBy (shapesOf w); state = emptyPart; memory = w })
 
 -- the bytes of a part
