@@ -211,7 +211,7 @@ reader-reply w s x y z a = go (ℕ-discrete (unruledBy (shapesOf w)) 0)
 
 -- ---- the part that the reader hands back
 
-window-ruled : (w : Windows) (k : ℕ) → ruled (shapesOf w) ≡ true → Ruled (shapeOf (windowOf w k))
+pub window-ruled : (w : Windows) (k : ℕ) → ruled (shapesOf w) ≡ true → Ruled (shapeOf (windowOf w k))
 unfolding shapesOf
 window-ruled w k r = on (λ (v : Window). Ruled (shapeOf v)) (eqb k 1) (λ e. ruled-b (shapesOf w) r) (λ e. ruled-a (shapesOf w) r)
 

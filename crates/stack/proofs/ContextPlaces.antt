@@ -1,14 +1,14 @@
 -- Where a context is: an octabyte at an address modulo 2^64, the layout, the stages 6, 14, 15, 6, 16, 6 as code goes through them, what a
 -- layout tells, and the ways out of `locate`. What UNSAVE and the reader make of its answer is in LocateAnswers.
 use mathlib.Core.Path.{_≡_, refl, sym, ap, subst, _∙_}
-use mathlib.Core.Bool.{true, false}
+use mathlib.Core.Bool.{Bool, true, false}
 use mathlib.Core.List.{List, []}
 use Prim.Native.Nat.{ℕ, _+_, _-_, _*_, _/_, _%_, _^_, _≤_, _<_}
 use native.Mathlib.Omega.{arith}
 use lib.Dec.{leb, eqb}
 use lib.ListN.{getD}
 use borrow.Author.Tests.{leb-true, leb-false, le-leb, lt-leb, ne-eqb}
-use Rattle.model.specs.Memory.{Windows, shapesOf, inside, both}
+use Rattle.model.specs.Memory.{Windows, Shapes, shapesOf, inside, both}
 use Rattle.model.specs.Plan.{Plan, answer, read, perform, worst, named, look}
 use Rattle.model.specs.Contexts.{below, contextRest, contextCount, contextAt}
 use Rattle.model.specs.Step.{refusing}
@@ -16,13 +16,13 @@ use Rattle.model.specs.Numbers.{numberOf, replyOf}
 use Rattle.model.specs.declared.Reply.{Reply}
 use Rattle.model.specs.declared.Reply.the-variants.{Missing, SavedThreshold, SavedStatus, SavedCount}
 use Rattle.model.proofs.Bools.{on}
-use Rattle.model.proofs.Memory.{one-lawful}
+use Rattle.model.proofs.Memory.{both-lawful}
 use Rattle.model.proofs.ArmAnswers.{worst-six}
 use Rattle.model.proofs.Runs.{perform-read, worst-of, of-worst}
 use Rattle.model.proofs.SaveUnsave.{refusing-mod, looked, Context, context-found}
-use Rattle.model.proofs.Entry.{performOn, Inside, said, inside-judged}
+use Rattle.model.proofs.Entry.{performOn, Inside, said, judged-inside, inside-judged}
 use Rattle.machine.specs.Octas.{readOcta}
-use Rattle.machine.proofs.Octas.{passed-has, missed-has, read-in, read-mod}
+use Rattle.machine.proofs.Octas.{read-in, read-mod}
 use Rattle.machine.proofs.RunTest.{run-one}
 use Rattle.stack.specs.SaveUnsave.{layoutAt, countReply, layoutNumber, layoutAnswer, LayoutIs, spot, locatedOf, locatedNumber, locatedAnswer, LocatedIs}
 use Rattle.stack.specs.declared.layout.Layout.{Layout}
@@ -34,6 +34,13 @@ use Rattle.stack.specs.declared.layout.SaveContextLayout.{SaveContextLay
 
 -- ---- the octabyte at an address that is taken modulo 2^64
 
+missed-inside : (w : Shapes) (a : ℕ) → (refusing w a ≡ 0 → ⊥) → inside w a ≡ false
+missed-inside w a h = go (inside w a) refl
+  where
+    go : (t : Bool) → inside w a ≡ t → t ≡ false
+    go true e = absurd (h (inside-judged w a e))
+    go false e = refl
+
 module _ (w : Windows) (a m : ℕ) (e : m ≡ a % 2 ^ 64) where
   alike : m % 2 ^ 64 ≡ a % 2 ^ 64
   alike = omega arith
@@ -42,7 +49,7 @@ module _ (w : Windows) (a m : ℕ) (e : m ≡ a % 2 ^ 64) where
   one-in h = sym (refusing-mod (shapesOf w) m a alike) ∙ sym (run-one (shapesOf w) m) ∙ h
 
   one-out : (worst (refusing (shapesOf w)) m 1 ≡ 0 → ⊥) → inside (shapesOf w) a ≡ false
-  one-out h = missed-has (shapesOf w) a (λ z. h (run-one (shapesOf w) m ∙ refusing-mod (shapesOf w) m a alike ∙ z))
+  one-out h = missed-inside (shapesOf w) a (λ z. h (run-one (shapesOf w) m ∙ refusing-mod (shapesOf w) m a alike ∙ z))
 
   one-read : (v : ℕ) → worst (refusing (shapesOf w)) m 1 ≡ 0 → v ≡ readOcta w m → look both w a ≡ v
   one-read v h d = sym (d ∙ read-mod w m a alike ∙ read-in w a (one-in h))
@@ -66,7 +73,7 @@ module _ (w : Windows) (p g marker : ℕ) (e : marker ≡ below p (269 - g) % 2 
 
   module _ (count : ℕ) (h : worst (refusing (shapesOf w)) marker 1 ≡ 0) (d : count ≡ readOcta w marker) where
     count-there : inside (shapesOf w) (below p (269 - g)) ≡ true
-    count-there = passed-has (shapesOf w) (below p (269 - g)) (one-in w (below p (269 - g)) marker e h)
+    count-there = judged-inside (shapesOf w) (below p (269 - g)) (one-in w (below p (269 - g)) marker e h)
 
     count-read : look both w (below p (269 - g)) ≡ count
     count-read = one-read w (below p (269 - g)) marker e count h d
@@ -99,7 +106,7 @@ module _ {S : Type 0} (w : Windows) (s bad : S) (found : ℕ → ℕ → ℕ →
   at-open : (v : ℕ) → Inside w p 1 → look both w p ≡ v → performOn w s (contextAt bad found p) ≡ performOn w s (contextCount bad found p (v / 2 ^ 56) (v % 2 ^ 56))
   unfolding contextAt
   at-open v h e =
-      perform-read both one-lawful (refusing (shapesOf w)) s 6 p 1 (λ v. contextCount bad found p (getD v 0 0 / 2 ^ 56) (getD v 0 0 % 2 ^ 56)) w h
+      perform-read both both-lawful (refusing (shapesOf w)) s 6 p 1 (λ v. contextCount bad found p (getD v 0 0 / 2 ^ 56) (getD v 0 0 % 2 ^ 56)) w h
       ∙ rw (looked w p, e)
 
   count-low : (g a : ℕ) → g < 32 → Ends 14 bad (contextCount bad found p g a)
@@ -123,7 +130,7 @@ module _ {S : Type 0} (w : Windows) (s bad : S) (found : ℕ → ℕ → ℕ →
       unfolding contextCount
       count-open l h e =
           rw (le-leb 32 g lo, le-leb g 255 hi, le-leb a 0x3FFFF am)
-          (perform-read both one-lawful (refusing (shapesOf w)) s 6 (below p (269 - g)) 1 (λ v. contextRest bad found p g a (getD v 0 0)) w h
+          (perform-read both both-lawful (refusing (shapesOf w)) s 6 (below p (269 - g)) 1 (λ v. contextRest bad found p g a (getD v 0 0)) w h
           ∙ rw (looked w (below p (269 - g)), e))
 
   rest-many : (g a l : ℕ) → g < l → Ends 16 bad (contextRest bad found p g a l)
@@ -185,7 +192,7 @@ has-inside w a h = run-one (shapesOf w) a ∙ inside-judged (shapesOf w) a h
 
 not-inside : (w : Windows) (a : ℕ) → inside (shapesOf w) a ≡ false → Inside w a 1 → ⊥
 not-inside w a h i =
-    let t : inside (shapesOf w) a ≡ true = passed-has (shapesOf w) a (sym (run-one (shapesOf w) a) ∙ i) in
+    let t : inside (shapesOf w) a ≡ true = judged-inside (shapesOf w) a (sym (run-one (shapesOf w) a) ∙ i) in
     let z : _≡_ {A = ℕ} 0 1 = cc in
     omega arith
 

@@ -1,36 +1,28 @@
--- A guarded plan as judged: what a branch on `!b` tells; 1, 2, or the plan; 6, where an octabyte that it reads or stores is missing; and
--- the run that code tests, with the reply of its number. The answers of each function are in PushPopAnswers, SaveUnsaveAnswers and
+-- A guarded plan as judged: 1, 2 or 22, or the plan; 6, where an octabyte that it reads or stores is missing; what the windows' number
+-- says; and the run that code tests, with the reply of its number. The answers of each function are in PushPopAnswers, SaveUnsaveAnswers and
 -- ReaderAnswers.
 use mathlib.Core.Path.{_≡_, sym, ap, _∙_}
-use mathlib.Core.Bool.{Bool, true, false, not}
+use mathlib.Core.Logic.{⊎-elim, inl, inr}
+use mathlib.Core.Bool.{true, false}
 use mathlib.Core.List.{List}
 use Prim.Native.Nat.{ℕ, _≤_}
 use native.Mathlib.Omega.{arith}
 use lib.Dec.{eqb}
 use lib.ListN.{length}
 use borrow.Author.Tests.{ne-eqb}
-use Rattle.model.specs.Memory.{Windows, shapesOf, ruled}
+use Rattle.model.specs.Memory.{Windows, shapesOf}
 use Rattle.model.specs.Plan.{Plan, answer, read, Outcome, perform, worst, named}
 use Rattle.model.specs.Registers.{admissible}
-use Rattle.model.specs.Step.{refusing}
+use Rattle.model.specs.Step.{unruledBy, refusing}
 use Rattle.model.specs.Numbers.{Lost, replyOf}
 use Rattle.model.specs.declared.State.{State}
 use Rattle.model.specs.declared.Reply.{Reply}
 use Rattle.model.specs.declared.Reply.the-variants.{Missing}
 use Rattle.model.proofs.Runs.{worst-of, of-worst}
-use Rattle.model.proofs.Entry.{performOn, Inside}
+use Rattle.model.proofs.Entry.{performOn, Inside, unruled-is}
 use Rattle.model.proofs.Entry as entry
 use Rattle.model.proofs.ArmAnswers.{worst-six}
-use Rattle.stack.specs.GivenBack.{guardedOn}
-
--- a judgement t, which code has as b and branches on as `!b`
-pub denied : (b t : Bool) → b ≡ t → not b ≡ true → t ≡ false
-denied true t e h = sym e ∙ sym h
-denied false t e h = sym e
-
-pub granted : (b t : Bool) → b ≡ t → not b ≡ false → t ≡ true
-granted true t e h = sym e
-granted false t e h = sym e ∙ sym h
+use Rattle.stack.specs.GivenBack.{Unruled, guardedOn}
 
 abbrev pub ended : {S : Type 0} → ℕ → S → Windows → Outcome S Windows
 ended n t v = record { reply = n; state = t; memory = v }
@@ -40,11 +32,12 @@ module _ (w : Windows) (s : State) where
   unfolding guardedOn
   guarded-one p a = entry.guarded-one w s s p a
 
-  pub guarded-two : (p : Plan State) → admissible s ≡ true → ruled (shapesOf w) ≡ false → guardedOn w s p ≡ ended 2 s w
+  -- 2 or 22, by the number n that refuses the windows
+  pub guarded-unruled : (p : Plan State) → admissible s ≡ true → (n : ℕ) → n ≡ unruledBy (shapesOf w) → (n ≡ 0 → ⊥) → guardedOn w s p ≡ ended n s w
   unfolding guardedOn
-  guarded-two p a r = entry.guarded-two w s s p a r
+  guarded-unruled p a n e f = entry.guarded-unruled w s s p a (λ z. f (e ∙ z)) ∙ ap (λ (k : ℕ). ended k s w) (sym e)
 
-  pub guarded-open : (p : Plan State) → admissible s ≡ true → ruled (shapesOf w) ≡ true → guardedOn w s p ≡ performOn w s p
+  pub guarded-open : (p : Plan State) → admissible s ≡ true → unruledBy (shapesOf w) ≡ 0 → guardedOn w s p ≡ performOn w s p
   unfolding guardedOn
   guarded-open p a r = entry.guarded-open w s s p a r
 
@@ -58,6 +51,10 @@ module _ (w : Windows) (s : State) where
   pub store-lacks : (r : ℕ) (t : State) (a : ℕ) (vs : List ℕ) → (Inside w a (length vs) → ⊥) → performOn w s (answer r t a vs) ≡ ended 6 s w
   unfolding perform
   store-lacks r t a vs f = rw (lacking a (length vs) f, worst-six (shapesOf w) (length vs) a (lacking a (length vs) f))
+
+pub unruled-by : (w : Windows) (n : ℕ) → n ≡ unruledBy (shapesOf w) → (n ≡ 0 → ⊥) → Unruled n
+unruled-by w n e f =
+    ⊎-elim (λ z. absurd (f (e ∙ z))) (⊎-elim (λ two. inl (e ∙ two)) (λ shared. inr (e ∙ shared))) (unruled-is (shapesOf w))
 
 -- the run that code judges against the one that is needed: where the longer passes the shorter does, where the shorter fails the longer does
 module _ (w : Windows) (a m n r : ℕ) where

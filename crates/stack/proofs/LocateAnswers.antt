@@ -86,7 +86,7 @@ module _ {S : Type 0} (w : Windows) (p : ℕ) (s bad : S) (found : ℕ → ℕ �
       read-alike p 1 (λ v. contextCount bad found p (getD v 0 0 / 2 ^ 56) (getD v 0 0 % 2 ^ 56)) (λ v. contextCount (spot 0 0 0 0) here p (getD v 0 0 / 2 ^ 56) (getD v 0 0 % 2 ^ 56))
       (λ i. count-alike _ _)
 
--- a context that was found: its bounds, and that all of it lies in the window
+-- a context that was found: its bounds, and that all of it is lent
 pub record Standing (w : Windows) (c : SavedContext) : Type 0 where
   pub g-high : c .rg ≤ 255
   pub l-g : c .count ≤ c .rg

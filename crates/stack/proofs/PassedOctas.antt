@@ -1,4 +1,4 @@
--- An octabyte that the layer above reads or writes by `pass`: where it lies in the window, it is the model's.
+-- An octabyte that the layer above reads or writes by `pass`: where it is lent, it is the model's.
 use mathlib.Core.Path.{_≡_}
 use Prim.Native.Nat.{ℕ}
 use Rattle.model.specs.Memory.{Windows, shapesOf, putOcta, both}

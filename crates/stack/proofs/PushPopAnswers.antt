@@ -1,6 +1,7 @@
--- What PUSH and POP answer and leave, for each way out of the code: 1, 2, the octabytes that are there, those that are not. What the
+-- What PUSH and POP answer and leave, for each way out of the code: 1, 2 and 22, the octabytes that are there, those that are not. What the
 -- registers are is in PushPopRegisters.
 use mathlib.Core.Path.{_≡_, refl, sym, ap, _∙_}
+use mathlib.Core.Logic.{⊎-elim}
 use mathlib.Core.Bool.{true, false}
 use mathlib.Core.List.{List, []}
 use Prim.Native.Nat.{ℕ, _+_, _-_, _*_, _%_, _^_, _≤_, _<_, min}
@@ -8,17 +9,17 @@ use native.Mathlib.Omega.{arith}
 use lib.ListN.{length, getD}
 use borrow.Author.Tests.{lt-leb, le-leb}
 use Rattle.model.specs.Fill.{tab}
-use Rattle.model.specs.Memory.{Windows, shapesOf, ruled, both}
+use Rattle.model.specs.Memory.{Windows, shapesOf, both}
 use Rattle.model.specs.Plan.{answer, looks, puts}
 use Rattle.model.specs.Registers.{rJ, rO, rG, stackStart, sp, admissible, goes, halted, withSpecial, spilled}
 use Rattle.model.specs.NoMemory.{tell}
-use Rattle.model.specs.Step.{refusing}
+use Rattle.model.specs.Step.{unruledBy, refusing}
 use Rattle.model.specs.Numbers.{replyOf}
 use Rattle.model.specs.Frames.{hole, framed, pushed, pushedRule, slide, pushFrame, popped, unslide, popTo, popRule, noFrame, misplaced, popFrame}
 use Rattle.model.specs.declared.State.{State}
 use Rattle.model.specs.declared.Reply.{Reply}
 use Rattle.model.specs.declared.Reply.the-variants as reply
-use Rattle.model.proofs.Memory.{one-lawful}
+use Rattle.model.proofs.Memory.{both-lawful}
 use Rattle.model.proofs.Runs.{length-tab, getD-looks, perform-read}
 use Rattle.model.proofs.Entry.{performOn, Inside, said}
 use Rattle.model.proofs.PushPop.{called, push-is}
@@ -27,8 +28,8 @@ use Rattle.machine.proofs.Octas.{run-read}
 use Rattle.stack.specs.GivenBack.{Gives}
 use Rattle.stack.specs.PushPop.{pushOf, popOf, popNumber, popAnswer, PopGives}
 use Rattle.stack.specs.declared.frame.PopFrame.{PopFrame}
-use Rattle.stack.specs.declared.frame.PopFrame.the-variants.{Frame, NoFrame, Rejected, Missing, NotAdmissible, WindowRule}
-use Rattle.stack.proofs.Judged.{ended, guarded-one, guarded-two, guarded-open, read-lacks, store-lacks}
+use Rattle.stack.specs.declared.frame.PopFrame.the-variants.{Frame, NoFrame, Rejected, Missing, NotAdmissible, WindowRule, Shared}
+use Rattle.stack.proofs.Judged.{ended, guarded-one, guarded-unruled, guarded-open, unruled-by, read-lacks, store-lacks}
 
 -- ---- PUSH
 
@@ -44,11 +45,10 @@ module _ (w : Windows) (s : State) (x : ℕ) where
   unfolding replyOf
   push-one a = gives 1 reply.NotAdmissible s s w w (unfold pushOf in (guarded-one w s _ a)) refl stays refl
 
-  pub push-two : admissible s ≡ true → ruled (shapesOf w) ≡ false → Gives (pushOf w s x) s reply.WindowRule s w
-  unfolding replyOf
-  push-two a r = gives 2 reply.WindowRule s s w w (unfold pushOf in (guarded-two w s _ a r)) refl stays refl
+  pub push-unruled : admissible s ≡ true → (n : ℕ) → n ≡ unruledBy (shapesOf w) → (n ≡ 0 → ⊥) → (q : Reply) → q ≡ replyOf n → Gives (pushOf w s x) s q s w
+  push-unruled a n e f q d = gives n q s s w w (unfold pushOf in (guarded-unruled w s _ a n e f)) d stays refl
 
-  module _ (a : admissible s ≡ true) (r : ruled (shapesOf w) ≡ true) (h : ℕ) (e : h ≡ hole s x) where
+  module _ (a : admissible s ≡ true) (r : unruledBy (shapesOf w) ≡ 0) (h : ℕ) (e : h ≡ hole s x) where
     push-open : pushOf w s x ≡ performOn w s (pushFrame s h (s .pc))
     unfolding pushOf
     push-open = guarded-open w s _ a r ∙ ap (λ (n : ℕ). performOn w s (pushFrame s n (s .pc))) (sym e)
@@ -62,7 +62,7 @@ module _ (w : Windows) (s : State) (x : ℕ) where
     pub push-done : (t : State) (v : Windows) → Inside w (sp s rO) (h + 1) → v ≡ puts both w (sp s rO) (tab 0 (h + 1) (framed s h)) → t ≡ pushed s h → Gives (pushOf w s x) s reply.Done t v
     unfolding replyOf
     push-done t v i ev et =
-        gives 0 reply.Done t (called s h (s .pc)) v _ (push-open ∙ push-is both one-lawful (refusing (shapesOf w)) s h (s .pc) w i) refl (et ∙ back) ev
+        gives 0 reply.Done t (called s h (s .pc)) v _ (push-open ∙ push-is both both-lawful (refusing (shapesOf w)) s h (s .pc) w i) refl (et ∙ back) ev
       where
         back : pushed s h ≡ goes (goes (pushed s h) (s .pc)) (s .pc)
         back = unfold goes pushed pushedRule slide spilled withSpecial in refl
@@ -81,11 +81,18 @@ module _ (w : Windows) (s : State) (x yz : ℕ) where
   unfolding popAnswer popNumber
   pop-one a = pops 1 NotAdmissible s s (unfold popOf in (guarded-one w s _ a)) refl refl as-was
 
-  pub pop-two : admissible s ≡ true → ruled (shapesOf w) ≡ false → PopGives w s x yz WindowRule s
-  unfolding popAnswer popNumber
-  pop-two a r = pops 2 WindowRule s s (unfold popOf in (guarded-two w s _ a r)) refl refl as-was
+  module _ (a : admissible s ≡ true) (n : ℕ) (e : n ≡ unruledBy (shapesOf w)) where
+    pub pop-two : n ≡ 2 → PopGives w s x yz WindowRule s
+    unfolding popAnswer popNumber
+    pop-two two = pops 2 WindowRule s s (unfold popOf in (guarded-unruled w s _ a 2 (sym two ∙ e) (λ z. omega arith))) refl refl as-was
 
-  module _ (a : admissible s ≡ true) (r : ruled (shapesOf w) ≡ true) where
+    pub pop-shared : (n ≡ 2 → ⊥) → (n ≡ 0 → ⊥) → PopGives w s x yz Shared s
+    unfolding popAnswer popNumber
+    pop-shared f g =
+        let shared : n ≡ 22 = ⊎-elim (λ two. absurd (f two)) (λ z. z) (unruled-by w n e g) in
+        pops 22 Shared s s (unfold popOf in (guarded-unruled w s _ a 22 (sym shared ∙ e) (λ z. omega arith))) refl refl as-was
+
+  module _ (a : admissible s ≡ true) (r : unruledBy (shapesOf w) ≡ 0) where
     pop-open : popOf w s x ≡ performOn w s (popFrame s x (s .pc))
     unfolding popOf
     pop-open = guarded-open w s _ a r
@@ -117,13 +124,13 @@ module _ (w : Windows) (s : State) (x yz : ℕ) where
           hole-read =
               let z : sp s rO - 8 + 8 * 0 ≡ sp s rO - 8 = omega arith in
               let q : getD (looks both w (sp s rO - 8) 1) 0 0 ≡ readOcta w (sp s rO - 8)
-              = getD-looks both one-lawful 1 w (sp s rO - 8) 0 (omega arith) ∙ sym (run-read w (sp s rO - 8) 1 i 0 (sp s rO - 8 + 8 * 0) (omega arith) refl) ∙ ap (readOcta w) z in
+              = getD-looks both both-lawful 1 w (sp s rO - 8) 0 (omega arith) ∙ sym (run-read w (sp s rO - 8) 1 i 0 (sp s rO - 8 + 8 * 0) (omega arith) refl) ∙ ap (readOcta w) z in
               ap (λ (n : ℕ). n % 256) q ∙ sym e
 
           pop-to : popOf w s x ≡ performOn w s (popTo s x (s .pc) h)
           unfolding popRule
           pop-to =
-              pop-rule ∙ perform-read both one-lawful (refusing (shapesOf w)) s 6 (sp s rO - 8) 1 (λ v. popTo s x (s .pc) (getD v 0 0 % 256)) w i
+              pop-rule ∙ perform-read both both-lawful (refusing (shapesOf w)) s 6 (sp s rO - 8) 1 (λ v. popTo s x (s .pc) (getD v 0 0 % 256)) w i
               ∙ ap (λ (n : ℕ). performOn w s (popTo s x (s .pc) n)) hole-read
 
           pub pop-short : (Inside w (sp s rO - 8 * (h + 1)) (min h (sp s rG)) → ⊥) → PopGives w s x yz Missing s
@@ -136,7 +143,7 @@ module _ (w : Windows) (s : State) (x yz : ℕ) where
           pop-done t target j et eg =
               let ls = looks both w (sp s rO - 8 * (h + 1)) (min h (sp s rG)) in
               pops 0 (Frame target) t (goes (popped s x h ls) (s .pc))
-              (pop-to ∙ perform-read both one-lawful (refusing (shapesOf w)) s 6 (sp s rO - 8 * (h + 1)) (min h (sp s rG)) (λ ls. answer 0 (goes (popped s x h ls) (s .pc)) 0 []) w j ∙ said w s _ 0)
+              (pop-to ∙ perform-read both both-lawful (refusing (shapesOf w)) s 6 (sp s rO - 8 * (h + 1)) (min h (sp s rG)) (λ ls. answer 0 (goes (popped s x h ls) (s .pc)) 0 []) w j ∙ said w s _ 0)
               (rw (lt-leb _ _ above, eg)) refl (et ∙ back ls)
             where
               back : (ls : List ℕ) → popped s x h ls ≡ goes (goes (popped s x h ls) (s .pc)) (s .pc)

@@ -1,4 +1,4 @@
--- What code does to registers and window for PUSH and POP is what the definitions do, from the facts that its calls leave: what judging
+-- What code does to registers and windows for PUSH and POP is what the definitions do, from the facts that its calls leave: what judging
 -- gives, PUSH, POP. What is answered is in PushPopAnswers.
 use mathlib.Core.Path.{_≡_, refl, sym, ap, _∙_}
 use mathlib.Core.Logic.{⊎-elim}
@@ -22,14 +22,13 @@ use Rattle.model.specs.Step.{refusing}
 use Rattle.model.specs.declared.State.{State}
 use Rattle.model.proofs.Fill.{lt-or-le, length-over, over-in, over-below, over-above, over-after}
 use Rattle.model.proofs.PopOrder.{first-general, then-clears}
-use Rattle.model.proofs.Bools.{and-right}
-use Rattle.model.proofs.Memory.{one-lawful}
+use Rattle.model.proofs.Bools.{and-right, granted}
+use Rattle.model.proofs.Memory.{both-lawful}
 use Rattle.model.proofs.Runs.{getD-looks}
 use Rattle.model.proofs.AdmissibleKept.{adm, spec-other}
-use Rattle.machine.specs.Octas.{readOcta, writtenOcta, writtenRange}
+use Rattle.machine.specs.Octas.{writtenRangeBy, readOcta, writtenOcta, writtenRange}
 use Rattle.machine.proofs.Octas.{puts-none, puts-tab, puts-run, run-read}
 use Rattle.stack.specs.PushPop.{Held, Placed, bottomOf, betweenBy}
-use Rattle.stack.proofs.Judged.{granted}
 
 -- ---- what judging gives
 
@@ -89,7 +88,7 @@ framed-hole s h = rw (le-ltb h h (omega arith))
 -- its locals, which are a range of the registers
 pub locals-stored : (w u : Windows) (s : State) (a h : ℕ) → h ≤ 255 → worst (refusing (shapesOf w)) a (h + 1) ≡ 0
     → u ≡ writtenRange w a 0 h (s .general) → u ≡ puts both w a (tab 0 h (framed s h))
-unfolding writtenRange
+unfolding writtenRangeBy
 locals-stored w u s a h l pass e =
     let n : min h 256 - 0 ≡ h = omega arith in
     let z : (i : ℕ) → 0 + i ≡ i = λ i. omega arith in
@@ -155,7 +154,7 @@ module _ (w : Windows) (bottom h low x : ℕ) (s : State) (el : low ≡ lowered 
       let m : min h low ≡ min h (sp s rG) = omega arith in
       let n : k < min h low = omega arith in
       rw (e, lt-ltb k h a) (run-read w bottom (min h low) pass k (bottom + 8 * k) n refl
-      ∙ sym (ap (λ (j : ℕ). getD (looks both w bottom j) k 0) (sym m) ∙ getD-looks both one-lawful (min h low) w bottom k n))
+      ∙ sym (ap (λ (j : ℕ). getD (looks both w bottom j) k 0) (sym m) ∙ getD-looks both both-lawful (min h low) w bottom k n))
 
   moved-in : (k : ℕ) → k < length g → h < k → k < low → getD moved k 0 ≡ by-rule k
   unfolding restored
@@ -223,7 +222,7 @@ module _ (w : Windows) (bottom h low x : ℕ) (s : State) (el : low ≡ lowered 
 pub below : (ro d : ℕ) → stackStart < ro → ro < 0x8000000000000000 → d ≤ 2048 → (ro + (2 ^ 64 - d)) % 2 ^ 64 ≡ ro - d
 below ro d a b l = omega arith
 
--- what code asks of the window below rO
+-- what code asks of the windows below rO
 module _ (w : Windows) (l : List ℕ) (placed : Placed l) where
   module _ (b : ℕ) (e : b ≡ (getD l rO 0 + (2 ^ 64 - 8)) % 2 ^ 64) where
     at-hole : b ≡ getD l rO 0 - 8

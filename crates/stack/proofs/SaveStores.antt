@@ -16,7 +16,7 @@ use Rattle.model.specs.Parts.{made}
 use Rattle.model.specs.declared.State.{State}
 use Rattle.model.proofs.AdmissibleKept.{Adm}
 use Rattle.model.proofs.SaveUnsave.{saved-local, saved-count, saved-global, saved-twelve, saved-packed}
-use Rattle.machine.specs.Octas.{writtenOcta, writtenRun, writtenRange}
+use Rattle.machine.specs.Octas.{writtenRangeBy, writtenOcta, writtenRun, writtenRange}
 use Rattle.machine.proofs.Octas.{puts-none, puts-tab, puts-run}
 use Rattle.stack.specs.ContextWork.{Ranged, StoresContext, leftGeneral, leftSpecial}
 
@@ -32,7 +32,7 @@ continued w v u o addr k m n c f g h d e a l p q =
 -- a range of registers as such a run
 ranged-run : (v u : Windows) (addr from to n : ℕ) (general : List ℕ) → u ≡ writtenRange v addr from to general → min to 256 - from ≡ n
     → u ≡ writtenRun v addr n (λ i. getD general (from + i) 0)
-unfolding writtenRange
+unfolding writtenRangeBy
 ranged-run v u addr from to n general e d = e ∙ rw d
 
 -- ---- the context

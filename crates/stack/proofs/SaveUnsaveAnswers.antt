@@ -7,17 +7,17 @@ use Prim.Native.Nat.{ℕ, _-_, _≤_, _<_}
 use lib.Dec.{eqb}
 use borrow.Author.Tests.{lt-ltb, le-ltb, eq-eqb, ne-eqb}
 use Rattle.model.specs.Fill.{tab}
-use Rattle.model.specs.Memory.{Windows, shapesOf, ruled, both}
+use Rattle.model.specs.Memory.{Windows, shapesOf, both}
 use Rattle.model.specs.Plan.{Outcome, perform, worst, puts}
 use Rattle.model.specs.Registers.{rO, rG, sp, admissible, goes, next, halted, stored, spilled, withSpecial}
 use Rattle.model.specs.Contexts.{extent, saved, savedUnspilled, savedState, saveContext, unsavedUnspilled, unsaved, contextAt, unsaveContext}
 use Rattle.model.specs.NoMemory.{tell}
-use Rattle.model.specs.Step.{refusing}
+use Rattle.model.specs.Step.{unruledBy, refusing}
 use Rattle.model.specs.Numbers.{numberOf, replyOf}
 use Rattle.model.specs.Parts.{made}
 use Rattle.model.specs.declared.State.{State}
 use Rattle.model.specs.declared.Reply.{Reply}
-use Rattle.model.specs.declared.Reply.the-variants.{Done, NotAdmissible, WindowRule, Missing, SaveLocal}
+use Rattle.model.specs.declared.Reply.the-variants.{Done, NotAdmissible, Missing, SaveLocal}
 use Rattle.model.proofs.AdmissibleKept.{Adm, adm}
 use Rattle.model.proofs.ArmAnswers.{worst-six}
 use Rattle.model.proofs.Runs.{length-tab}
@@ -29,7 +29,7 @@ use Rattle.stack.specs.ContextWork.{Ranged, StoresContext, unsavedAs}
 use Rattle.stack.specs.declared.layout.SavedContext.{SavedContext}
 use Rattle.stack.specs.declared.layout.Located.{Located}
 use Rattle.stack.specs.declared.layout.Located.the-variants.{Found, Bad, Lost}
-use Rattle.stack.proofs.Judged.{guarded-one, guarded-two, guarded-open}
+use Rattle.stack.proofs.Judged.{guarded-one, guarded-unruled, guarded-open}
 use Rattle.stack.proofs.LocateAnswers.{comes}
 
 -- the bounds of an admissible state
@@ -61,11 +61,11 @@ module _ (w : Windows) (s : State) (x : ℕ) where
   save-state a = kept w s _ 1 NotAdmissible refl (guarded-one w s (saveContext s x) a)
 
   module _ (a : admissible s ≡ true) where
-    pub save-window : ruled (shapesOf w) ≡ false → Gives (saveOf w s x) s WindowRule s w
-    unfolding saveOf replyOf
-    save-window r = kept w s _ 2 WindowRule refl (guarded-two w s (saveContext s x) a r)
+    pub save-unruled : (n : ℕ) → n ≡ unruledBy (shapesOf w) → (n ≡ 0 → ⊥) → (q : Reply) → q ≡ replyOf n → Gives (saveOf w s x) s q s w
+    unfolding saveOf
+    save-unruled n e f q d = kept w s _ n q d (guarded-unruled w s (saveContext s x) a n e f)
 
-    module _ (r : ruled (shapesOf w) ≡ true) where
+    module _ (r : unruledBy (shapesOf w) ≡ 0) where
       pub save-local : x < sp s rG → Gives (saveOf w s x) s SaveLocal (halted s) w
       unfolding saveOf replyOf
       save-local l = halts w s _ 13 SaveLocal refl (guarded-open w s (saveContext s x) a r ∙ plan)
@@ -105,11 +105,11 @@ module _ (w : Windows) (s : State) (p : ℕ) where
   unsave-state a = kept w s _ 1 NotAdmissible refl (guarded-one w s (unsaveContext s p) a)
 
   module _ (a : admissible s ≡ true) where
-    pub unsave-window : ruled (shapesOf w) ≡ false → Gives (unsaveOf w s p) s WindowRule s w
-    unfolding unsaveOf replyOf
-    unsave-window r = kept w s _ 2 WindowRule refl (guarded-two w s (unsaveContext s p) a r)
+    pub unsave-unruled : (n : ℕ) → n ≡ unruledBy (shapesOf w) → (n ≡ 0 → ⊥) → (q : Reply) → q ≡ replyOf n → Gives (unsaveOf w s p) s q s w
+    unfolding unsaveOf
+    unsave-unruled n e f q d = kept w s _ n q d (guarded-unruled w s (unsaveContext s p) a n e f)
 
-    module _ (r : ruled (shapesOf w) ≡ true) (at : Located) (h : LocatedIs w p at) where
+    module _ (r : unruledBy (shapesOf w) ≡ 0) (at : Located) (h : LocatedIs w p at) where
       abbrev found : ℕ → ℕ → ℕ → ℕ → List ℕ → State
       found o g a l vs = next (unsaved s o g a l vs)
 

@@ -21,7 +21,7 @@ use Rattle.model.specs.Parts.{made}
 use Rattle.model.specs.declared.State.{State}
 use Rattle.model.proofs.Bools.{on, and-left, and-right}
 use Rattle.model.proofs.Fill.{lt-or-le, length-over, over-in, over-below, over-above}
-use Rattle.model.proofs.Memory.{one-lawful}
+use Rattle.model.proofs.Memory.{both-lawful}
 use Rattle.model.proofs.Runs.{getD-tab, length-tab, getD-looks}
 use Rattle.model.proofs.SaveUnsave.{further, savedSpecial-low, savedSpecial-high}
 use Rattle.machine.specs.Octas.{readOcta}
@@ -49,7 +49,7 @@ octas-are w a b n p e =
     ext-getD 0 (octasFrom w b n) (looks both w a n) (length-octas w b n ∙ sym (length-looks n w a))
     (λ i h. let l : i < n = omega (arith, length-octas w b n) in
     let m : (b + 8 * i) % 2 ^ 64 % 2 ^ 64 ≡ (a + 8 * i) % 2 ^ 64 = omega arith in
-    octa-at w b n i l ∙ read-mod w ((b + 8 * i) % 2 ^ 64) (a + 8 * i) m ∙ run-read w a n p i (a + 8 * i) l refl ∙ sym (getD-looks both one-lawful n w a i l))
+    octa-at w b n i l ∙ read-mod w ((b + 8 * i) % 2 ^ 64) (a + 8 * i) m ∙ run-read w a n p i (a + 8 * i) l refl ∙ sym (getD-looks both both-lawful n w a i l))
 
 -- ---- the general registers, part by part: the locals, those between cleared, the globals
 

@@ -1,5 +1,7 @@
--- How an answer, a state and a window given back stand to an outcome of the model.
+-- How an answer, a state and windows given back stand to an outcome of the model.
 use mathlib.Core.Path.{_≡_}
+use mathlib.Core.Logic.{_⊎_}
+use Prim.Native.Nat.{ℕ}
 use Rattle.model.specs.Memory.{Windows, shapesOf, both}
 use Rattle.model.specs.Plan.{Plan, Outcome, perform}
 use Rattle.model.specs.Registers.{goes}
@@ -8,7 +10,11 @@ use Rattle.model.specs.Numbers.{replyOf}
 use Rattle.model.specs.declared.State.{State}
 use Rattle.model.specs.declared.Reply.{Reply}
 
--- 1, then 2, then the plan
+-- a number by which windows are refused
+abbrev pub Unruled : ℕ → Type 0
+Unruled n = (n ≡ 2) ⊎ (n ≡ 22)
+
+-- 1, then 2 and 22, then the plan
 unfoldable pub guardedOn : Windows → State → Plan State → Outcome State Windows
 guardedOn w s p = perform both (refusing (shapesOf w)) s (guarded s s (shapesOf w) p) w
 

@@ -5,16 +5,17 @@ use mathlib.Core.Bool.{true, false, cond}
 use mathlib.Core.List.{List}
 use lib.Dec.{eqb}
 use lib.ListN.{length, getD}
-use Rattle.model.specs.Memory.{Windows, shapesOf, ruled, both}
+use Rattle.model.specs.Memory.{Windows, shapesOf, both}
 use Rattle.model.specs.Plan.{Outcome, looks}
 use Rattle.model.specs.Registers.{rJ, rO, rG, rL, stackStart, sp, admissible, goes}
 use Rattle.model.specs.Frames.{hole, pushFrame, noFrame, misplaced, popped, popFrame}
 use Rattle.model.specs.PopOrder.{between}
+use Rattle.model.specs.Step.{unruledBy}
 use Rattle.stack.specs.GivenBack.{guardedOn, Gives}
 use Rattle.model.specs.declared.State.{State}
 use Rattle.model.specs.declared.Reply.{Reply}
 use Rattle.stack.specs.declared.frame.PopFrame.{PopFrame}
-use Rattle.stack.specs.declared.frame.PopFrame.the-variants.{Frame, NoFrame, Rejected, Missing, NotAdmissible, WindowRule}
+use Rattle.stack.specs.declared.frame.PopFrame.the-variants.{Frame, NoFrame, Rejected, Missing, NotAdmissible, WindowRule, Shared}
 
 -- PUSH with x; where the call goes is the arm's business
 unfoldable pub pushOf : Windows → State → ℕ → Outcome State Windows
@@ -40,12 +41,13 @@ popNumber Rejected = 12
 popNumber Missing = 6
 popNumber NotAdmissible = 1
 popNumber WindowRule = 2
+popNumber Shared = 22
 
 -- the case of each number, with its value
 unfoldable pub popAnswer : State → ℕ → ℕ → PopFrame
 popAnswer s yz n =
     cond (eqb n 0) (cond (noFrame s) NoFrame (Frame (returnTo s yz)))
-    (cond (eqb n 12) Rejected (cond (eqb n 6) Missing (cond (eqb n 1) NotAdmissible WindowRule)))
+    (cond (eqb n 12) Rejected (cond (eqb n 6) Missing (cond (eqb n 1) NotAdmissible (cond (eqb n 2) WindowRule Shared))))
 
 pub record PopGives (w : Windows) (s : State) (x yz : ℕ) (r : PopFrame) (t : State) : Type 0 where
   pub answer-is : r ≡ popAnswer s yz (popOf w s x .reply)
@@ -54,10 +56,10 @@ pub record PopGives (w : Windows) (s : State) (x yz : ℕ) (r : PopFrame) (t : S
 
 -- ---- what the private functions go by
 
--- what has passed 1, 2 and 12
+-- what has passed 1, 2, 22 and 12
 pub record Passed (w : Windows) (s : State) : Type 0 where
   pub state-good : admissible s ≡ true
-  pub window-good : ruled (shapesOf w) ≡ true
+  pub windows-good : unruledBy (shapesOf w) ≡ 0
   pub place-good : misplaced s ≡ false
 
 abbrev pub PassedPopGives : Windows → State → ℕ → ℕ → PopFrame → State → Type 0

@@ -1,21 +1,24 @@
 -- What save_context, unsave_context, save_context_layout, locate, place_context and read_context answer and leave.
-use Prim.Native.Nat.{ℕ, _+_, _-_, _%_, _^_, _≤_}
+use Prim.Native.Nat.{ℕ, _+_, _-_, _*_, _%_, _^_, _≤_}
 use mathlib.Core.List.{List}
 use mathlib.Core.Path.{_≡_}
 use mathlib.Core.Bool.{cond}
-use lib.Dec.{leb, eqb}
+use lib.Dec.{leb, ltb, eqb}
 use lib.ListN.{length}
 use denote.Ref.{RefT, ptr, now}
-use Rattle.model.specs.Memory.{Windows, shapesOf, inside, both}
+use Rattle.model.specs.Memory.{Window, shapeOf, offset, Windows, shapesOf, inside, both}
 use Rattle.model.specs.Plan.{Outcome, perform, look}
 use Rattle.model.specs.Contexts.{below, saveContext, contextAt, unsaveContext, packedAt, countBelow}
 use Rattle.model.specs.Step.{refusing}
-use Rattle.model.specs.Reader.{readContext, bytesIn}
+use Rattle.model.specs.Reader.{windowOf, across, partAt, readContext, bytesIn}
 use Rattle.model.specs.Numbers.{numberOf, replyOf}
 use Rattle.model.specs.Parts.{lent}
+use Rattle.machine.specs.Octas.{roomIn}
 use Rattle.stack.specs.GivenBack.{guardedOn, Gives}
+use Rattle.model.specs.declared.Bases.{Bases}
 use Rattle.model.specs.declared.State.{State}
 use Rattle.model.specs.declared.Reply.{Reply}
+use Rattle.model.specs.declared.Reply.the-variants.{Done, Across}
 use Rattle.stack.specs.declared.layout.SavedContext.{SavedContext}
 use Rattle.stack.specs.declared.layout.Located.{Located}
 use Rattle.stack.specs.declared.layout.Located.the-variants.{Found, Bad, Lost}
@@ -88,20 +91,34 @@ pub record LocatedIs (w : Windows) (p : ℕ) (r : Located) : Type 0 where
   pub answer-is : r ≡ locatedAnswer (locatedOf w p .reply) (locatedOf w p .state)
   pub number-is : locatedNumber r ≡ locatedOf w p .reply
 
-unfoldable pub placed : Reply → ℕ → ℕ → Place
-placed reply start size = record { reply = reply; start = start; size = size }
+unfoldable pub placed : Reply → ℕ → ℕ → ℕ → Place
+placed reply which start size = record { reply = reply; which = which; start = start; size = size }
 
--- the reader's reply and part; the part lies in the window
+-- n octabytes from a up as a part of the window v of number k, where that has room for them all
+unfoldable pub partIn : ℕ → Window → ℕ → ℕ → Place
+partIn k v a n = cond (ltb (roomIn (shapeOf v) a) n) (placed Across 0 0 0) (placed Done k (offset (v .base) a) (8 * n))
+
+-- as the reader's part, where no window refuses them
+unfoldable pub heldPart : Windows → ℕ → ℕ → Place
+heldPart w a n = cond (across (shapesOf w) a n) (placed Across 0 0 0) (placed Done (partAt w a n .which) (partAt w a n .start) (partAt w a n .size))
+
+-- the reader's reply and part; the part lies in the window that it names
 pub record PlaceIs (w : Windows) (p : ℕ) (r : Place) : Type 0 where
   pub reply-is : r .reply ≡ replyOf (readContext w p .reply)
   pub number-is : numberOf (r .reply) ≡ readContext w p .reply
+  pub which-is : r .which ≡ readContext w p .state .which
   pub start-is : r .start ≡ readContext w p .state .start
   pub size-is : r .size ≡ readContext w p .state .size
-  pub lies-inside : r .start + r .size ≤ length (w .bytes)
+  pub lies-inside : r .start + r .size ≤ length (windowOf w (r .which) .bytes)
 
--- the reader's reply, and the part r that it hands back of the window v: its bytes, and where it lies, as far behind v's first byte as
--- the part's index says
-pub record PartIs (base : ℕ) (v : RefT (List ℕ)) (p : ℕ) (r : RefT (List ℕ)) (reply : ℕ) : Type 0 where
-  pub reply-is : reply ≡ readContext (lent base (now v)) p .reply
-  pub bytes-are : now r ≡ bytesIn (lent base (now v)) (readContext (lent base (now v)) p .state)
-  pub lies-at : ptr r ≡ (ptr v .0, ptr v .1 + readContext (lent base (now v)) p .state .start)
+-- the first byte of the window of number k, of a and b as they are lent
+abbrev pub firstByte : ℕ → RefT (List ℕ) → RefT (List ℕ) → ℕ × ℕ
+firstByte k a b = cond (eqb k 1) (ptr b) (ptr a)
+
+-- the reader's reply, which window held the context, and the part r that it hands back of that window: its bytes, and where it lies, as far
+-- behind the window's first byte as the part's index says
+pub record PartIs (at : Bases) (a b : RefT (List ℕ)) (p : ℕ) (r : RefT (List ℕ)) (reply which : ℕ) : Type 0 where
+  pub reply-is : reply ≡ readContext (lent at (now a) (now b)) p .reply
+  pub which-is : which ≡ readContext (lent at (now a) (now b)) p .state .which
+  pub bytes-are : now r ≡ bytesIn (lent at (now a) (now b)) (readContext (lent at (now a) (now b)) p .state)
+  pub lies-at : ptr r ≡ (firstByte which a b .0, firstByte which a b .1 + readContext (lent at (now a) (now b)) p .state .start)

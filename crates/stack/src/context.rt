@@ -15,6 +15,7 @@ use super::layout::CONTEXT_SPECIALS;
 use super::layout::Located;
 use super::layout::PACKED_RG;
 use super::layout::SavedContext;
+use model::Bases;
 use model::Reply;
 use model::State;
 
@@ -30,51 +31,51 @@ fn save_special(i: usize) -> usize
 }
 
 /// The twelve special registers, stored from address addr up.
-fn store_specials(special: &[u64; 32], window: &mut [u8], base: u64, addr: u64)
-    ensures { λ _. ⌜ lent base (now (window .exit))
-        ≡ writtenRun (lent base (now (window .entry))) addr contextSpecials (λ (i : ℕ). getD (now (special .entry)) (savedSpecial i) 0) ⌝ }
+fn store_specials(special: &[u64; 32], a: &mut [u8], b: &mut [u8], at: Bases, addr: u64)
+    ensures { λ _. ⌜ lent at (now (a .exit)) (now (b .exit))
+        ≡ writtenRun (lent at (now (a .entry)) (now (b .entry))) addr contextSpecials (λ (i : ℕ). getD (now (special .entry)) (savedSpecial i) 0) ⌝ }
 {
     let mut i: usize = 0;
     while i < CONTEXT_SPECIALS {
         let place = machine::number::wrapping_add(addr, 8 * (i as u64));
         let k = save_special(i);
         let v = special[k];
-        machine::memory::write_octa(window, base, place, v);
+        machine::memory::write_octa(a, b, at, place, v);
         i += 1;
     }
 }
 
 /// The context, stored from rO up.
-fn store_context(general: &[u64; 256], special: &[u64; 32], window: &mut [u8], base: u64)
+fn store_context(general: &[u64; 256], special: &[u64; 32], a: &mut [u8], b: &mut [u8], at: Bases)
     requires { ⌜ Ranged (now special) ⌝ }
-    ensures { λ _. ⌜ StoresContext (now (general .entry)) (now (special .entry)) (lent base (now (window .entry))) (lent base (now (window .exit))) ⌝ }
+    ensures { λ _. ⌜ StoresContext (now (general .entry)) (now (special .entry)) (lent at (now (a .entry)) (now (b .entry))) (lent at (now (a .exit)) (now (b .exit))) ⌝ }
 {
     let ro = special[State::RO];
     let rl = special[State::RL];
     let rg = special[State::RG];
     let ra = special[State::RA];
-    machine::memory::store_range(general, window, base, ro, 0, rl);
+    machine::memory::store_range(general, a, b, at, ro, 0, rl);
     let marker = machine::number::wrapping_add(ro, 8 * rl);
-    machine::memory::write_octa(window, base, marker, rl);
+    machine::memory::write_octa(a, b, at, marker, rl);
     let globals = machine::number::wrapping_add(ro, 8 * (rl + 1));
-    machine::memory::store_range(general, window, base, globals, rg, 256);
+    machine::memory::store_range(general, a, b, at, globals, rg, 256);
     let specials = machine::number::wrapping_add(ro, 8 * (rl + AT_SPECIALS - rg));
-    store_specials(special, window, base, specials);
+    store_specials(special, a, b, at, specials);
     let packed = machine::number::wrapping_add(ro, 8 * (rl + AT_PACKED - rg));
-    machine::memory::write_octa(window, base, packed, rg * PACKED_RG + ra);
+    machine::memory::write_octa(a, b, at, packed, rg * PACKED_RG + ra);
 }
 
 /// The context is stored; then the registers below rG become 0 and $x gets the context's address.
-fn put_away(general: &mut [u64; 256], special: &[u64; 32], window: &mut [u8], base: u64, x: u8)
+fn put_away(general: &mut [u64; 256], special: &[u64; 32], a: &mut [u8], b: &mut [u8], at: Bases, x: u8)
     requires { ⌜ Ranged (now special) ⌝ }
-    ensures { λ _. ⌜ StoresContext (now (general .entry)) (now (special .entry)) (lent base (now (window .entry))) (lent base (now (window .exit)))
+    ensures { λ _. ⌜ StoresContext (now (general .entry)) (now (special .entry)) (lent at (now (a .entry)) (now (b .entry))) (lent at (now (a .exit)) (now (b .exit)))
         × (now (general .exit) ≡ leftGeneral (now (general .entry)) (now (special .entry)) x) ⌝ }
 {
     let ro = special[State::RO];
     let rl = special[State::RL];
     let rg = special[State::RG];
     let address = machine::number::wrapping_add(ro, 8 * (rl + AT_PACKED - rg));
-    store_context(general, special, window, base);
+    store_context(general, special, a, b, at);
     machine::registers::clear_range(general, 0, rg);
     general[x as usize] = address;
 }
@@ -93,68 +94,70 @@ fn depart(special: &mut [u64; 32])
     special[State::RS] = new_ro;
 }
 
-/// SAVE $x: the context goes to the window at rO.
+/// SAVE $x: the context goes to the windows at rO.
 pub fn save_context(
     general: &mut [u64; 256],
     special: &mut [u64; 32],
     halt: &mut u64,
     marks: u64,
-    window: &mut [u8],
-    base: u64,
+    a: &mut [u8],
+    b: &mut [u8],
+    at: Bases,
     x: u8,
 ) -> Reply
-    ensures { λ r. ⌜ ((pc : ℕ) → SaveGives (lent base (now (window .entry)))
+    ensures { λ r. ⌜ ((pc : ℕ) → SaveGives (lent at (now (a .entry)) (now (b .entry)))
         (made (now (general .entry)) (now (special .entry)) pc (now (halt .entry)) marks) x r
-        (made (now (general .exit)) (now (special .exit)) pc (now (halt .exit)) marks) (lent base (now (window .exit)))) ⌝ }
+        (made (now (general .exit)) (now (special .exit)) pc (now (halt .exit)) marks) (lent at (now (a .exit)) (now (b .exit)))) ⌝ }
 {
     if !machine::registers::admissible(special, marks) {
         return Reply::NotAdmissible;
     }
-    if !machine::memory::is_ruled(window, base) {
-        return Reply::WindowRule;
+    let refusal = machine::memory::windows_refusal(a, b, at);
+    if refusal != 0 {
+        return super::reply::unruled(refusal);
     }
     let rg = special[State::RG];
     let rl = special[State::RL];
     let ro = special[State::RO];
-    let at = x as u64;
-    if at < rg {
+    let named = x as u64;
+    if named < rg {
         *halt = 1;
         return Reply::SaveLocal;
     }
-    let number = machine::memory::run_refusal(window, base, ro, rl + CONTEXT_OCTAS - rg);
+    let number = machine::memory::run_refusal(a, b, at, ro, rl + CONTEXT_OCTAS - rg);
     if number != 0 {
         return super::reply::lost(number);
     }
     machine::registers::counted(general, special);
-    put_away(general, special, window, base, x);
+    put_away(general, special, a, b, at, x);
     depart(special);
     Reply::Done
 }
 
 /// All general registers from a context of `count` locals and threshold rg whose first local is at `first`: the locals, 0 above them,
 /// the globals.
-fn load_general(general: &mut [u64; 256], window: &[u8], base: u64, first: u64, rg: u64, count: u64)
+fn load_general(general: &mut [u64; 256], a: &[u8], b: &[u8], at: Bases, first: u64, rg: u64, count: u64)
     requires { ⌜ (rg ≤ 255) × (count ≤ rg) ⌝ }
     ensures { λ _. ⌜ now (general .exit)
-        ≡ over (unsavedGeneral rg count (octasFrom (lent base (now (window .entry))) first (octasOf count rg))) 0 256 (now (general .entry)) ⌝ }
+        ≡ over (unsavedGeneral rg count (octasFrom (lent at (now (a .entry)) (now (b .entry))) first (octasOf count rg))) 0 256 (now (general .entry)) ⌝ }
 {
     let globals = machine::number::wrapping_add(first, 8 * (count + 1));
-    machine::memory::load_range(general, window, base, first, 0, count);
+    machine::memory::load_range(general, a, b, at, first, 0, count);
     machine::registers::clear_range(general, count, rg);
-    machine::memory::load_range(general, window, base, globals, rg, 256);
+    machine::memory::load_range(general, a, b, at, globals, rg, 256);
 }
 
 /// The twelve special registers from a context, from address addr up.
-fn load_specials(special: &mut [u64; 32], window: &[u8], base: u64, addr: u64)
+fn load_specials(special: &mut [u64; 32], a: &[u8], b: &[u8], at: Bases, addr: u64)
     ensures { λ _. ⌜ now (special .exit)
-        ≡ loaded (λ (i : ℕ). readOcta (lent base (now (window .entry))) ((addr + 8 * i) % 2 ^ 64)) contextSpecials (now (special .entry)) ⌝ }
+        ≡ loaded (λ (i : ℕ). readOcta (lent at (now (a .entry)) (now (b .entry))) ((addr + 8 * i) % 2 ^ 64)) contextSpecials (now (special .entry)) ⌝ }
 {
     let mut i: usize = 0;
     while i < CONTEXT_SPECIALS {
         let place = machine::number::wrapping_add(addr, 8 * (i as u64));
-        let v = machine::memory::read_octa(window, base, place);
+        let octa = machine::memory::read_octa(a, b, at, place);
         let k = save_special(i);
-        special[k] = v;
+        special[k] = octa.value;
         i += 1;
     }
 }
@@ -163,23 +166,24 @@ fn load_specials(special: &mut [u64; 32], window: &[u8], base: u64, addr: u64)
 fn arrive(
     general: &mut [u64; 256],
     special: &mut [u64; 32],
-    window: &[u8],
-    base: u64,
-    at: SavedContext,
+    a: &[u8],
+    b: &[u8],
+    at: Bases,
+    context: SavedContext,
 )
-    requires { ⌜ (at .rg ≤ 255) × (at .count ≤ at .rg) ⌝ }
+    requires { ⌜ (context .rg ≤ 255) × (context .count ≤ context .rg) ⌝ }
     ensures { λ _. ⌜ ((pc halt marks : ℕ) → made (now (general .exit)) (now (special .exit)) pc halt marks
-        ≡ unsavedAs (lent base (now (window .entry))) (made (now (general .entry)) (now (special .entry)) pc halt marks) at) ⌝ }
+        ≡ unsavedAs (lent at (now (a .entry)) (now (b .entry))) (made (now (general .entry)) (now (special .entry)) pc halt marks) context) ⌝ }
 {
     machine::registers::counted(general, special);
-    let first = at.first;
-    let rg = at.rg;
-    let count = at.count;
+    let first = context.first;
+    let rg = context.rg;
+    let count = context.count;
     let specials = machine::number::wrapping_add(first, 8 * (count + AT_SPECIALS - rg));
-    load_general(general, window, base, first, rg, count);
-    load_specials(special, window, base, specials);
+    load_general(general, a, b, at, first, rg, count);
+    load_specials(special, a, b, at, specials);
     special[State::RO] = first;
-    special[State::RA] = at.ra;
+    special[State::RA] = context.ra;
     special[State::RL] = count;
     special[State::RG] = rg;
     special[State::RS] = first;
@@ -191,24 +195,26 @@ pub fn unsave_context(
     special: &mut [u64; 32],
     halt: &mut u64,
     marks: u64,
-    window: &[u8],
-    base: u64,
+    a: &[u8],
+    b: &[u8],
+    at: Bases,
     address: u64,
 ) -> Reply
-    ensures { λ r. ⌜ ((pc : ℕ) → UnsaveGives (lent base (now (window .entry)))
+    ensures { λ r. ⌜ ((pc : ℕ) → UnsaveGives (lent at (now (a .entry)) (now (b .entry)))
         (made (now (general .entry)) (now (special .entry)) pc (now (halt .entry)) marks) address r
         (made (now (general .exit)) (now (special .exit)) pc (now (halt .exit)) marks)) ⌝ }
 {
     if !machine::registers::admissible(special, marks) {
         return Reply::NotAdmissible;
     }
-    if !machine::memory::is_ruled(window, base) {
-        return Reply::WindowRule;
+    let refusal = machine::memory::windows_refusal(a, b, at);
+    if refusal != 0 {
+        return super::reply::unruled(refusal);
     }
-    let located = super::layout::locate(window, base, address);
+    let located = super::layout::locate(a, b, at, address);
     match located {
-        Located::Found(at) => {
-            arrive(general, special, window, base, at);
+        Located::Found(context) => {
+            arrive(general, special, a, b, at, context);
             Reply::Done
         }
         Located::Bad(reply) => {

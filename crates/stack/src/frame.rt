@@ -13,6 +13,7 @@ ghost use Rattle.model.specs.Parts.{made, lent};
 ghost use Rattle.model.specs.Step.{refusing};
 ghost use Rattle.model.specs.declared.State.{State};
 ghost use Rattle.stack.specs.PushPop.{Held, Placed, PushGives, bottomOf, betweenBy, poppedAs, PassedPopGives, PopGives};
+use model::Bases;
 use model::Reply;
 use model::State;
 
@@ -24,12 +25,14 @@ pub enum PopFrame {
     NoFrame,
     /// rO cannot hold a frame: the halt code is 1 (12).
     Rejected,
-    /// A needed octabyte lies outside the window (6).
+    /// A needed octabyte lies in neither window (6).
     Missing,
     /// The state is not admissible (1).
     NotAdmissible,
-    /// The window breaks its rule (2).
+    /// A window breaks its rule (2).
     WindowRule,
+    /// The two windows share an octabyte (22).
+    Shared,
 }
 
 /// The hole's number.
@@ -45,14 +48,14 @@ fn hole_of(rg: u64, rl: u64, x: u8) -> u64
 }
 
 /// The frame with hole h, stored from address ro up.
-fn store_frame(general: &[u64; 256], window: &mut [u8], base: u64, ro: u64, h: u64)
-    requires { ⌜ (h ≤ 255) × (worst (refusing (shapesOf (lent base (now window)))) ro (h + 1) ≡ 0) ⌝ }
-    ensures { λ _. ⌜ ((special : List ℕ) (pc halt marks : ℕ) → lent base (now (window .exit))
-        ≡ puts both (lent base (now (window .entry))) ro (tab 0 (h + 1) (framed (made (now (general .entry)) special pc halt marks) h))) ⌝ }
+fn store_frame(general: &[u64; 256], a: &mut [u8], b: &mut [u8], at: Bases, ro: u64, h: u64)
+    requires { ⌜ (h ≤ 255) × (worst (refusing (shapesOf (lent at (now a) (now b)))) ro (h + 1) ≡ 0) ⌝ }
+    ensures { λ _. ⌜ ((special : List ℕ) (pc halt marks : ℕ) → lent at (now (a .exit)) (now (b .exit))
+        ≡ puts both (lent at (now (a .entry)) (now (b .entry))) ro (tab 0 (h + 1) (framed (made (now (general .entry)) special pc halt marks) h))) ⌝ }
 {
-    machine::memory::store_range(general, window, base, ro, 0, h);
+    machine::memory::store_range(general, a, b, at, ro, 0, h);
     let addr = machine::number::wrapping_add(ro, 8 * h);
-    machine::memory::write_octa(window, base, addr, h);
+    machine::memory::write_octa(a, b, at, addr, h);
 }
 
 /// The first n registers become those from $from up.
@@ -89,35 +92,37 @@ fn enter(general: &mut [u64; 256], special: &mut [u64; 32], pc: u64, h: u64)
     special[State::RS] = new_ro;
 }
 
-/// PUSH with x: the frame goes to the window at rO, and the callee gets the registers above the hole.
+/// PUSH with x: the frame goes to the windows at rO, and the callee gets the registers above the hole.
 pub fn push_frame(
     general: &mut [u64; 256],
     special: &mut [u64; 32],
     pc: u64,
     marks: u64,
-    window: &mut [u8],
-    base: u64,
+    a: &mut [u8],
+    b: &mut [u8],
+    at: Bases,
     x: u8,
 ) -> Reply
-    ensures { λ r. ⌜ ((halt : ℕ) → PushGives (lent base (now (window .entry)))
+    ensures { λ r. ⌜ ((halt : ℕ) → PushGives (lent at (now (a .entry)) (now (b .entry)))
         (made (now (general .entry)) (now (special .entry)) pc halt marks) x r
-        (made (now (general .exit)) (now (special .exit)) pc halt marks) (lent base (now (window .exit)))) ⌝ }
+        (made (now (general .exit)) (now (special .exit)) pc halt marks) (lent at (now (a .exit)) (now (b .exit)))) ⌝ }
 {
     if !machine::registers::admissible(special, marks) {
         return Reply::NotAdmissible;
     }
-    if !machine::memory::is_ruled(window, base) {
-        return Reply::WindowRule;
+    let refusal = machine::memory::windows_refusal(a, b, at);
+    if refusal != 0 {
+        return super::reply::unruled(refusal);
     }
     let rg = special[State::RG];
     let rl = special[State::RL];
     let ro = special[State::RO];
     let h = hole_of(rg, rl, x);
-    let number = machine::memory::run_refusal(window, base, ro, h + 1);
+    let number = machine::memory::run_refusal(a, b, at, ro, h + 1);
     if number != 0 {
         return super::reply::lost(number);
     }
-    store_frame(general, window, base, ro, h);
+    store_frame(general, a, b, at, ro, h);
     enter(general, special, pc, h);
     Reply::Done
 }
@@ -169,28 +174,29 @@ fn slide_up(general: &mut [u64; 256], by: u64, to: u64)
 /// new rL, up is written; with no outputs that is the hole too.
 fn restore(
     general: &mut [u64; 256],
-    window: &[u8],
-    base: u64,
+    a: &[u8],
+    b: &[u8],
+    at: Bases,
     bottom: u64,
     rl: u64,
     x: u8,
     h: u64,
     low: u64,
 )
-    requires { ⌜ (h ≤ 255) × (low ≤ 255) × (worst (refusing (shapesOf (lent base (now window)))) bottom (min h low) ≡ 0) ⌝ }
+    requires { ⌜ (h ≤ 255) × (low ≤ 255) × (worst (refusing (shapesOf (lent at (now a) (now b)))) bottom (min h low) ≡ 0) ⌝ }
     ensures { λ _. ⌜ ((special : List ℕ) (pc halt marks : ℕ) → getD special rL 0 ≡ rl
         → low ≡ lowered (made (now (general .entry)) special pc halt marks) x h
         → made (now (general .exit)) special pc halt marks
-        ≡ betweenBy (lent base (now (window .entry))) bottom (made (now (general .entry)) special pc halt marks) x h) ⌝ }
+        ≡ betweenBy (lent at (now (a .entry)) (now (b .entry))) bottom (made (now (general .entry)) special pc halt marks) x h) ⌝ }
 {
     let last = last_output(general, rl, x);
     slide_up(general, h + 1, low);
     if h < low {
         general[h as usize] = last;
-        machine::memory::load_range(general, window, base, bottom, 0, h);
+        machine::memory::load_range(general, a, b, at, bottom, 0, h);
         return;
     }
-    machine::memory::load_range(general, window, base, bottom, 0, low);
+    machine::memory::load_range(general, a, b, at, bottom, 0, low);
 }
 
 /// Whether rO, above the stack's start, cannot hold a frame.
@@ -204,11 +210,11 @@ fn is_misplaced(ro: u64) -> bool
 }
 
 /// The registers after a pop with hole h: written, then cleared from the new rL to rG − 1.
-fn leave(general: &mut [u64; 256], special: &mut [u64; 32], window: &[u8], base: u64, x: u8, h: u64)
+fn leave(general: &mut [u64; 256], special: &mut [u64; 32], a: &[u8], b: &[u8], at: Bases, x: u8, h: u64)
     requires { ⌜ (Held (now special)) × (h ≤ 255) × (Placed (now special))
-        × (worst (refusing (shapesOf (lent base (now window)))) (bottomOf (now special) h) (min h (getD (now special) rG 0)) ≡ 0) ⌝ }
+        × (worst (refusing (shapesOf (lent at (now a) (now b)))) (bottomOf (now special) h) (min h (getD (now special) rG 0)) ≡ 0) ⌝ }
     ensures { λ _. ⌜ ((pc halt marks : ℕ) → made (now (general .exit)) (now (special .exit)) pc halt marks
-        ≡ poppedAs (lent base (now (window .entry))) (made (now (general .entry)) (now (special .entry)) pc halt marks) x h) ⌝ }
+        ≡ poppedAs (lent at (now (a .entry)) (now (b .entry))) (made (now (general .entry)) (now (special .entry)) pc halt marks) x h) ⌝ }
 {
     let ro = special[State::RO];
     let rg = special[State::RG];
@@ -216,24 +222,25 @@ fn leave(general: &mut [u64; 256], special: &mut [u64; 32], window: &[u8], base:
     let bottom = machine::number::wrapping_sub(ro, 8 * (h + 1));
     let count = count_of(rl, x);
     let low = machine::number::least(h + count, rg);
-    restore(general, window, base, bottom, rl, x, h, low);
+    restore(general, a, b, at, bottom, rl, x, h, low);
     machine::registers::clear_range(general, low, rg);
     special[State::RL] = low;
     special[State::RO] = bottom;
     special[State::RS] = bottom;
 }
 
-/// POP of a state and a window that obey their rules, with rO above the stack's start and well placed.
+/// POP of a state and windows that obey their rules, with rO above the stack's start and well placed.
 fn pop_at(
     general: &mut [u64; 256],
     special: &mut [u64; 32],
-    window: &[u8],
-    base: u64,
+    a: &[u8],
+    b: &[u8],
+    at: Bases,
     x: u8,
     yz: u16,
 ) -> PopFrame
     requires { ⌜ (Held (now special)) × (Placed (now special)) ⌝ }
-    ensures { λ r. ⌜ ((pc halt marks : ℕ) → PassedPopGives (lent base (now (window .entry)))
+    ensures { λ r. ⌜ ((pc halt marks : ℕ) → PassedPopGives (lent at (now (a .entry)) (now (b .entry)))
         (made (now (general .entry)) (now (special .entry)) pc halt marks) x yz r
         (made (now (general .exit)) (now (special .exit)) pc halt marks)) ⌝ }
 {
@@ -241,16 +248,17 @@ fn pop_at(
     let rg = special[State::RG];
     let rj = special[State::RJ];
     let below = machine::number::wrapping_sub(ro, 8);
-    if machine::memory::run_refusal(window, base, below, 1) != 0 {
+    if machine::memory::run_refusal(a, b, at, below, 1) != 0 {
         return PopFrame::Missing;
     }
-    let h = machine::memory::read_octa(window, base, below) % 256;
+    let octa = machine::memory::read_octa(a, b, at, below);
+    let h = octa.value % 256;
     let bottom = machine::number::wrapping_sub(ro, 8 * (h + 1));
     let n = machine::number::least(h, rg);
-    if machine::memory::run_refusal(window, base, bottom, n) != 0 {
+    if machine::memory::run_refusal(a, b, at, bottom, n) != 0 {
         return PopFrame::Missing;
     }
-    leave(general, special, window, base, x, h);
+    leave(general, special, a, b, at, x, h);
     let target = machine::number::wrapping_add(rj, 4 * (yz as u64));
     PopFrame::Frame(target)
 }
@@ -261,20 +269,25 @@ pub fn pop_frame(
     special: &mut [u64; 32],
     halt: &mut u64,
     marks: u64,
-    window: &[u8],
-    base: u64,
+    a: &[u8],
+    b: &[u8],
+    at: Bases,
     x: u8,
     yz: u16,
 ) -> PopFrame
-    ensures { λ r. ⌜ ((pc : ℕ) → PopGives (lent base (now (window .entry)))
+    ensures { λ r. ⌜ ((pc : ℕ) → PopGives (lent at (now (a .entry)) (now (b .entry)))
         (made (now (general .entry)) (now (special .entry)) pc (now (halt .entry)) marks) x yz r
         (made (now (general .exit)) (now (special .exit)) pc (now (halt .exit)) marks)) ⌝ }
 {
     if !machine::registers::admissible(special, marks) {
         return PopFrame::NotAdmissible;
     }
-    if !machine::memory::is_ruled(window, base) {
+    let refusal = machine::memory::windows_refusal(a, b, at);
+    if refusal == 2 {
         return PopFrame::WindowRule;
+    }
+    if refusal != 0 {
+        return PopFrame::Shared;
     }
     let ro = special[State::RO];
     if ro <= State::STACK_START {
@@ -284,5 +297,5 @@ pub fn pop_frame(
         *halt = 1;
         return PopFrame::Rejected;
     }
-    pop_at(general, special, window, base, x, yz)
+    pop_at(general, special, a, b, at, x, yz)
 }

@@ -1,7 +1,8 @@
-// Where a context lies in the window, below its packed octabyte. One of l locals and threshold g has l + 270 − g octabytes: the locals,
+// Where a context lies in the windows, below its packed octabyte. One of l locals and threshold g has l + 270 − g octabytes: the locals,
 // their count, 256 − g globals, the twelve specials, and the packed octabyte.
 ghost use Rattle.model.specs.Parts.{lent};
 ghost use Rattle.stack.specs.SaveUnsave.{LayoutIs, LocatedIs};
+use model::Bases;
 use model::Reply;
 
 /// How many special registers a context has.
@@ -29,11 +30,11 @@ pub enum Layout {
     Found(SaveContextLayout),
     /// The local count is above the saved rG (16).
     Excess(u64),
-    /// The local count is not in the window: the reply that says so.
+    /// The local count is in neither window: the reply that says so.
     Outside(Reply),
 }
 
-/// A context that is all in the window: the address of its first local, its rG, rA and local count.
+/// A context each octabyte of which is lent, by one window or the other: the address of its first local, its rG, rA and local count.
 pub struct SavedContext {
     pub first: u64,
     pub rg: u64,
@@ -47,21 +48,22 @@ pub enum Located {
     Found(SavedContext),
     /// What is there is no context (14, 15, 16).
     Bad(Reply),
-    /// An octabyte of it is not in the window (6).
+    /// An octabyte of it is in neither window (6).
     Lost(Reply),
 }
 
 /// The parts of the context whose packed octabyte is at `packed_addr`, for its rG; the count is compared at full width.
-pub fn save_context_layout(window: &[u8], base: u64, packed_addr: u64, rg_saved: u8) -> Layout
-    ensures { λ r. ⌜ LayoutIs (lent base (now (window .entry))) «packed_addr» «rg_saved» r ⌝ }
+pub fn save_context_layout(a: &[u8], b: &[u8], at: Bases, packed_addr: u64, rg_saved: u8) -> Layout
+    ensures { λ r. ⌜ LayoutIs (lent at (now (a .entry)) (now (b .entry))) «packed_addr» «rg_saved» r ⌝ }
 {
     let rg = rg_saved as u64;
     let marker = machine::number::wrapping_sub(packed_addr, 8 * (AT_PACKED - rg));
-    let number = machine::memory::run_refusal(window, base, marker, 1);
+    let number = machine::memory::run_refusal(a, b, at, marker, 1);
     if number != 0 {
         return Layout::Outside(super::reply::lost(number));
     }
-    let count = machine::memory::read_octa(window, base, marker);
+    let octa = machine::memory::read_octa(a, b, at, marker);
+    let count = octa.value;
     if rg < count {
         return Layout::Excess(count);
     }
@@ -73,14 +75,15 @@ pub fn save_context_layout(window: &[u8], base: u64, packed_addr: u64, rg_saved:
 }
 
 /// The context whose packed octabyte is at `address`, after UNSAVE's own checks.
-pub fn locate(window: &[u8], base: u64, address: u64) -> Located
-    ensures { λ r. ⌜ LocatedIs (lent base (now (window .entry))) address r ⌝ }
+pub fn locate(a: &[u8], b: &[u8], at: Bases, address: u64) -> Located
+    ensures { λ r. ⌜ LocatedIs (lent at (now (a .entry)) (now (b .entry))) address r ⌝ }
 {
-    let number = machine::memory::run_refusal(window, base, address, 1);
+    let number = machine::memory::run_refusal(a, b, at, address, 1);
     if number != 0 {
         return Located::Lost(super::reply::lost(number));
     }
-    let packed = machine::memory::read_octa(window, base, address);
+    let octa = machine::memory::read_octa(a, b, at, address);
+    let packed = octa.value;
     let rg = packed / PACKED_RG;
     let ra = packed % PACKED_RG;
     if rg < machine::registers::THRESHOLD_MIN {
@@ -89,14 +92,15 @@ pub fn locate(window: &[u8], base: u64, address: u64) -> Located
     if machine::registers::STATUS_MAX < ra {
         return Located::Bad(Reply::SavedStatus);
     }
-    let layout = save_context_layout(window, base, address, rg as u8);
+    let layout = save_context_layout(a, b, at, address, rg as u8);
     match layout {
         Layout::Found(l) => {
             let count = l.local_count;
             let first = l.locals_base;
             let short = machine::memory::run_refusal(
-                window,
-                base,
+                a,
+                b,
+                at,
                 first,
                 count + CONTEXT_OCTAS - rg,
             );

@@ -1,16 +1,18 @@
-// What the layer above needs of the machine, under contracts of the stack's own: numbers, the octabytes of a window, registers.
+// What the layer above needs of the machine, under contracts of the stack's own: numbers, the octabytes of the two windows, registers.
 ghost use mathlib.Core.Path.{_≡_};
 ghost use mathlib.Core.List.{List};
 ghost use Prim.Native.Nat.{ℕ, _+_, _-_, _%_, _^_};
-ghost use Rattle.model.specs.Memory.{shapesOf, ruled};
+ghost use Rattle.model.specs.Memory.{shapesOf, holder};
 ghost use Rattle.model.specs.Plan.{worst};
-ghost use Rattle.model.specs.Step.{refusing};
+ghost use Rattle.model.specs.Step.{unruledBy, refusing};
 ghost use Rattle.model.specs.Registers.{withParts, admissible, setRegister};
 ghost use Rattle.model.specs.Control.{isNegative};
 ghost use Rattle.model.specs.Parts.{made, lent};
 ghost use Rattle.model.specs.declared.State.{State};
 ghost use Rattle.machine.specs.Octas.{readOcta, writtenOcta};
 ghost use Rattle.machine.specs.Put.{PutGives};
+use model::Bases;
+use model::Octabyte;
 use model::Reply;
 use model::State;
 
@@ -38,28 +40,30 @@ pub fn admissible(special: &[u64; 32], marks: u64) -> bool
     machine::registers::admissible(special, marks)
 }
 
-pub fn is_ruled(window: &[u8], base: u64) -> bool
-    ensures { λ r. ⌜ r ≡ ruled (shapesOf (lent base (now (window .entry)))) ⌝ }
+pub fn windows_refusal(a: &[u8], b: &[u8], at: Bases) -> u64
+    ensures { λ r. ⌜ r ≡ unruledBy (shapesOf (lent at (now (a .entry)) (now (b .entry)))) ⌝ }
 {
-    machine::memory::is_ruled(window, base)
+    machine::memory::windows_refusal(a, b, at)
 }
 
-pub fn run_refusal(window: &[u8], base: u64, addr: u64, n: u64) -> u64
-    ensures { λ r. ⌜ r ≡ worst (refusing (shapesOf (lent base (now (window .entry))))) addr n ⌝ }
+pub fn run_refusal(a: &[u8], b: &[u8], at: Bases, addr: u64, n: u64) -> u64
+    ensures { λ r. ⌜ r ≡ worst (refusing (shapesOf (lent at (now (a .entry)) (now (b .entry))))) addr n ⌝ }
 {
-    machine::memory::run_refusal(window, base, addr, n)
+    machine::memory::run_refusal(a, b, at, addr, n)
 }
 
-pub fn read_octa(window: &[u8], base: u64, addr: u64) -> u64
-    ensures { λ r. ⌜ r ≡ readOcta (lent base (now (window .entry))) addr ⌝ }
+pub fn read_octa(a: &[u8], b: &[u8], at: Bases, addr: u64) -> Octabyte
+    ensures { λ r. ⌜ (r .value ≡ readOcta (lent at (now (a .entry)) (now (b .entry))) addr)
+        × (r .holder ≡ holder (shapesOf (lent at (now (a .entry)) (now (b .entry)))) addr) ⌝ }
 {
-    machine::memory::read_octa(window, base, addr)
+    machine::memory::read_octa(a, b, at, addr)
 }
 
-pub fn write_octa(window: &mut [u8], base: u64, addr: u64, v: u64)
-    ensures { λ _. ⌜ lent base (now (window .exit)) ≡ writtenOcta (lent base (now (window .entry))) addr v ⌝ }
+pub fn write_octa(a: &mut [u8], b: &mut [u8], at: Bases, addr: u64, v: u64) -> u64
+    ensures { λ r. ⌜ (lent at (now (a .exit)) (now (b .exit)) ≡ writtenOcta (lent at (now (a .entry)) (now (b .entry))) addr v)
+        × (r ≡ holder (shapesOf (lent at (now (a .entry)) (now (b .entry)))) addr) ⌝ }
 {
-    machine::memory::write_octa(window, base, addr, v);
+    machine::memory::write_octa(a, b, at, addr, v)
 }
 
 pub fn set_register(general: &mut [u64; 256], special: &mut [u64; 32], reg: u8, v: u64)

@@ -1,6 +1,7 @@
 // Replies and their numbers.
 ghost use mathlib.Core.Path.{_≡_};
 ghost use Rattle.model.specs.Numbers.{numberOf, replyOf, Lost};
+ghost use Rattle.stack.specs.GivenBack.{Unruled};
 use model::Reply;
 
 /// The number of a reply.
@@ -30,6 +31,8 @@ pub fn number_of(reply: Reply) -> u64
         Reply::NotLoaded => 19,
         Reply::Trapped => 20,
         Reply::OutOfReach => 21,
+        Reply::Shared => 22,
+        Reply::Across => 23,
     }
 }
 
@@ -39,4 +42,15 @@ pub(crate) fn lost(number: u64) -> Reply
     ensures { λ r. ⌜ r ≡ replyOf number ⌝ }
 {
     Reply::Missing
+}
+
+/// The reply of a number by which the machine refuses the windows.
+pub(crate) fn unruled(number: u64) -> Reply
+    requires { ⌜ Unruled number ⌝ }
+    ensures { λ r. ⌜ r ≡ replyOf number ⌝ }
+{
+    if number == 2 {
+        return Reply::WindowRule;
+    }
+    Reply::Shared
 }

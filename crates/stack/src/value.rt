@@ -4,6 +4,7 @@ ghost use Rattle.model.specs.Parts.{lent};
 ghost use Rattle.stack.specs.PushPop.{PushGives, PopGives};
 ghost use Rattle.stack.specs.SaveUnsave.{SaveGives, UnsaveGives};
 use super::frame::PopFrame;
+use model::Bases;
 use model::Reply;
 use model::State;
 
@@ -19,15 +20,15 @@ pub struct Popped {
     pub state: State,
 }
 
-pub fn push_frame(state: State, window: &mut [u8], base: u64, x: u8) -> Answer
-    ensures { λ r. ⌜ PushGives (lent base (now (window .entry))) state x (r .reply) (r .state) (lent base (now (window .exit))) ⌝ }
+pub fn push_frame(state: State, a: &mut [u8], b: &mut [u8], at: Bases, x: u8) -> Answer
+    ensures { λ r. ⌜ PushGives (lent at (now (a .entry)) (now (b .entry))) state x (r .reply) (r .state) (lent at (now (a .exit)) (now (b .exit))) ⌝ }
 {
     let mut general = state.general;
     let mut special = state.special;
     let pc = state.pc;
     let halt = state.halt;
     let marks = state.marks;
-    let reply = super::frame::push_frame(&mut general, &mut special, pc, marks, window, base, x);
+    let reply = super::frame::push_frame(&mut general, &mut special, pc, marks, a, b, at, x);
     let next = State {
         general: general,
         special: special,
@@ -41,8 +42,8 @@ pub fn push_frame(state: State, window: &mut [u8], base: u64, x: u8) -> Answer
     }
 }
 
-pub fn pop_frame(state: State, window: &[u8], base: u64, x: u8, yz: u16) -> Popped
-    ensures { λ r. ⌜ PopGives (lent base (now (window .entry))) state x yz (r .answer) (r .state) ⌝ }
+pub fn pop_frame(state: State, a: &[u8], b: &[u8], at: Bases, x: u8, yz: u16) -> Popped
+    ensures { λ r. ⌜ PopGives (lent at (now (a .entry)) (now (b .entry))) state x yz (r .answer) (r .state) ⌝ }
 {
     let mut general = state.general;
     let mut special = state.special;
@@ -54,8 +55,9 @@ pub fn pop_frame(state: State, window: &[u8], base: u64, x: u8, yz: u16) -> Popp
         &mut special,
         &mut halt,
         marks,
-        window,
-        base,
+        a,
+        b,
+        at,
         x,
         yz,
     );
@@ -72,8 +74,8 @@ pub fn pop_frame(state: State, window: &[u8], base: u64, x: u8, yz: u16) -> Popp
     }
 }
 
-pub fn save_context(state: State, window: &mut [u8], base: u64, x: u8) -> Answer
-    ensures { λ r. ⌜ SaveGives (lent base (now (window .entry))) state x (r .reply) (r .state) (lent base (now (window .exit))) ⌝ }
+pub fn save_context(state: State, a: &mut [u8], b: &mut [u8], at: Bases, x: u8) -> Answer
+    ensures { λ r. ⌜ SaveGives (lent at (now (a .entry)) (now (b .entry))) state x (r .reply) (r .state) (lent at (now (a .exit)) (now (b .exit))) ⌝ }
 {
     let mut general = state.general;
     let mut special = state.special;
@@ -85,8 +87,9 @@ pub fn save_context(state: State, window: &mut [u8], base: u64, x: u8) -> Answer
         &mut special,
         &mut halt,
         marks,
-        window,
-        base,
+        a,
+        b,
+        at,
         x,
     );
     let next = State {
@@ -102,8 +105,8 @@ pub fn save_context(state: State, window: &mut [u8], base: u64, x: u8) -> Answer
     }
 }
 
-pub fn unsave_context(state: State, window: &[u8], base: u64, address: u64) -> Answer
-    ensures { λ r. ⌜ UnsaveGives (lent base (now (window .entry))) state address (r .reply) (r .state) ⌝ }
+pub fn unsave_context(state: State, a: &[u8], b: &[u8], at: Bases, address: u64) -> Answer
+    ensures { λ r. ⌜ UnsaveGives (lent at (now (a .entry)) (now (b .entry))) state address (r .reply) (r .state) ⌝ }
 {
     let mut general = state.general;
     let mut special = state.special;
@@ -115,8 +118,9 @@ pub fn unsave_context(state: State, window: &[u8], base: u64, address: u64) -> A
         &mut special,
         &mut halt,
         marks,
-        window,
-        base,
+        a,
+        b,
+        at,
         address,
     );
     let next = State {
