@@ -13,4 +13,4 @@ module _ (w : Windows) (a : ℕ) (e : worst (refusing (shapesOf w)) a 1 ≡ 0) w
   octa-read = read-in w a (worst-head (refusing (shapesOf w)) a 0 e)
 
   pub octa-written : (v : ℕ) → writtenOcta w a v ≡ putOcta w a v
-  octa-written v = written-in w a v (worst-head (refusing (shapesOf w)) a 0 e)
+  octa-written = written-in w a (worst-head (refusing (shapesOf w)) a 0 e)

@@ -82,15 +82,19 @@ module _ (w : Windows) (s : State) (x yz : ℕ) where
   pop-one a = pops 1 NotAdmissible s s (unfold popOf in (guarded-one w s _ a)) refl refl as-was
 
   module _ (a : admissible s ≡ true) (n : ℕ) (e : n ≡ unruledBy (shapesOf w)) where
+    pop-unruled : (n ≡ 0 → ⊥) → popOf w s x ≡ ended n s w
+    unfolding popOf
+    pop-unruled f = guarded-unruled w s _ a n e f
+
     pub pop-two : n ≡ 2 → PopGives w s x yz WindowRule s
     unfolding popAnswer popNumber
-    pop-two two = pops 2 WindowRule s s (unfold popOf in (guarded-unruled w s _ a 2 (sym two ∙ e) (λ z. omega arith))) refl refl as-was
+    pop-two two = pops 2 WindowRule s s (pop-unruled (λ z. omega arith) ∙ ap (λ (k : ℕ). ended k s w) two) refl refl as-was
 
     pub pop-shared : (n ≡ 2 → ⊥) → (n ≡ 0 → ⊥) → PopGives w s x yz Shared s
     unfolding popAnswer popNumber
     pop-shared f g =
         let shared : n ≡ 22 = ⊎-elim (λ two. absurd (f two)) (λ z. z) (unruled-by w n e g) in
-        pops 22 Shared s s (unfold popOf in (guarded-unruled w s _ a 22 (sym shared ∙ e) (λ z. omega arith))) refl refl as-was
+        pops 22 Shared s s (pop-unruled g ∙ ap (λ (k : ℕ). ended k s w) shared) refl refl as-was
 
   module _ (a : admissible s ≡ true) (r : unruledBy (shapesOf w) ≡ 0) where
     pop-open : popOf w s x ≡ performOn w s (popFrame s x (s .pc))

@@ -8,7 +8,7 @@ use Prim.Native.Nat.{ℕ, zero, suc, _+_, _-_, _*_, _^_, _≤_, _<_}
 use native.Mathlib.Omega.{arith}
 use lib.Dec.{eqb}
 use lib.ListN.{length, take, drop}
-use borrow.Author.Tests.{lt-ltb, le-ltb}
+use borrow.Author.Tests.{lt-ltb, le-ltb, eq-eqb, ne-eqb}
 use Rattle.model.specs.Memory.{Window, shapeOf, offset, has, Windows, Shapes, shapesOf, holder}
 use Rattle.model.specs.Step.{unruledBy, refusing}
 use Rattle.model.specs.Reader.{Part, emptyPart, windowOf, Span, nowhere, octabytes, spanOf, across, partAt, handed, checked, readContext, bytesIn}
@@ -48,7 +48,7 @@ rest-a : (w : Shapes) (x : ℕ) → has (w .b) x ≡ false → holder w x ≤ 1 
 unfolding holder
 rest-a w x h = rw h (go (has (w .a) x))
   where
-    go : (t : Bool) → cond t 0 2 ≤ 1 → cond t 0 2 ≡ 0
+    go : (t : Bool) → cond t 0 2 ≤ 1 → _≡_ {A = ℕ} (cond t 0 2) 0
     go true l = refl
     go false l = absurd (omega arith)
 
@@ -163,8 +163,14 @@ module _ (w : Windows) (p : ℕ) where
 pub ends-short : (at : Bases) (a b : List ℕ) (k n : ℕ) → length a < 2 ^ 64 → length b < 2 ^ 64 → n ≤ length (windowOf (lent at a b) k .bytes) → n < 2 ^ 64
 ends-short at a b k n la lb = on (λ (v : Window). n ≤ length (v .bytes) → n < 2 ^ 64) (eqb k 1) (λ e h. omega arith) (λ e h. omega arith)
 
-pub part-bytes : (w : Windows) (q : Part) (k start size : ℕ) → k ≡ q .which → start ≡ q .start → size ≡ q .size
-    → take (start + size - start) (drop start (windowOf w k .bytes)) ≡ bytesIn w q
-part-bytes w q k start size d e f =
-    let n : start + size - start ≡ q .size = omega arith in
-    rw (n, d, e)
+module _ (w : Windows) (q : Part) (k start size : ℕ) (d : k ≡ q .which) (e : start ≡ q .start) (f : size ≡ q .size) where
+  part-bytes : take (start + size - start) (drop start (windowOf w k .bytes)) ≡ bytesIn w q
+  part-bytes =
+      let n : start + size - start ≡ q .size = omega arith in
+      rw (n, d, e)
+
+  pub bytes-b : k ≡ 1 → take (start + size - start) (drop start (w .b .bytes)) ≡ bytesIn w q
+  bytes-b h = rw (eq-eqb k 1 h) at part-bytes
+
+  pub bytes-a : (k ≡ 1 → ⊥) → take (start + size - start) (drop start (w .a .bytes)) ≡ bytesIn w q
+  bytes-a h = rw (ne-eqb k 1 h) at part-bytes

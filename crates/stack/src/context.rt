@@ -66,7 +66,14 @@ fn store_context(general: &[u64; 256], special: &[u64; 32], a: &mut [u8], b: &mu
 }
 
 /// The context is stored; then the registers below rG become 0 and $x gets the context's address.
-fn put_away(general: &mut [u64; 256], special: &[u64; 32], a: &mut [u8], b: &mut [u8], at: Bases, x: u8)
+fn put_away(
+    general: &mut [u64; 256],
+    special: &[u64; 32],
+    a: &mut [u8],
+    b: &mut [u8],
+    at: Bases,
+    x: u8,
+)
     requires { ⌜ Ranged (now special) ⌝ }
     ensures { λ _. ⌜ StoresContext (now (general .entry)) (now (special .entry)) (lent at (now (a .entry)) (now (b .entry))) (lent at (now (a .exit)) (now (b .exit)))
         × (now (general .exit) ≡ leftGeneral (now (general .entry)) (now (special .entry)) x) ⌝ }
@@ -136,7 +143,15 @@ pub fn save_context(
 
 /// All general registers from a context of `count` locals and threshold rg whose first local is at `first`: the locals, 0 above them,
 /// the globals.
-fn load_general(general: &mut [u64; 256], a: &[u8], b: &[u8], at: Bases, first: u64, rg: u64, count: u64)
+fn load_general(
+    general: &mut [u64; 256],
+    a: &[u8],
+    b: &[u8],
+    at: Bases,
+    first: u64,
+    rg: u64,
+    count: u64,
+)
     requires { ⌜ (rg ≤ 255) × (count ≤ rg) ⌝ }
     ensures { λ _. ⌜ now (general .exit)
         ≡ over (unsavedGeneral rg count (octasFrom (lent at (now (a .entry)) (now (b .entry))) first (octasOf count rg))) 0 256 (now (general .entry)) ⌝ }

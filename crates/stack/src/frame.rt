@@ -210,7 +210,15 @@ fn is_misplaced(ro: u64) -> bool
 }
 
 /// The registers after a pop with hole h: written, then cleared from the new rL to rG − 1.
-fn leave(general: &mut [u64; 256], special: &mut [u64; 32], a: &[u8], b: &[u8], at: Bases, x: u8, h: u64)
+fn leave(
+    general: &mut [u64; 256],
+    special: &mut [u64; 32],
+    a: &[u8],
+    b: &[u8],
+    at: Bases,
+    x: u8,
+    h: u64,
+)
     requires { ⌜ (Held (now special)) × (h ≤ 255) × (Placed (now special))
         × (worst (refusing (shapesOf (lent at (now a) (now b)))) (bottomOf (now special) h) (min h (getD (now special) rG 0)) ≡ 0) ⌝ }
     ensures { λ _. ⌜ ((pc halt marks : ℕ) → made (now (general .exit)) (now (special .exit)) pc halt marks

@@ -97,13 +97,7 @@ pub fn locate(a: &[u8], b: &[u8], at: Bases, address: u64) -> Located
         Layout::Found(l) => {
             let count = l.local_count;
             let first = l.locals_base;
-            let short = machine::memory::run_refusal(
-                a,
-                b,
-                at,
-                first,
-                count + CONTEXT_OCTAS - rg,
-            );
+            let short = machine::memory::run_refusal(a, b, at, first, count + CONTEXT_OCTAS - rg);
             if short != 0 {
                 return Located::Lost(super::reply::lost(short));
             }

@@ -24,10 +24,9 @@ load-range-requires-2 c κs = search needs
 
 returns : tie.Need-returns
 returns c =
-    let clears = c .before .before in
-    let loads = clears .before .before in
-    let start = loads .before .before .before .before in
-    loaded-general _ _ _ _ _ _ _ _ _ (start .pre .0) (start .pre .1) (loads .before .before .wrapping-add .ensures) (loads .load-range .ensures) (clears .clear-range .ensures) (c .load-range2 .ensures)
+    let start = c .before .before .before .before .before .before .before .before .before in
+    loaded-general _ _ _ _ _ _ _ _ _ (start .pre .0) (start .pre .1) (c .before .before .before .before .before .before .wrapping-add .ensures) (c .before .before .before .before .load-range .ensures)
+    (c .before .before .clear-range .ensures) (c .load-range2 .ensures)
 
 pub load-general-spec : {M : Type 1} → statement M
 load-general-spec =

@@ -1,20 +1,20 @@
 -- `load_specials` meets its contract. The loop's invariant: i of the twelve are loaded.
 use mathlib.Core.Path.{_≡_, refl, ap, _∙_}
-use native.Mathlib.Omega.{arith}
-use borrow.Author.Needs.{needs}
 use Prim.Native.Nat.{ℕ, _+_, _-_, _*_, _%_, _^_, _≤_}
+use native.Mathlib.Omega.{arith}
 use Rattle.model.specs.Parts.{lent}
 use Rattle.machine.specs.Octas.{readOcta}
 use Rattle.stack.specs.ContextWork.{loaded}
 use Rattle.stack.proofs.UnsaveLoads.{loaded-more}
+use borrow.Author.Needs.{needs}
 use Rattle.stack.proofs.context.load_specials.Statement.{statement}
 use Rattle.stack.proofs.context.load_specials.Tie as tie
 
 abbrev Inv-loop : tie.InvT-loop
-Inv-loop special₀ window base addr i₀ special i = (i ≤ 12) × (special ≡ loaded (λ (j : ℕ). readOcta (lent base window) ((addr + 8 * j) % 2 ^ 64)) i special₀)
+Inv-loop special₀ a b at addr i₀ special i = (i ≤ 12) × (special ≡ loaded (λ (j : ℕ). readOcta (lent at a b) ((addr + 8 * j) % 2 ^ 64)) i special₀)
 
 abbrev μ-loop : tie.MeasureT-loop
-μ-loop special₀ window base addr i₀ special i = 12 - i
+μ-loop special₀ a b at addr i₀ special i = 12 - i
 
 loop-holds : tie.Need-loop-holds Inv-loop μ-loop
 unfolding loaded
@@ -45,7 +45,11 @@ loop-less : tie.Need-loop-less Inv-loop μ-loop
 loop-less c = omega arith
 
 loop-again : tie.Need-loop-again Inv-loop μ-loop
-loop-again c = (omega arith, loaded-more _ _ _ _ _ _ (c .before .before .before .before .loop .inv .1) (c .save-special .ensures .0) (c .before .read-octa .ensures ∙ ap (readOcta _) (c .before .before .wrapping-add .ensures)))
+loop-again c = (
+  omega arith,
+  loaded-more _ _ _ _ _ _ (c .before .before .before .before .loop .inv .1) (c .save-special .ensures .0)
+      (c .before .read-octa .ensures .0 ∙ ap (readOcta _) (c .before .before .wrapping-add .ensures)),
+)
 
 returns : tie.Need-returns Inv-loop μ-loop
 returns c =

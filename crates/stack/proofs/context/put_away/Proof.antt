@@ -1,6 +1,6 @@
 -- `put_away` meets its contract: what it stores is of the registers before it writes any of them.
-use borrow.Author.Needs.{needs}
 use Rattle.stack.specs.ContextWork.{leftGeneral}
+use borrow.Author.Needs.{needs}
 use Rattle.stack.proofs.context.put_away.Statement.{statement}
 use Rattle.stack.proofs.context.put_away.Tie as tie
 
@@ -40,9 +40,12 @@ element-write-general c = search needs
 same-length : tie.Need-same-length
 same-length c = search needs
 
+same-length-2 : tie.Need-same-length-2
+same-length-2 c = search needs
+
 returns : tie.Need-returns
 unfolding leftGeneral
-returns c = (search needs, rw (c .clear-range .ensures, c .before .before .before .before .before .before .before .wrapping-add .ensures))
+returns c = (search needs, rw (c .clear-range .ensures, c .before .before .before .before .before .before .before .before .before .before .wrapping-add .ensures))
 
 pub put-away-spec : {M : Type 1} → statement M
 put-away-spec =
@@ -60,4 +63,5 @@ put-away-spec =
     mul-general
     element-write-general
     same-length
+    same-length-2
     returns)

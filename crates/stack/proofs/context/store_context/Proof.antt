@@ -1,8 +1,14 @@
 -- `store_context` meets its contract: its five stores, one after another, are the context.
-use borrow.Author.Needs.{needs}
+use mathlib.Core.Path.{_∙_}
+use native.Mathlib.Omega.{arith}
+use Rattle.stack.specs.ContextWork.{Ranged}
 use Rattle.stack.proofs.SaveStores.{context-stored}
+use borrow.Author.Needs.{needs}
 use Rattle.stack.proofs.context.store_context.Statement.{statement}
 use Rattle.stack.proofs.context.store_context.Tie as tie
+
+bounds : (c : tie.Start) → Ranged (c .args .special .now)
+bounds c = c .pre
 
 element-copy-out-ro : tie.Need-element-copy-out-ro
 element-copy-out-ro c = search needs
@@ -56,40 +62,45 @@ store-specials-requires : tie.Need-store-specials-requires
 store-specials-requires c κs = search needs
 
 add-wrapping-add-3 : tie.Need-add-wrapping-add-3
-add-wrapping-add-3 c = search needs
+add-wrapping-add-3 c = omega (arith, bounds (c .before .before .before .before .before .before .before .before .before .before .before .before .before .before .before .before .before .before .before .before .before .before .before .before .before .before .before .before .before .before .before .before .before .before .before .before .before) .l-g, bounds (c .before .before .before .before .before .before .before .before .before .before .before .before .before .before .before .before .before .before .before .before .before .before .before .before .before .before .before .before .before .before .before .before .before .before .before .before .before) .g-high)
 
 sub-wrapping-add-2 : tie.Need-sub-wrapping-add-2
-sub-wrapping-add-2 c = search needs
+sub-wrapping-add-2 c = omega (arith, bounds (c .before .before .before .before .before .before .before .before .before .before .before .before .before .before .before .before .before .before .before .before .before .before .before .before .before .before .before .before .before .before .before .before .before .before .before .before .before) .g-high)
 
 mul-wrapping-add-4 : tie.Need-mul-wrapping-add-4
-mul-wrapping-add-4 c = search needs
+mul-wrapping-add-4 c = omega (arith, bounds (c .before .before .before .before .before .before .before .before .before .before .before .before .before .before .before .before .before .before .before .before .before .before .before .before .before .before .before .before .before .before .before .before .before .before .before .before .before) .l-g, bounds (c .before .before .before .before .before .before .before .before .before .before .before .before .before .before .before .before .before .before .before .before .before .before .before .before .before .before .before .before .before .before .before .before .before .before .before .before .before) .g-high)
 
 wrapping-add-requires-4 : tie.Need-wrapping-add-requires-4
 wrapping-add-requires-4 c κs = search needs
 
 mul-write-octa : tie.Need-mul-write-octa
-mul-write-octa c = search needs
+mul-write-octa c = omega (arith, bounds (c .before .before .before .before .before .before .before .before .before .before .before .before .before .before .before .before .before .before .before .before .before .before .before .before .before .before .before .before .before .before .before .before .before .before .before .before .before .before .before .before) .g-high)
 
 add-write-octa : tie.Need-add-write-octa
-add-write-octa c = search needs
+add-write-octa c = omega (arith, bounds (c .before .before .before .before .before .before .before .before .before .before .before .before .before .before .before .before .before .before .before .before .before .before .before .before .before .before .before .before .before .before .before .before .before .before .before .before .before .before .before .before) .g-high, bounds (c .before .before .before .before .before .before .before .before .before .before .before .before .before .before .before .before .before .before .before .before .before .before .before .before .before .before .before .before .before .before .before .before .before .before .before .before .before .before .before .before) .a-high)
 
 write-octa-requires-2 : tie.Need-write-octa-requires-2
 write-octa-requires-2 c κs = search needs
 
 same-length : tie.Need-same-length
-same-length c = search needs
+same-length c =
+    c .before .before .before .before .write-octa2 .kept .0 ∙ c .before .before .before .before .before .before .before .before .before .before .before .before .store-specials .kept .1 .0 ∙ c .before .before .before .before .before .before .before .before .before .before .before .before .before .before .before .before .before .before .before .before .store-range2 .kept .1 .0
+    ∙ c .before .before .before .before .before .before .before .before .before .before .before .before .before .before .before .before .before .before .before .before .before .before .before .before .before .before .before .before .write-octa .kept .0 ∙ c .before .before .before .before .before .before .before .before .before .before .before .before .before .before .before .before .before .before .before .before .before .before .before .before .before .before .before .before .before .before .before .before .before .before .before .before .store-range .kept .1 .0
+
+same-length-2 : tie.Need-same-length-2
+same-length-2 c =
+    c .before .before .before .before .write-octa2 .kept .1 .0 ∙ c .before .before .before .before .before .before .before .before .before .before .before .before .store-specials .kept .1 .1 .0 ∙ c .before .before .before .before .before .before .before .before .before .before .before .before .before .before .before .before .before .before .before .before .store-range2 .kept .1 .1 .0
+    ∙ c .before .before .before .before .before .before .before .before .before .before .before .before .before .before .before .before .before .before .before .before .before .before .before .before .before .before .before .before .write-octa .kept .1 .0 ∙ c .before .before .before .before .before .before .before .before .before .before .before .before .before .before .before .before .before .before .before .before .before .before .before .before .before .before .before .before .before .before .before .before .before .before .before .before .store-range .kept .1 .1 .0
 
 returns : tie.Need-returns
 returns c =
-    let packed = c .before .before .before .before in
-    let specials = packed .before .before .before .before .before in
-    let globals = specials .before .before .before .before .before in
-    let marker = globals .before .before .before .before .before in
-    let locals = marker .before .before .before in
-    context-stored _ _ (locals .before .before .before .before .before .before .before .pre) _ _ _ _ _ _ _ _ _ _
-    (locals .store-range .ensures) (marker .wrapping-add .ensures) (c .before .before .before .before .before .before .before .before .before .before .before .before .before .before .before .before .before .write-octa .ensures)
-    (globals .wrapping-add2 .ensures) (c .before .before .before .before .before .before .before .before .before .before .before .before .store-range2 .ensures) (specials .wrapping-add3 .ensures) (c .before .before .before .before .before .before .before .store-specials .ensures)
-    (packed .wrapping-add4 .ensures) (c .before .before .write-octa2 .ensures)
+    context-stored _ _ (c .before .before .before .before .before .before .before .before .before .before .before .before .before .before .before .before .before .before .before .before .before .before .before .before .before .before .before .before .before .before .before .before .before .before .before .before .before .before .before .before .before .before .before .before .before .pre) _ _ _ _ _ _ _ _ _ _
+    (c .before .before .before .before .before .before .before .before .before .before .before .before .before .before .before .before .before .before .before .before .before .before .before .before .before .before .before .before .before .before .before .before .before .before .before .before .store-range .ensures) (c .before .before .before .before .before .before .before .before .before .before .before .before .before .before .before .before .before .before .before .before .before .before .before .before .before .before .before .before .before .before .before .wrapping-add .ensures)
+    (c .before .before .before .before .before .before .before .before .before .before .before .before .before .before .before .before .before .before .before .before .before .before .before .before .before .before .before .before .write-octa .ensures .0)
+    (c .before .before .before .before .before .before .before .before .before .before .before .before .before .before .before .before .before .before .before .before .before .before .before .wrapping-add2 .ensures)
+    (c .before .before .before .before .before .before .before .before .before .before .before .before .before .before .before .before .before .before .before .before .store-range2 .ensures)
+    (c .before .before .before .before .before .before .before .before .before .before .before .before .before .before .before .wrapping-add3 .ensures) (c .before .before .before .before .before .before .before .before .before .before .before .before .store-specials .ensures)
+    (c .before .before .before .before .before .before .before .wrapping-add4 .ensures) (c .before .before .before .before .write-octa2 .ensures .0)
 
 pub store-context-spec : {M : Type 1} → statement M
 store-context-spec =
@@ -120,4 +131,5 @@ store-context-spec =
     add-write-octa
     write-octa-requires-2
     same-length
+    same-length-2
     returns)

@@ -36,13 +36,13 @@ least-requires c κs = search needs
 
 restore-requires : tie.Need-restore-requires
 restore-requires c κs =
-    let counts = c .before .before in
-    let start = counts .before .before .before .before .before .before in
-    let a = start .args in (
+    let start = c .before .before .before .before .before .before .before .before .before in
+    let a = start .args in
+    let least = c .before .least in (
       start .pre .1,
-      omega (arith, c .before .least .ensures, start .pre .0 .g-high),
-      frame-read (lent (a .base) (a .window .now)) (a .special .now) (a .x) (a .h) _ _ _ (start .pre .0) (start .pre .2) (start .pre .1)
-          (counts .before .wrapping-sub .ensures) (counts .count-of .ensures .0) (c .before .least .ensures) (start .pre .3),
+      omega (arith, least .ensures, start .pre .0 .g-high),
+      frame-read (lent (a .at) (a .a .now) (a .b .now)) (a .special .now) (a .x) (a .h) _ _ _ (start .pre .0) (start .pre .2) (start .pre .1)
+          (c .before .before .before .wrapping-sub .ensures) (c .before .before .count-of .ensures .0) (least .ensures) (start .pre .3),
     )
 
 clear-range-requires : tie.Need-clear-range-requires
@@ -60,15 +60,16 @@ element-write-special-3 c = search needs
 returns : tie.Need-returns
 returns c =
     λ pc halt marks.
-    let restores = c .before .before in
-    let counts = restores .before .before .before in
-    let start = counts .before .before .before .before .before .before in
+    let start = c .before .before .before .before .before .before .before .before .before .before .before .before in
     let a = start .args in
-    left (lent (a .base) (a .window .now)) (a .special .now) (a .x) (a .h) _ _ _ (start .pre .0) (start .pre .2) (start .pre .1)
-    (counts .before .wrapping-sub .ensures) (counts .count-of .ensures .0) (restores .before .before .least .ensures) (a .general .now) _ _ pc halt marks
-    (restores .restore .ensures (a .special .now) pc halt marks refl
-    (low-is (lent (a .base) (a .window .now)) (a .special .now) (a .x) (a .h) _ _ _ (start .pre .0) (start .pre .2) (start .pre .1)
-    (counts .before .wrapping-sub .ensures) (counts .count-of .ensures .0) (restores .before .before .least .ensures) (a .general .now) pc halt marks))
+    let bottom = c .before .before .before .before .before .before .wrapping-sub in
+    let count = c .before .before .before .before .before .count-of in
+    let least = c .before .before .before .before .least in
+    left (lent (a .at) (a .a .now) (a .b .now)) (a .special .now) (a .x) (a .h) _ _ _ (start .pre .0) (start .pre .2) (start .pre .1)
+    (bottom .ensures) (count .ensures .0) (least .ensures) (a .general .now) _ _ pc halt marks
+    (c .before .before .restore .ensures (a .special .now) pc halt marks refl
+    (low-is (lent (a .at) (a .a .now) (a .b .now)) (a .special .now) (a .x) (a .h) _ _ _ (start .pre .0) (start .pre .2) (start .pre .1)
+    (bottom .ensures) (count .ensures .0) (least .ensures) (a .general .now) pc halt marks))
     (c .clear-range .ensures)
 
 pub leave-spec : {M : Type 1} → statement M

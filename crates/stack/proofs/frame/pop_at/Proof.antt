@@ -1,4 +1,4 @@
--- `pop_at` meets its contract: the hole is read where it lies in the window, and then the frame.
+-- `pop_at` meets its contract: the hole is read where it is lent, and then the frame.
 use mathlib.Core.Path.{sym, _∙_}
 use native.Mathlib.Omega.{arith}
 use Rattle.model.specs.Parts.{made, lent}
@@ -26,13 +26,14 @@ run-refusal-requires c κs = search needs
 returns : tie.Need-returns
 returns c =
     λ pc halt marks good.
-    let first = c .before in
-    let start = first .before .before .before .before .before .before in
+    let start = c .before .before .before .before .before .before .before .before in
     let a = start .args in
-    let w = lent (a .base) (a .window .now) in
+    let w = lent (a .at) (a .a .now) (a .b .now) in
     let l = a .special .now in
-    pop-lacks w (made (a .general .now) l pc halt marks) (a .x) (a .yz) (good .state-good) (good .window-good) (start .pre .1 .above) (good .place-good)
-    (λ i. c .if1 .taken (hole-run w l (start .pre .1) _ (first .before .wrapping-sub .ensures) _ (first .run-refusal .ensures) ∙ i))
+    let first = c .before .run-refusal in
+    let hole = c .before .before .wrapping-sub in
+    pop-lacks w (made (a .general .now) l pc halt marks) (a .x) (a .yz) (good .state-good) (good .windows-good) (start .pre .1 .above) (good .place-good)
+    (λ i. c .if1 .taken (hole-run w l (start .pre .1) _ (hole .ensures) _ (first .ensures) ∙ i))
 
 read-octa-requires : tie.Need-read-octa-requires
 read-octa-requires c κs = search needs
@@ -55,24 +56,24 @@ run-refusal-requires-2 c κs = search needs
 returns-2 : tie.Need-returns-2
 returns-2 c =
     λ pc halt marks good.
-    let judged = c .before in
-    let first = judged .before .before .before .before .before in
-    let start = first .before .before .before .before .before .before in
+    let start = c .before .before .before .before .before .before .before .before .before .before .before .before .before .before in
     let a = start .args in
-    let w = lent (a .base) (a .window .now) in
+    let w = lent (a .at) (a .a .now) (a .b .now) in
     let l = a .special .now in
-    pop-short w (made (a .general .now) l pc halt marks) (a .x) (a .yz) (good .state-good) (good .window-good) (start .pre .1 .above) (good .place-good)
-    (sym (hole-run w l (start .pre .1) _ (first .before .wrapping-sub .ensures) _ (first .run-refusal .ensures)) ∙ judged .before .before .before .before .if1 .left)
-    _ (hole-is w l (start .pre .1) _ (first .before .wrapping-sub .ensures) _ (judged .before .before .before .read-octa .ensures))
-    (λ i. c .if2 .taken (frame-run w l (start .pre .1) _ _ _ _ (omega arith) (judged .before .before .wrapping-sub2 .ensures) (judged .before .least .ensures) (judged .run-refusal2 .ensures) ∙ i))
+    let first = c .before .before .before .before .before .before .before .run-refusal in
+    let hole = c .before .before .before .before .before .before .before .before .wrapping-sub in
+    pop-short w (made (a .general .now) l pc halt marks) (a .x) (a .yz) (good .state-good) (good .windows-good) (start .pre .1 .above) (good .place-good)
+    (sym (hole-run w l (start .pre .1) _ (hole .ensures) _ (first .ensures)) ∙ c .before .before .before .before .before .before .if1 .left)
+    _ (hole-is w l (start .pre .1) _ (hole .ensures) _ (c .before .before .before .before .before .read-octa .ensures .0))
+    (λ i. c .if2 .taken ((frame-run w l (start .pre .1) _ _ _ _ (omega arith) (c .before .before .before .wrapping-sub2 .ensures) (c .before .before .least .ensures) (c .before .run-refusal2 .ensures)) ∙ i))
 
 leave-requires : tie.Need-leave-requires
 leave-requires c κs =
-    let judged = c .before .before .before in
-    let start = judged .before .before .before .before .before .before .before .before .before .before .before in
+    let start = c .before .before .before .before .before .before .before .before .before .before .before .before .before .before .before .before in
     let a = start .args in
-    let run = frame-run (lent (a .base) (a .window .now)) (a .special .now) (start .pre .1) _ _ _ _ (omega arith) (judged .before .before .wrapping-sub2 .ensures) (judged .before .least .ensures) (judged .run-refusal2 .ensures) in
-    (start .pre .0, omega arith, start .pre .1, sym run ∙ c .before .before .if2 .left)
+    let w = lent (a .at) (a .a .now) (a .b .now) in
+    let l = a .special .now in
+    (start .pre .0, omega arith, start .pre .1, sym (frame-run w l (start .pre .1) _ _ _ _ (omega arith) (c .before .before .before .before .before .wrapping-sub2 .ensures) (c .before .before .before .before .least .ensures) (c .before .before .before .run-refusal2 .ensures)) ∙ c .before .before .if2 .left)
 
 mul-wrapping-add : tie.Need-mul-wrapping-add
 mul-wrapping-add c = search needs
@@ -83,16 +84,16 @@ wrapping-add-requires c κs = search needs
 returns-3 : tie.Need-returns-3
 returns-3 c =
     λ pc halt marks good.
-    let judged = c .before .before .before .before .before in
-    let first = judged .before .before .before .before .before in
-    let start = first .before .before .before .before .before .before in
+    let start = c .before .before .before .before .before .before .before .before .before .before .before .before .before .before .before .before .before .before in
     let a = start .args in
-    let w = lent (a .base) (a .window .now) in
+    let w = lent (a .at) (a .a .now) (a .b .now) in
     let l = a .special .now in
-    pop-done w (made (a .general .now) l pc halt marks) (a .x) (a .yz) (good .state-good) (good .window-good) (start .pre .1 .above) (good .place-good)
-    (sym (hole-run w l (start .pre .1) _ (first .before .wrapping-sub .ensures) _ (first .run-refusal .ensures)) ∙ judged .before .before .before .before .if1 .left)
-    _ (hole-is w l (start .pre .1) _ (first .before .wrapping-sub .ensures) _ (judged .before .before .before .read-octa .ensures)) _ _
-    (sym (frame-run w l (start .pre .1) _ _ _ _ (omega arith) (judged .before .before .wrapping-sub2 .ensures) (judged .before .least .ensures) (judged .run-refusal2 .ensures)) ∙ c .before .before .before .before .if2 .left)
+    let first = c .before .before .before .before .before .before .before .before .before .before .before .run-refusal in
+    let hole = c .before .before .before .before .before .before .before .before .before .before .before .before .wrapping-sub in
+    pop-done w (made (a .general .now) l pc halt marks) (a .x) (a .yz) (good .state-good) (good .windows-good) (start .pre .1 .above) (good .place-good)
+    (sym (hole-run w l (start .pre .1) _ (hole .ensures) _ (first .ensures)) ∙ c .before .before .before .before .before .before .before .before .before .before .if1 .left)
+    _ (hole-is w l (start .pre .1) _ (hole .ensures) _ (c .before .before .before .before .before .before .before .before .before .read-octa .ensures .0)) _ _
+    (sym (frame-run w l (start .pre .1) _ _ _ _ (omega arith) (c .before .before .before .before .before .before .before .wrapping-sub2 .ensures) (c .before .before .before .before .before .before .least .ensures) (c .before .before .before .before .before .run-refusal2 .ensures)) ∙ c .before .before .before .before .if2 .left)
     (c .before .leave .ensures pc halt marks) (c .wrapping-add .ensures)
 
 pub pop-at-spec : {M : Type 1} → statement M

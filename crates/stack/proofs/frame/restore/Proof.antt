@@ -27,12 +27,10 @@ load-range-requires c κs = search needs
 returns : tie.Need-returns
 returns c =
     λ special pc halt marks l low.
-    let slides = c .before .before .before in
-    let outputs = slides .before .before in
-    let start = outputs .before .before .before in
+    let start = c .before .before .before .before .before .before .before .before .before in
     let a = start .args in
-    written-hole (lent (a .base) (a .window .now)) (a .bottom) (a .h) (a .low) (a .x) (made (a .general .now) special pc halt marks) low (start .pre .2) _ _ _ refl (slides .slide-up .ensures)
-    _ (outputs .last-output .ensures special pc halt marks l) (c .before .before .if1 .taken) (c .load-range .ensures)
+    written-hole (lent (a .at) (a .a .now) (a .b .now)) (a .bottom) (a .h) (a .low) (a .x) (made (a .general .now) special pc halt marks) low (start .pre .2) _ _ _ refl
+    (c .before .before .before .slide-up .ensures) _ (c .before .before .before .before .before .last-output .ensures special pc halt marks l) (c .before .before .if1 .taken) (c .load-range .ensures)
 
 load-range-requires-2 : tie.Need-load-range-requires-2
 load-range-requires-2 c κs = search needs
@@ -40,11 +38,10 @@ load-range-requires-2 c κs = search needs
 returns-2 : tie.Need-returns-2
 returns-2 c =
     λ special pc halt marks l low.
-    let slides = c .before .before .before in
-    let start = slides .before .before .before .before .before in
+    let start = c .before .before .before .before .before .before .before .before .before in
     let a = start .args in
-    written-all (lent (a .base) (a .window .now)) (a .bottom) (a .h) (a .low) (a .x) (made (a .general .now) special pc halt marks) low (start .pre .2) _ _ _ refl (slides .slide-up .ensures)
-    (c .before .before .if1 .left) (c .load-range2 .ensures)
+    written-all (lent (a .at) (a .a .now) (a .b .now)) (a .bottom) (a .h) (a .low) (a .x) (made (a .general .now) special pc halt marks) low (start .pre .2) _ _ _ refl
+    (c .before .before .before .slide-up .ensures) (c .before .before .if1 .left) (c .load-range2 .ensures)
 
 pub restore-spec : {M : Type 1} → statement M
 restore-spec =

@@ -1,7 +1,7 @@
 -- `store_frame` meets its contract: the hole is the octabyte after the locals.
 use mathlib.Core.Path.{sym}
-use native.Mathlib.Omega.{arith}
 use Prim.Native.Nat.{_+_}
+use native.Mathlib.Omega.{arith}
 use Rattle.model.specs.Frames.{framed}
 use Rattle.model.specs.Parts.{made, lent}
 use Rattle.stack.proofs.PushPopRegisters.{framed-hole, locals-stored, store-next}
@@ -24,15 +24,17 @@ write-octa-requires c κs = search needs
 same-length : tie.Need-same-length
 same-length c = search needs
 
+same-length-2 : tie.Need-same-length-2
+same-length-2 c = search needs
+
 returns : tie.Need-returns
 returns c =
-    let start = c .before .before .before .before .before .before .before .before .before .before in
-    let a = start .args in
-    let locals = c .before .before .before .before .before .before .before .store-range in
-    let sum = c .before .before .before .before .wrapping-add in
     λ special pc halt marks.
+    let start = c .before .before .before .before .before .before .before .before .before .before .before .before .before .before .before .before .before in
+    let a = start .args in
     let s = made (a .general .now) special pc halt marks in
-    store-next (lent (a .base) (a .window .now)) (a .ro) (a .h + 1) (a .h) _ (start .pre .1) (omega arith) (sum .ensures) (framed s (a .h)) _ _ _ (c .before .before .write-octa .ensures) (locals-stored _ _ s (a .ro) (a .h) (start .pre .0) (start .pre .1) (locals .ensures))
+    store-next (lent (a .at) (a .a .now) (a .b .now)) (a .ro) (a .h + 1) (a .h) _ (start .pre .1) (omega arith) (c .before .before .before .before .before .before .before .wrapping-add .ensures) (framed s (a .h)) _ _ _
+    (c .before .before .before .before .write-octa .ensures .0) (locals-stored _ _ s (a .ro) (a .h) (start .pre .0) (start .pre .1) (c .before .before .before .before .before .before .before .before .before .before .before .before .store-range .ensures))
     (sym (framed-hole s (a .h)))
 
 pub store-frame-spec : {M : Type 1} → statement M
@@ -44,4 +46,5 @@ store-frame-spec =
     wrapping-add-requires
     write-octa-requires
     same-length
+    same-length-2
     returns)

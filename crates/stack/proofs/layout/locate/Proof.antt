@@ -1,18 +1,18 @@
 -- `locate` meets its contract: each way out is a stage of the context plan, in its order 6, 14, 15, 6, 16, 6.
 use mathlib.Core.Path.{_≡_, sym, _∙_}
 use native.Mathlib.Omega.{arith}
-use borrow.Author.Needs.{needs}
 use Rattle.model.specs.Memory.{shapesOf}
 use Rattle.model.specs.Plan.{worst}
 use Rattle.model.specs.Step.{refusing}
 use Rattle.model.specs.Parts.{lent}
 use Rattle.stack.proofs.Judged.{lost-by, missing-by}
 use Rattle.stack.proofs.ContextPlaces.{told-count, way-lost, way-threshold, way-status, way-outside, way-excess, way-short, way-found}
+use borrow.Author.Needs.{needs}
 use Rattle.stack.proofs.layout.locate.Statement.{statement}
 use Rattle.stack.proofs.layout.locate.Tie as tie
 
--- the packed octabyte lies inside
-inside : (c : tie.Else1) → worst (refusing (shapesOf (lent (c .before .before .before .args .base) (c .before .before .before .args .window .now)))) (c .before .before .before .args .address) 1 ≡ 0
+-- the packed octabyte is lent
+inside : (c : tie.Else1) → worst (refusing (shapesOf (lent (c .before .before .before .before .args .at) (c .before .before .before .before .args .a .now) (c .before .before .before .before .args .b .now)))) (c .before .before .before .before .args .address) 1 ≡ 0
 inside c = sym (c .before .run-refusal .ensures) ∙ c .if1 .left
 
 run-refusal-requires : tie.Need-run-refusal-requires
@@ -30,10 +30,10 @@ read-octa-requires : tie.Need-read-octa-requires
 read-octa-requires c κs = search needs
 
 returns-2 : tie.Need-returns-2
-returns-2 c = way-threshold _ _ _ (inside (c .before .before)) (c .before .read-octa .ensures) (c .if2 .taken)
+returns-2 c = way-threshold _ _ _ (inside (c .before .before)) (c .before .read-octa .ensures .0) (c .if2 .taken)
 
 returns-3 : tie.Need-returns-3
-returns-3 c = way-status _ _ _ (inside (c .before .before .before)) (c .before .before .read-octa .ensures) (c .before .if2 .left) (omega arith) (c .if3 .taken)
+returns-3 c = way-status _ _ _ (inside (c .before .before .before)) (c .before .before .read-octa .ensures .0) (c .before .if2 .left) (omega arith) (c .if3 .taken)
 
 cast-save-context-layout : tie.Need-cast-save-context-layout
 cast-save-context-layout c = search needs
@@ -58,10 +58,8 @@ lost-requires-2 c κs = lost-by _ _ _ _ (c .before .run-refusal2 .ensures) (c .i
 
 returns-4 : tie.Need-returns-4
 returns-4 c =
-    let told = c .before .before .before .before .before .before in
-    let packed = told .before .before .before in
     let run = c .before .before .run-refusal2 in
-    way-short _ _ _ (inside (packed .before)) (packed .read-octa .ensures) (told .before .before .if2 .left) (omega arith) (told .before .if3 .left) _ (told .save-context-layout .ensures) _
+    way-short _ _ _ (inside (c .before .before .before .before .before .before .before .before .before .before)) (c .before .before .before .before .before .before .before .before .before .read-octa .ensures .0) (c .before .before .before .before .before .before .before .before .if2 .left) (omega arith) (c .before .before .before .before .before .before .before .if3 .left) _ (c .before .before .before .before .before .before .save-context-layout .ensures) _
     (c .before .before .before .before .layout .given .1) (λ z. c .before .if4 .taken (run .ensures ∙ z)) _ (missing-by _ _ _ _ (run .ensures) (c .before .if4 .taken) _ (c .lost2 .ensures))
 
 enum-told : tie.Need-enum-told
@@ -72,23 +70,17 @@ enum-known-layout-2 c = search needs
 
 returns-5 : tie.Need-returns-5
 returns-5 c =
-    let told = c .before .before .before .before .before in
-    let packed = told .before .before .before in
-    way-found _ _ _ (inside (packed .before)) (packed .read-octa .ensures) (told .before .before .if2 .left) (omega arith) (told .before .if3 .left) _ (told .save-context-layout .ensures) _
+    way-found _ _ _ (inside (c .before .before .before .before .before .before .before .before .before)) (c .before .before .before .before .before .before .before .before .read-octa .ensures .0) (c .before .before .before .before .before .before .before .if2 .left) (omega arith) (c .before .before .before .before .before .before .if3 .left) _ (c .before .before .before .before .before .save-context-layout .ensures) _
     (c .before .before .before .layout .given .1) (sym (c .before .run-refusal2 .ensures) ∙ c .if4 .left)
 
 returns-6 : tie.Need-returns-6
 returns-6 c =
-    let told = c .before .before in
-    let packed = told .before .before .before in
-    way-excess _ _ _ (inside (packed .before)) (packed .read-octa .ensures) (told .before .before .if2 .left) (omega arith) (told .before .if3 .left) _ (told .save-context-layout .ensures) _
+    way-excess _ _ _ (inside (c .before .before .before .before .before .before)) (c .before .before .before .before .before .read-octa .ensures .0) (c .before .before .before .before .if2 .left) (omega arith) (c .before .before .before .if3 .left) _ (c .before .before .save-context-layout .ensures) _
     (c .enum-told .given .1)
 
 returns-7 : tie.Need-returns-7
 returns-7 c =
-    let told = c .before .before .before in
-    let packed = told .before .before .before in
-    way-outside _ _ _ (inside (packed .before)) (packed .read-octa .ensures) (told .before .before .if2 .left) (omega arith) (told .before .if3 .left) _ (told .save-context-layout .ensures) _
+    way-outside _ _ _ (inside (c .before .before .before .before .before .before .before)) (c .before .before .before .before .before .before .read-octa .ensures .0) (c .before .before .before .before .before .if2 .left) (omega arith) (c .before .before .before .before .if3 .left) _ (c .before .before .before .save-context-layout .ensures) _
     (c .before .layout2 .given .1)
 
 pub locate-spec : {M : Type 1} → statement M

@@ -4,14 +4,14 @@ use Rattle.model.specs.Memory.{shapesOf}
 use Rattle.model.specs.Plan.{worst}
 use Rattle.model.specs.Step.{refusing}
 use Rattle.model.specs.Parts.{lent}
-use Rattle.stack.proofs.ContextPlaces.{layout-outside, layout-excess, layout-found}
 use Rattle.stack.proofs.Judged.{lost-by, missing-by}
+use Rattle.stack.proofs.ContextPlaces.{layout-outside, layout-excess, layout-found}
 use borrow.Author.Needs.{needs}
 use Rattle.stack.proofs.layout.save_context_layout.Statement.{statement}
 use Rattle.stack.proofs.layout.save_context_layout.Tie as tie
 
--- the local count lies inside
-inside : (c : tie.Else1) → worst (refusing (shapesOf (lent (c .before .before .before .before .args .base) (c .before .before .before .before .args .window .now)))) (c .before .before .wrapping-sub .result) 1 ≡ 0
+-- the local count is lent
+inside : (c : tie.Else1) → worst (refusing (shapesOf (lent (c .before .before .before .before .before .args .at) (c .before .before .before .before .before .args .a .now) (c .before .before .before .before .before .args .b .now)))) (c .before .before .wrapping-sub .result) 1 ≡ 0
 inside c = sym (c .before .run-refusal .ensures) ∙ c .if1 .left
 
 sub-wrapping-sub : tie.Need-sub-wrapping-sub
@@ -39,9 +39,7 @@ read-octa-requires : tie.Need-read-octa-requires
 read-octa-requires c κs = search needs
 
 returns-2 : tie.Need-returns-2
-returns-2 c =
-    let read = c .before in
-    layout-excess _ _ _ _ (read .before .before .before .wrapping-sub .ensures) _ (inside (read .before)) (read .read-octa .ensures) (c .if2 .taken)
+returns-2 c = layout-excess _ _ _ _ (c .before .before .before .before .wrapping-sub .ensures) _ (inside (c .before .before)) (c .before .read-octa .ensures .0) (c .if2 .taken)
 
 add-wrapping-sub : tie.Need-add-wrapping-sub
 add-wrapping-sub c = search needs
@@ -57,10 +55,8 @@ wrapping-sub-requires-2 c κs = search needs
 
 returns-3 : tie.Need-returns-3
 returns-3 c =
-    let counted = c .before in
-    let read = counted .before in
-    layout-found _ _ _ _ (read .before .before .before .wrapping-sub .ensures) _ (inside (read .before)) (read .read-octa .ensures) _
-    (counted .if2 .left) (c .wrapping-sub2 .ensures)
+    layout-found _ _ _ _ (c .before .before .before .before .before .wrapping-sub .ensures) _ (inside (c .before .before .before)) (c .before .before .read-octa .ensures .0) _
+    (c .before .if2 .left) (c .wrapping-sub2 .ensures)
 
 pub save-context-layout-spec : {M : Type 1} → statement M
 save-context-layout-spec =

@@ -7,7 +7,7 @@ pop-frame-requires : tie.Need-pop-frame-requires
 pop-frame-requires c κs = search needs
 
 returns : tie.Need-returns
-returns c = c .pop-frame .ensures (c .before .before .before .before .before .before .before .args .state .pc)
+returns c = c .pop-frame .ensures (c .before .before .before .before .before .before .before .before .args .state .pc)
 
 pub pop-frame-spec : {M : Type 1} → statement M
 pop-frame-spec = tie.close (tie.spec pop-frame-requires returns)

@@ -9,8 +9,11 @@ save-context-requires c κs = search needs
 same-length : tie.Need-same-length
 same-length c = search needs
 
+same-length-2 : tie.Need-same-length-2
+same-length-2 c = search needs
+
 returns : tie.Need-returns
-returns c = c .before .before .save-context .ensures (c .before .before .before .before .before .before .before .before .before .before .args .state .pc)
+returns c = c .before .before .before .before .save-context .ensures (c .before .before .before .before .before .before .before .before .before .before .before .before .before .before .args .state .pc)
 
 pub save-context-spec : {M : Type 1} → statement M
-save-context-spec = tie.close (tie.spec save-context-requires same-length returns)
+save-context-spec = tie.close (tie.spec save-context-requires same-length same-length-2 returns)

@@ -7,7 +7,7 @@ unsave-context-requires : tie.Need-unsave-context-requires
 unsave-context-requires c κs = search needs
 
 returns : tie.Need-returns
-returns c = c .unsave-context .ensures (c .before .before .before .before .before .before .before .args .state .pc)
+returns c = c .unsave-context .ensures (c .before .before .before .before .before .before .before .before .args .state .pc)
 
 pub unsave-context-spec : {M : Type 1} → statement M
 unsave-context-spec = tie.close (tie.spec unsave-context-requires returns)
