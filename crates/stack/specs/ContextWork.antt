@@ -1,6 +1,6 @@
 -- What the contracts of the private functions of SAVE and UNSAVE cite: bounds, the context stored, the registers left, octabytes as code
 -- reads them, and the twelve special registers loaded one after another.
-use Prim.Native.Nat.{ℕ, zero, suc, _+_, _-_, _*_, _%_, _^_, _≤_, _<_}
+use Prim.Native.Nat.{ℕ, zero, suc, _+_, _*_, _%_, _^_, _≤_, _<_}
 use mathlib.Core.Path.{_≡_}
 use mathlib.Core.List.{List}
 use lib.ListN.{getD, set}

@@ -3,7 +3,7 @@ ghost use mathlib.Core.Path.{_≡_};
 ghost use mathlib.Core.List.{List};
 ghost use Prim.Native.Nat.{ℕ, _+_, _-_, _≤_, _<_, min};
 ghost use lib.ListN.{getD};
-ghost use Rattle.model.specs.Fill.{over, tab};
+ghost use Rattle.model.specs.Fill.{tab};
 ghost use Rattle.model.specs.Memory.{shapesOf, both};
 ghost use Rattle.model.specs.Plan.{worst, puts};
 ghost use Rattle.model.specs.Registers.{rO, rG, rL, sp};
@@ -58,20 +58,6 @@ fn store_frame(general: &[u64; 256], a: &mut [u8], b: &mut [u8], at: Bases, ro: 
     machine::memory::write_octa(a, b, at, addr, h);
 }
 
-/// The first n registers become those from $from up.
-fn slide(general: &mut [u64; 256], from: u64, n: u64)
-    requires { ⌜ (0 < from) × (from + n ≤ 256) ⌝ }
-    ensures { λ _. ⌜ now (general .exit) ≡ over (λ (k : ℕ). getD (now (general .entry)) (from + k) 0) 0 n (now (general .entry)) ⌝ }
-{
-    let mut i: u64 = 0;
-    while i < n {
-        let src = from + i;
-        let v = general[src as usize];
-        general[i as usize] = v;
-        i += 1;
-    }
-}
-
 /// The registers after a push with hole h.
 fn enter(general: &mut [u64; 256], special: &mut [u64; 32], pc: u64, h: u64)
     requires { ⌜ (Held (now special)) × (h ≤ 255) ⌝ }
@@ -84,7 +70,7 @@ fn enter(general: &mut [u64; 256], special: &mut [u64; 32], pc: u64, h: u64)
     let n = machine::number::saturating_sub(rl, h + 1);
     let new_ro = machine::number::wrapping_add(ro, 8 * (h + 1));
     let rj = machine::number::wrapping_add(pc, 4);
-    slide(general, h + 1, n);
+    super::slide::slide(general, h + 1, n);
     machine::registers::clear_range(general, n, rg);
     special[State::RL] = n;
     special[State::RO] = new_ro;
@@ -154,22 +140,6 @@ fn last_output(general: &[u64; 256], rl: u64, x: u8) -> u64
     general[i]
 }
 
-/// $k becomes $(k − by) for each k from `by` up to, not including, `to`; from the highest down, so that each is read before it is
-/// written.
-fn slide_up(general: &mut [u64; 256], by: u64, to: u64)
-    requires { ⌜ to ≤ 256 ⌝ }
-    ensures { λ _. ⌜ now (general .exit) ≡ over (λ (k : ℕ). getD (now (general .entry)) (k - by) 0) by to (now (general .entry)) ⌝ }
-{
-    let mut k = to;
-    while by < k {
-        let at = k - 1;
-        let src = at - by;
-        let v = general[src as usize];
-        general[at as usize] = v;
-        k = at;
-    }
-}
-
 /// The restored locals and the outputs, which come first: the outputs above the hole, the last one in it, the locals below. Nothing from `low`, the
 /// new rL, up is written; with no outputs that is the hole too.
 fn restore(
@@ -190,7 +160,7 @@ fn restore(
         ≡ betweenBy (lent at (now (a .entry)) (now (b .entry))) bottom (made (now (general .entry)) special pc halt marks) x h) ⌝ }
 {
     let last = last_output(general, rl, x);
-    slide_up(general, h + 1, low);
+    super::slide::slide_up(general, h + 1, low);
     if h < low {
         general[h as usize] = last;
         machine::memory::load_range(general, a, b, at, bottom, 0, h);

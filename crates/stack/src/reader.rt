@@ -1,7 +1,7 @@
 // The context reader: a saved context as a part of one of the caller's windows. The C library hands out the part as numbers, by
 // `place_context`; `read_context` hands out the part itself, for a caller in this language: no crate here is one.
 ghost use mathlib.Core.Path.{_≡_};
-ghost use Prim.Native.Nat.{ℕ, _≤_, _<_};
+ghost use Prim.Native.Nat.{_≤_, _<_};
 ghost use Rattle.model.specs.Memory.{shapesOf};
 ghost use Rattle.model.specs.Plan.{worst};
 ghost use Rattle.model.specs.Step.{unruledBy, refusing};

@@ -1,6 +1,5 @@
 -- `part_in` meets its contract: the room tells which of the two it is.
 use borrow.Author.Tests.{lt-ltb, le-ltb}
-use mathlib.Core.Path.{_∙_}
 use Rattle.stack.specs.SaveUnsave.{placed, partIn}
 use borrow.Author.Needs.{needs}
 use Rattle.stack.proofs.reader.part_in.Statement.{statement}

@@ -6,8 +6,8 @@ use lib.ListN.{getD, set}
 use Rattle.model.specs.Fill.{over}
 use Rattle.model.proofs.Fill.{over-none, over-before}
 use Rattle.stack.proofs.SlidRanges.{over-down, over-start}
-use Rattle.stack.proofs.frame.slide_up.Statement.{statement}
-use Rattle.stack.proofs.frame.slide_up.Tie as tie
+use Rattle.stack.proofs.slide.slide_up.Statement.{statement}
+use Rattle.stack.proofs.slide.slide_up.Tie as tie
 
 abbrev Inv-loop : tie.InvT-loop
 Inv-loop general₀ by to k₀ general k = (general ≡ over (λ (j : ℕ). getD general₀ (j - by) 0) k to general₀) × (k ≤ to) × (min by to ≤ k)

@@ -6,8 +6,8 @@ use lib.ListN.{getD}
 use Rattle.model.specs.Fill.{over}
 use Rattle.model.proofs.Fill.{over-none, over-after}
 use Rattle.machine.proofs.RegisterRanges.{over-next}
-use Rattle.stack.proofs.frame.slide.Statement.{statement}
-use Rattle.stack.proofs.frame.slide.Tie as tie
+use Rattle.stack.proofs.slide.slide.Statement.{statement}
+use Rattle.stack.proofs.slide.slide.Tie as tie
 
 abbrev Inv-loop : tie.InvT-loop
 Inv-loop general₀ from n i₀ general i = (general ≡ over (λ (k : ℕ). getD general₀ (from + k) 0) 0 i general₀) × (i ≤ n)
