@@ -4,12 +4,12 @@ use mathlib.Core.Path.{_≡_, refl, sym, ap, _∙_}
 use mathlib.Core.Bool.{Bool, true, false, cond}
 use Prim.Native.Nat.{ℕ, _+_, _%_, _^_}
 use borrow.Author.Tests.{eq-eqb, ne-eqb}
-use Rattle.model.specs.Memory.{Windows, shapesOf, ruled}
+use Rattle.model.specs.Memory.{Windows, shapesOf}
 use Rattle.model.specs.Registers.{reg, admissible, following, goes, next}
 use Rattle.model.specs.Opcodes.{branch, jump, getAddress, go, pushJump, pushGo, pop, register, immediate, wayOf, conditionOf, armOf, lastOf}
 use Rattle.model.specs.NoMemory.{say}
 use Rattle.model.specs.Control.{near, sumOf, holds}
-use Rattle.model.specs.Step.{refusalOf, planOf, stepOf}
+use Rattle.model.specs.Step.{refusalOf, unruledBy, planOf, stepOf}
 use Rattle.model.specs.declared.State.{State}
 use Rattle.model.specs.declared.Reply.{Reply}
 use Rattle.exceptions.specs.Told.{Told}
@@ -42,7 +42,7 @@ push-at w s x n m k t v e h = rw e at h
 
 -- ---- the step
 
-module _ (w : Windows) (s : State) (a : admissible s ≡ true) (u : ruled (shapesOf w) ≡ true) (op x y z : ℕ) (r : Reply) (t : State) where
+module _ (w : Windows) (s : State) (a : admissible s ≡ true) (u : unruledBy (shapesOf w) ≡ 0) (op x y z : ℕ) (r : Reply) (t : State) where
   pub step-branch : armOf op ≡ branch (conditionOf op) (wayOf op) → Told (say 0 (branchOf s op x y z)) r t → Whole (stepOf w s op x y z) r t w
   unfolding refusalOf planOf branchOf
   step-branch k q = told-step w s a u op x y z r t (branch (conditionOf op) (wayOf op)) k refl _ refl q

@@ -7,14 +7,14 @@ use Prim.Native.Nat.{ℕ, _+_, _%_, _^_}
 use native.Mathlib.Omega.{arith}
 use lib.Dec.{eqb}
 use borrow.Author.Tests.{eq-eqb, ne-eqb}
-use Rattle.model.specs.Memory.{Windows, shapesOf, ruled, putOcta, both, one}
+use Rattle.model.specs.Memory.{Windows, shapesOf, putOcta, both}
 use Rattle.model.specs.Plan.{Plan, answer, read, perform, worst, named, look, looks, puts}
 use Rattle.model.specs.Registers.{withParts, reg, admissible, setRegister}
 use Rattle.model.specs.Opcodes.{firstBranch, lastBranch, firstLoad, lastLoad, firstStore, lastStore, firstArithmetic, lastArithmetic, operationOf, firstOf, among, widthOf, signOf, lastOf, load, store, arithmetic, armOf}
 use Rattle.model.specs.Control.{sumOf}
 use Rattle.model.specs.Trips.{wordOf, raised}
 use Rattle.model.specs.LoadStore.{operandIn, merged, extended, fits, loadFrom, flagV, storeSays, storeTo}
-use Rattle.model.specs.Step.{refusing, refusalOf, planOf, stepOf}
+use Rattle.model.specs.Step.{unruledBy, refusing, refusalOf, planOf, stepOf}
 use Rattle.model.specs.Numbers.{replyOf}
 use Rattle.model.specs.Parts.{made}
 use Rattle.model.specs.declared.State.{State}
@@ -46,7 +46,7 @@ module _ (w : Windows) (s : State) (a : ℕ) (k : List ℕ → Plan State) where
 
   -- an answer that stores there
   stores-there : (r : ℕ) (t : State) (v : ℕ) → worst (refusing (shapesOf w)) a 1 ≡ 0 → carriedOut w s (answer r t a (v ∷ [])) ≡ record { reply = r; state = t; memory = putOcta w a v }
-  unfolding perform puts one
+  unfolding perform puts both
   stores-there r t v e = rw (eq-eqb _ 0 e)
 
 module _ (w : Windows) (s : State) (op x y z a : ℕ) (h : a ≡ sumOf s (lastOf op) y z) where
@@ -85,7 +85,7 @@ module _ (w : Windows) (s : State) (op x y z a : ℕ) (h : a ≡ sumOf s (lastOf
 
 -- ---- the step
 
-module _ (w : Windows) (s : State) (a : admissible s ≡ true) (u : ruled (shapesOf w) ≡ true) (op x y z : ℕ) (r : Reply) (t : State) where
+module _ (w : Windows) (s : State) (a : admissible s ≡ true) (u : unruledBy (shapesOf w) ≡ 0) (op x y z : ℕ) (r : Reply) (t : State) where
   step-load : (v : Windows) → armOf op ≡ load (widthOf op) (signOf op) (lastOf op) → Whole (loadOf w s op x y z) r t v → Whole (stepOf w s op x y z) r t v
   unfolding refusalOf planOf
   step-load v e h = rw (step-open w s op x y z a u (rw e), e) h

@@ -39,18 +39,18 @@ module _ (s : State) (x z : ℕ) where
 
 -- the tags that are not Done's
 abbrev pub refusals : List ℕ
-refusals = 1 ∷ 2 ∷ 3 ∷ 4 ∷ 5 ∷ 6 ∷ 7 ∷ 8 ∷ 9 ∷ 10 ∷ 11 ∷ 12 ∷ 13 ∷ 14 ∷ 15 ∷ 16 ∷ 17 ∷ 18 ∷ 19 ∷ 20 ∷ 21 ∷ []
+refusals = 1 ∷ 2 ∷ 3 ∷ 4 ∷ 5 ∷ 6 ∷ 7 ∷ 8 ∷ 9 ∷ 10 ∷ 11 ∷ 12 ∷ 13 ∷ 14 ∷ 15 ∷ 16 ∷ 17 ∷ 18 ∷ 19 ∷ 20 ∷ 21 ∷ 22 ∷ 23 ∷ []
 
 -- a reply's tag is its number
-tags : each 21 (λ n. eqb (tagOf the-type (replyOf n)) n) ≡ true
+tags : each 23 (λ n. eqb (tagOf the-type (replyOf n)) n) ≡ true
 unfolding each replyOf
 tags = refl
 
-pub tag-is : (n : ℕ) (r : Reply) → n ≤ 20 → r ≡ replyOf n → tagOf the-type r ≡ n
-tag-is n r h e = ap (tagOf the-type) e ∙ eqb-true (tagOf the-type (replyOf n)) n (at-each 21 (λ k. eqb (tagOf the-type (replyOf k)) k) tags n (omega arith))
+pub tag-is : (n : ℕ) (r : Reply) → n ≤ 22 → r ≡ replyOf n → tagOf the-type r ≡ n
+tag-is n r h e = ap (tagOf the-type) e ∙ eqb-true (tagOf the-type (replyOf n)) n (at-each 23 (λ k. eqb (tagOf the-type (replyOf k)) k) tags n (omega arith))
 
 -- 7 to 11, or none
-refusal-small : (s : State) (x v : ℕ) → putRefusal s x v ≤ 20
+refusal-small : (s : State) (x v : ℕ) → putRefusal s x v ≤ 22
 unfolding putRefusal
 refusal-small s x v =
     on P (ltb 31 x) (λ _. omega arith) (λ _.

@@ -9,7 +9,7 @@ use lib.Dec.{eqb}
 use types.Run.{OneOf, miss}
 use denote.Enum.Declared.{tagOf}
 use borrow.Author.Tests.{ne-eqb}
-use Rattle.model.specs.Memory.{Windows, Shapes, shapesOf, ruled}
+use Rattle.model.specs.Memory.{Windows, Shapes, shapesOf, ruled, shares}
 use Rattle.model.specs.Plan.{Plan, answer, Outcome, puts}
 use Rattle.model.specs.Registers.{admissible, goes, halted}
 use Rattle.model.specs.NoMemory.{tell}
@@ -28,7 +28,7 @@ use Rattle.model.proofs.StepByArm.{sent, push-sent, pop-sent}
 use Rattle.stack.specs.GivenBack.{guardedOn, Gives}
 use Rattle.stack.specs.PushPop.{pushOf, popOf, returnTo, popNumber, popAnswer, PopGives}
 use Rattle.stack.specs.declared.frame.PopFrame.{PopFrame}
-use Rattle.stack.specs.declared.frame.PopFrame.the-variants.{Frame, NoFrame, Rejected, Missing, NotAdmissible, WindowRule}
+use Rattle.stack.specs.declared.frame.PopFrame.the-variants.{Frame, NoFrame, Rejected, Missing, NotAdmissible, WindowRule, Shared}
 use Rattle.instruction.specs.StepAnswer.{Whole}
 use Rattle.instruction.proofs.NoMemoryReplies.{refusals, tag-is}
 
@@ -44,13 +44,13 @@ guarded-sent w s p q t h =
     unruled : eqb (unruledBy (shapesOf w)) 0 ≡ false → performOn w s (answer (unruledBy (shapesOf w)) s 0 []) ≡ sent (performOn w s (answer (unruledBy (shapesOf w)) s 0 [])) t
     unruled f = rw (said w s s (unruledBy (shapesOf w))) (unfold sent in rw f)
 
-pub unruled-most : (w : Shapes) → unruledBy w ≤ 20
+pub unruled-most : (w : Shapes) → unruledBy w ≤ 22
 unfolding unruledBy
-unruled-most w = on (λ (n : ℕ). n ≤ 20) (ruled w) (λ e. omega arith) (λ e. omega arith)
+unruled-most w = on (λ (n : ℕ). n ≤ 22) (ruled w) (λ e. on (λ (n : ℕ). n ≤ 22) (shares w) (λ f. omega arith) (λ f. omega arith)) (λ e. omega arith)
 
--- a number of 0 to 20; PC as it was
+-- a number of 0 to 22; PC as it was
 Stays : State → ℕ → State → List ℕ → Type 0
-Stays s r t vs = (r ≤ 20) × (t .pc ≡ s .pc)
+Stays s r t vs = (r ≤ 22) × (t .pc ≡ s .pc)
 
 -- nothing stored; PC as it was
 Reads : State → ℕ → State → List ℕ → Type 0
@@ -129,6 +129,7 @@ goal n Rejected = n
 goal n Missing = n
 goal n NotAdmissible = n
 goal n WindowRule = n
+goal n Shared = n
 
 module _ (w : Windows) (s : State) (x yz : ℕ) (q : PopFrame) (t : State) (g : PopGives w s x yz q t) where
   pop-open : guardedOn w s (popFrame s x (returnTo s yz)) ≡ sent (popOf w s x) (returnTo s yz)

@@ -30,18 +30,18 @@ use Rattle.instruction.specs.StepAnswer.{Whole}
 use Rattle.instruction.proofs.PushPopSent.{unruled-most}
 use Rattle.instruction.proofs.NoMemoryReplies.{refusals, tag-is}
 
--- an outcome with one of 01's replies, and PC at @ + 4 where it is done, else as it was
+-- an outcome with a reply of 0 to 22, and PC at @ + 4 where it is done, else as it was
 pub record Onward (o : Outcome State Windows) (s : State) : Type 0 where
-  pub most : o .reply ≤ 20
+  pub most : o .reply ≤ 22
   pub sent-on : o ≡ sent (backTo s o) (following s)
 
 -- ---- which outcomes are so
 
 Most : {S : Type 0} → ℕ → S → List ℕ → Type 0
-Most r t vs = r ≤ 20
+Most r t vs = r ≤ 22
 
-performs-most : (w : Windows) (s : State) (p : Plan State) → Answers Any Most p → performOn w s p .reply ≤ 20
-performs-most w s p h = perform-meets w s Any Most (λ o. o .reply ≤ 20) (omega arith) (λ r t a vs k. unfold Most in k) (λ a n. tt) p h
+performs-most : (w : Windows) (s : State) (p : Plan State) → Answers Any Most p → performOn w s p .reply ≤ 22
+performs-most w s p h = perform-meets w s Any Most (λ o. o .reply ≤ 22) (omega arith) (λ r t a vs k. unfold Most in k) (λ a n. tt) p h
 
 save-most : (s : State) (x : ℕ) → Answers Any Most (saveContext s x)
 unfolding saveContext tell Answers Most
@@ -51,9 +51,9 @@ unsave-most : (s : State) (p : ℕ) → Answers Any Most (unsaveContext s p)
 unfolding unsaveContext Most
 unsave-most s p = context-meets (halted s) (λ o g a l vs. next (unsaved s o g a l vs)) p Any Most (λ n a b. omega arith) (λ o g a l vs b c d e f i. omega arith)
 
--- 1 and 2 change nothing
+-- 1, 2 and 22 change nothing
 module _ (w : Windows) (s : State) where
-  unchanged : (n : ℕ) → eqb n 0 ≡ false → n ≤ 20 → Onward (performOn w s (answer n s 0 [])) s
+  unchanged : (n : ℕ) → eqb n 0 ≡ false → n ≤ 22 → Onward (performOn w s (answer n s 0 [])) s
   unchanged n z b = rw (said w s s n) (record { most = b; sent-on = state })
     where
       state : record { reply = n; state = s; memory = w } ≡ sent (backTo s (record { reply = n; state = s; memory = w })) (following s)

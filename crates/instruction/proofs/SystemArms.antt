@@ -1,4 +1,4 @@
--- Laws of system.rs's arms: a step of an admissible state in a ruled window with an opcode that is this arm, from what the arm's code gives; first
+-- Laws of system.rs's arms: a step of an admissible state in windows that pass with an opcode that is this arm, from what the arm's code gives; first
 -- GET and TRAP, which judge 5 and 4, then the others that touch no memory, then SAVE and UNSAVE. control.rs's arms: ControlArms.
 use mathlib.Core.Path.{_≡_, refl}
 use mathlib.Core.Bool.{true, _&&_}
@@ -6,7 +6,7 @@ use Prim.Native.Nat.{ℕ}
 use native.Mathlib.Omega.{arith}
 use lib.Dec.{ltb, eqb}
 use Rattle.model.specs.Registers.{reg, next, admissible}
-use Rattle.model.specs.Memory.{Windows, shapesOf, ruled}
+use Rattle.model.specs.Memory.{Windows, shapesOf}
 use Rattle.model.specs.Plan.{Outcome}
 use Rattle.model.specs.Opcodes.{put, get, save, unsave, sync, swym, trip, trap, register, immediate, armOf}
 use Rattle.model.specs.NoMemory.{Said, say}
@@ -14,7 +14,7 @@ use Rattle.model.specs.Control.{xyzOf}
 use Rattle.model.specs.Contexts.{saveContext, unsaveContext}
 use Rattle.model.specs.System.{putSpecial, got, syncOf}
 use Rattle.model.specs.Trips.{wordOf, trapOf}
-use Rattle.model.specs.Step.{isNamed, refusalOf, planOf, stepOf}
+use Rattle.model.specs.Step.{isNamed, refusalOf, unruledBy, planOf, stepOf}
 use Rattle.model.specs.declared.State.{State}
 use Rattle.model.specs.declared.Reply.{Reply}
 use Rattle.model.proofs.Bools.{on}
@@ -31,7 +31,7 @@ use Rattle.instruction.proofs.ArmSteps.{told-step, stack-step}
 abbrev telling : Windows → Said → Outcome State Windows
 telling w d = record { reply = d .reply; state = d .state; memory = w }
 
-module _ (w : Windows) (s : State) (a : admissible s ≡ true) (v : ruled (shapesOf w) ≡ true) (op x y z : ℕ) where
+module _ (w : Windows) (s : State) (a : admissible s ≡ true) (v : unruledBy (shapesOf w) ≡ 0) (op x y z : ℕ) where
   get-told : armOf op ≡ get → stepOf w s op x y z ≡ telling w (getOf s x z)
   unfolding getOf planOf refusalOf
   get-told k =
@@ -46,7 +46,7 @@ module _ (w : Windows) (s : State) (a : admissible s ≡ true) (v : ruled (shape
       (λ e. step-refused w s a v op x y z 4 (rw (k, e)) (omega arith))
       (λ e. step-told w s a v op x y z (trapOf s (wordOf op x y z) (reg s y) (reg s z)) (rw (k, e)) (rw k))
 
-module _ (w : Windows) (s : State) (a : admissible s ≡ true) (v : ruled (shapesOf w) ≡ true) (op x y z : ℕ) (r : Reply) (t : State) where
+module _ (w : Windows) (s : State) (a : admissible s ≡ true) (v : unruledBy (shapesOf w) ≡ 0) (op x y z : ℕ) (r : Reply) (t : State) where
   -- 5, then GET; 4, then TRAP
   tells : (d : Said) → stepOf w s op x y z ≡ telling w d → Told d r t → Whole (stepOf w s op x y z) r t w
   tells d f h = rw f (record { reply-is = h .reply-is; state-is = h .state-is; window-is = refl })

@@ -1,4 +1,4 @@
--- What the arms come to that the contracts cite by name: of a state, and of a window and a state.
+-- What the arms come to that the contracts cite by name: of a state, and of the windows and a state.
 use Prim.Native.Nat.{ℕ, _+_, _*_, _%_, _^_}
 use mathlib.Core.Bool.{cond}
 use Rattle.model.specs.Memory.{Windows, shapesOf, both}
@@ -34,7 +34,7 @@ goTo s x target = goes (setRegister s x (following s)) target
 abbrev pub goOf : State → ℕ → ℕ → ℕ → ℕ → State
 goOf s op x y z = goTo s x (sumOf s (lastOf op) y z)
 
--- the arms that touch memory judge 1 and 2 themselves, as the stack does: a call of a target with the hole that x makes,
+-- the arms that touch memory judge 1, 2 and 22 themselves, as the stack does: a call of a target with the hole that x makes,
 abbrev pub callTo : Windows → State → ℕ → ℕ → Outcome State Windows
 callTo w s x target = guardedOn w s (pushFrame s (hole s x) target)
 
@@ -53,7 +53,7 @@ returnOf w s x y z = guardedOn w s (popFrame s x ((sp s rJ + 4 * yzOf y z) % 2 ^
 abbrev pub unsaveAt : Windows → State → ℕ → Outcome State Windows
 unsaveAt w s z = unsaveOf w s (reg s z)
 
--- a load, a store, once 1 and 2 have passed
+-- a load, a store, once 1, 2 and 22 have passed
 abbrev pub carriedOut : Windows → State → Plan State → Outcome State Windows
 carriedOut w s p = perform both (refusing (shapesOf w)) s p w
 

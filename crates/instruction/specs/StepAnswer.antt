@@ -1,4 +1,4 @@
--- How a reply, a state and a window given back stand to an outcome of the model: the reply, the whole state, every byte.
+-- How a reply, a state and the windows given back stand to an outcome of the model: the reply, the whole state, every byte.
 use mathlib.Core.Path.{_≡_}
 use Rattle.model.specs.Memory.{Windows}
 use Rattle.model.specs.Plan.{Outcome}

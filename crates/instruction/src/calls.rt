@@ -1,9 +1,10 @@
 // Arms that work on the register stack's frames (control.rs: PUSHJ, PUSHGO, POP), in place: the stack moves registers and octabytes,
-// and PC is sent on where that is done. Each judges 1 and 2, as the stack does.
+// and PC is sent on where that is done. Each judges 1, 2 and 22, as the stack does.
 ghost use Prim.Native.Nat.{ℕ};
 ghost use Rattle.model.specs.Parts.{made, lent};
 ghost use Rattle.instruction.specs.StepAnswer.{Whole};
 ghost use Rattle.instruction.specs.Arms.{callTo, returnOf};
+use model::Bases;
 use model::Reply;
 use model::State;
 use stack::frame::PopFrame;
@@ -14,18 +15,19 @@ pub fn push_to(
     special: &mut [u64; 32],
     pc: &mut u64,
     marks: u64,
-    window: &mut [u8],
-    base: u64,
+    a: &mut [u8],
+    b: &mut [u8],
+    at: Bases,
     x: u8,
     target: u64,
 ) -> Reply
     ensures { λ r. ⌜ ((halt : ℕ) → Whole
-        (callTo (lent base (now (window .entry)))
+        (callTo (lent at (now (a .entry)) (now (b .entry)))
         (made (now (general .entry)) (now (special .entry)) (now (pc .entry)) halt marks) x target)
-        r (made (now (general .exit)) (now (special .exit)) (now (pc .exit)) halt marks) (lent base (now (window .exit)))) ⌝ }
+        r (made (now (general .exit)) (now (special .exit)) (now (pc .exit)) halt marks) (lent at (now (a .exit)) (now (b .exit)))) ⌝ }
 {
-    let at = *pc;
-    let reply = stack::frame::push_frame(general, special, at, marks, window, base, x);
+    let from = *pc;
+    let reply = stack::frame::push_frame(general, special, from, marks, a, b, at, x);
     match reply {
         Reply::Done => {
             *pc = target;
@@ -42,21 +44,22 @@ pub fn pop_to(
     pc: &mut u64,
     halt: &mut u64,
     marks: u64,
-    window: &[u8],
-    base: u64,
+    a: &[u8],
+    b: &[u8],
+    at: Bases,
     x: u8,
     y: u8,
     z: u8,
 ) -> Reply
     ensures { λ r. ⌜ Whole
-        (returnOf (lent base (now (window .entry)))
+        (returnOf (lent at (now (a .entry)) (now (b .entry)))
         (made (now (general .entry)) (now (special .entry)) (now (pc .entry)) (now (halt .entry)) marks) x y z)
-        r (made (now (general .exit)) (now (special .exit)) (now (pc .exit)) (now (halt .exit)) marks) (lent base (now (window .entry))) ⌝ }
+        r (made (now (general .exit)) (now (special .exit)) (now (pc .exit)) (now (halt .exit)) marks) (lent at (now (a .entry)) (now (b .entry))) ⌝ }
 {
     let rj = special[State::RJ];
     let yz = 256 * (y as u16) + z as u16;
     let target = stack::pass::wrapping_add(rj, 4 * (yz as u64));
-    let found = stack::frame::pop_frame(general, special, halt, marks, window, base, x, yz);
+    let found = stack::frame::pop_frame(general, special, halt, marks, a, b, at, x, yz);
     match found {
         PopFrame::Frame(to) => {
             *pc = to;
@@ -70,5 +73,6 @@ pub fn pop_to(
         PopFrame::Missing => Reply::Missing,
         PopFrame::NotAdmissible => Reply::NotAdmissible,
         PopFrame::WindowRule => Reply::WindowRule,
+        PopFrame::Shared => Reply::Shared,
     }
 }

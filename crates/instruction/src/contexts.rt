@@ -1,8 +1,9 @@
 // Arms that work on saved contexts (system.rs: SAVE, UNSAVE), in place: the stack moves registers and octabytes, and PC goes on to
-// @ + 4 where that is done. Each judges 1 and 2, as the stack does.
+// @ + 4 where that is done. Each judges 1, 2 and 22, as the stack does.
 ghost use Rattle.model.specs.Parts.{made, lent};
 ghost use Rattle.stack.specs.SaveUnsave.{saveOf, unsaveOf};
 ghost use Rattle.instruction.specs.StepAnswer.{Whole};
+use model::Bases;
 use model::Reply;
 
 /// SAVE $x.
@@ -12,16 +13,17 @@ pub fn save_to(
     pc: &mut u64,
     halt: &mut u64,
     marks: u64,
-    window: &mut [u8],
-    base: u64,
+    a: &mut [u8],
+    b: &mut [u8],
+    at: Bases,
     x: u8,
 ) -> Reply
     ensures { λ r. ⌜ Whole
-        (saveOf (lent base (now (window .entry)))
+        (saveOf (lent at (now (a .entry)) (now (b .entry)))
         (made (now (general .entry)) (now (special .entry)) (now (pc .entry)) (now (halt .entry)) marks) x)
-        r (made (now (general .exit)) (now (special .exit)) (now (pc .exit)) (now (halt .exit)) marks) (lent base (now (window .exit))) ⌝ }
+        r (made (now (general .exit)) (now (special .exit)) (now (pc .exit)) (now (halt .exit)) marks) (lent at (now (a .exit)) (now (b .exit))) ⌝ }
 {
-    let reply = stack::context::save_context(general, special, halt, marks, window, base, x);
+    let reply = stack::context::save_context(general, special, halt, marks, a, b, at, x);
     match reply {
         Reply::Done => {
             *pc = decode::target::following(*pc);
@@ -38,22 +40,24 @@ pub fn unsave_from(
     pc: &mut u64,
     halt: &mut u64,
     marks: u64,
-    window: &[u8],
-    base: u64,
+    a: &[u8],
+    b: &[u8],
+    at: Bases,
     address: u64,
 ) -> Reply
     ensures { λ r. ⌜ Whole
-        (unsaveOf (lent base (now (window .entry)))
+        (unsaveOf (lent at (now (a .entry)) (now (b .entry)))
         (made (now (general .entry)) (now (special .entry)) (now (pc .entry)) (now (halt .entry)) marks) address)
-        r (made (now (general .exit)) (now (special .exit)) (now (pc .exit)) (now (halt .exit)) marks) (lent base (now (window .entry))) ⌝ }
+        r (made (now (general .exit)) (now (special .exit)) (now (pc .exit)) (now (halt .exit)) marks) (lent at (now (a .entry)) (now (b .entry))) ⌝ }
 {
     let reply = stack::context::unsave_context(
         general,
         special,
         halt,
         marks,
-        window,
-        base,
+        a,
+        b,
+        at,
         address,
     );
     match reply {

@@ -12,6 +12,7 @@ ghost use Rattle.instruction.specs.Arms.{branchOf, jumpOf, goOf, pushGoO
 use super::calls;
 use super::registers;
 use decode::target;
+use model::Bases;
 use model::Reply;
 
 /// A branch.
@@ -78,20 +79,21 @@ pub(crate) fn push_go(
     special: &mut [u64; 32],
     pc: &mut u64,
     marks: u64,
-    window: &mut [u8],
-    base: u64,
+    a: &mut [u8],
+    b: &mut [u8],
+    at: Bases,
     op: u8,
     x: u8,
     y: u8,
     z: u8,
 ) -> Reply
     ensures { λ r. ⌜ ((halt : ℕ) → Whole
-        (pushGoOf (lent base (now (window .entry)))
+        (pushGoOf (lent at (now (a .entry)) (now (b .entry)))
         (made (now (general .entry)) (now (special .entry)) (now (pc .entry)) halt marks) op x y z)
-        r (made (now (general .exit)) (now (special .exit)) (now (pc .exit)) halt marks) (lent base (now (window .exit)))) ⌝ }
+        r (made (now (general .exit)) (now (special .exit)) (now (pc .exit)) halt marks) (lent at (now (a .exit)) (now (b .exit)))) ⌝ }
 {
     let target = sum(general, op, y, z);
-    calls::push_to(general, special, pc, marks, window, base, x, target)
+    calls::push_to(general, special, pc, marks, a, b, at, x, target)
 }
 
 /// PUSHJ and PUSHJB.
@@ -100,18 +102,19 @@ pub(crate) fn push_jump(
     special: &mut [u64; 32],
     pc: &mut u64,
     marks: u64,
-    window: &mut [u8],
-    base: u64,
+    a: &mut [u8],
+    b: &mut [u8],
+    at: Bases,
     op: u8,
     x: u8,
     y: u8,
     z: u8,
 ) -> Reply
     ensures { λ r. ⌜ ((halt : ℕ) → Whole
-        (pushJumpOf (lent base (now (window .entry)))
+        (pushJumpOf (lent at (now (a .entry)) (now (b .entry)))
         (made (now (general .entry)) (now (special .entry)) (now (pc .entry)) halt marks) op x y z)
-        r (made (now (general .exit)) (now (special .exit)) (now (pc .exit)) halt marks) (lent base (now (window .exit)))) ⌝ }
+        r (made (now (general .exit)) (now (special .exit)) (now (pc .exit)) halt marks) (lent at (now (a .exit)) (now (b .exit)))) ⌝ }
 {
     let target = target::near(*pc, op, y, z);
-    calls::push_to(general, special, pc, marks, window, base, x, target)
+    calls::push_to(general, special, pc, marks, a, b, at, x, target)
 }

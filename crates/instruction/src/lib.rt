@@ -1,7 +1,7 @@
 //! The instruction layer, over the stack's contracts and those of its own parts, crates arithmetic, decode and exceptions; all of it works in place
 //! on lent registers, but for `value`.
 //!
-//! - `step`: one step; 1 and 2 judged, then the choice by opcode
+//! - `step`: one step; 1, 2 and 22 judged, then the choice by opcode
 //! - `control`, `system`: the arms of control.rs and system.rs that are more than a call of another file's
 //! - `operations`: whole-number operations in a step, by crate arithmetic
 //! - `load_store`: loads and stores

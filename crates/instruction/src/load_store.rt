@@ -1,4 +1,4 @@
-// Loads and stores, once 1 and 2 have passed.
+// Loads and stores, once 1, 2 and 22 have passed.
 ghost use Prim.Native.Nat.{ℕ};
 ghost use Rattle.model.specs.Parts.{made, lent};
 ghost use Rattle.instruction.specs.StepAnswer.{Whole};
@@ -6,6 +6,7 @@ ghost use Rattle.instruction.specs.Arms.{loadOf, storeOf};
 use super::control;
 use decode::operand;
 use decode::target;
+use model::Bases;
 use model::Reply;
 
 /// Integer overflow, among the flags of an exception.
@@ -16,23 +17,25 @@ pub(crate) fn load(
     general: &mut [u64; 256],
     special: &mut [u64; 32],
     pc: &mut u64,
-    window: &[u8],
-    base: u64,
+    a: &[u8],
+    b: &[u8],
+    at: Bases,
     op: u8,
     x: u8,
     y: u8,
     z: u8,
 ) -> Reply
     ensures { λ r. ⌜ ((halt marks : ℕ) → Whole
-        (loadOf (lent base (now (window .entry)))
+        (loadOf (lent at (now (a .entry)) (now (b .entry)))
         (made (now (general .entry)) (now (special .entry)) (now (pc .entry)) halt marks) op x y z)
-        r (made (now (general .exit)) (now (special .exit)) (now (pc .exit)) halt marks) (lent base (now (window .entry)))) ⌝ }
+        r (made (now (general .exit)) (now (special .exit)) (now (pc .exit)) halt marks) (lent at (now (a .entry)) (now (b .entry)))) ⌝ }
 {
     let addr = control::sum(general, op, y, z);
-    if stack::pass::run_refusal(window, base, addr, 1) != 0 {
+    if stack::pass::run_refusal(a, b, at, addr, 1) != 0 {
         return Reply::Missing;
     }
-    let v = stack::pass::read_octa(window, base, addr);
+    let found = stack::pass::read_octa(a, b, at, addr);
+    let v = found.value;
     let u = operand::loaded(op, addr, v);
     stack::pass::set_register(general, special, x, u);
     *pc = target::following(*pc);
@@ -46,25 +49,27 @@ pub(crate) fn store(
     pc: &mut u64,
     halt: &mut u64,
     marks: u64,
-    window: &mut [u8],
-    base: u64,
+    a: &mut [u8],
+    b: &mut [u8],
+    at: Bases,
     op: u8,
     x: u8,
     y: u8,
     z: u8,
 ) -> Reply
     ensures { λ r. ⌜ Whole
-        (storeOf (lent base (now (window .entry)))
+        (storeOf (lent at (now (a .entry)) (now (b .entry)))
         (made (now (general .entry)) (now (special .entry)) (now (pc .entry)) (now (halt .entry)) marks) op x y z)
-        r (made (now (general .exit)) (now (special .exit)) (now (pc .exit)) (now (halt .exit)) marks) (lent base (now (window .exit))) ⌝ }
+        r (made (now (general .exit)) (now (special .exit)) (now (pc .exit)) (now (halt .exit)) marks) (lent at (now (a .exit)) (now (b .exit))) ⌝ }
 {
     let addr = control::sum(general, op, y, z);
-    if stack::pass::run_refusal(window, base, addr, 1) != 0 {
+    if stack::pass::run_refusal(a, b, at, addr, 1) != 0 {
         return Reply::Missing;
     }
-    let v = stack::pass::read_octa(window, base, addr);
+    let found = stack::pass::read_octa(a, b, at, addr);
+    let v = found.value;
     let u = general[x as usize];
-    stack::pass::write_octa(window, base, addr, operand::merged(op, addr, v, u));
+    stack::pass::write_octa(a, b, at, addr, operand::merged(op, addr, v, u));
     if operand::fits(op, u) {
         *pc = target::following(*pc);
         return Reply::Done;

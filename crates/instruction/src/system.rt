@@ -10,6 +10,7 @@ ghost use Rattle.instruction.specs.StepAnswer.{Whole};
 ghost use Rattle.instruction.specs.Arms.{unsaveAt};
 use super::contexts;
 use super::registers;
+use model::Bases;
 use model::Reply;
 
 /// SWYM.
@@ -46,15 +47,16 @@ pub(crate) fn unsave_register(
     pc: &mut u64,
     halt: &mut u64,
     marks: u64,
-    window: &[u8],
-    base: u64,
+    a: &[u8],
+    b: &[u8],
+    at: Bases,
     z: u8,
 ) -> Reply
     ensures { λ r. ⌜ Whole
-        (unsaveAt (lent base (now (window .entry)))
+        (unsaveAt (lent at (now (a .entry)) (now (b .entry)))
         (made (now (general .entry)) (now (special .entry)) (now (pc .entry)) (now (halt .entry)) marks) z)
-        r (made (now (general .exit)) (now (special .exit)) (now (pc .exit)) (now (halt .exit)) marks) (lent base (now (window .entry))) ⌝ }
+        r (made (now (general .exit)) (now (special .exit)) (now (pc .exit)) (now (halt .exit)) marks) (lent at (now (a .entry)) (now (b .entry))) ⌝ }
 {
     let address = general[z as usize];
-    contexts::unsave_from(general, special, pc, halt, marks, window, base, address)
+    contexts::unsave_from(general, special, pc, halt, marks, a, b, at, address)
 }

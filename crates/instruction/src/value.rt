@@ -6,6 +6,7 @@ ghost use Rattle.model.specs.Numbers.{numberOf};
 ghost use Rattle.model.specs.Parts.{lent};
 ghost use Rattle.exceptions.specs.Told.{Told};
 ghost use Rattle.instruction.specs.StepAnswer.{Whole};
+use model::Bases;
 use model::Reply;
 use model::State;
 
@@ -67,10 +68,19 @@ pub fn raise_exceptions(
     }
 }
 
-/// One step on a state by value and a window.
-pub fn step(state: State, window: &mut [u8], base: u64, op: u8, x: u8, y: u8, z: u8) -> Outcome
-    ensures { λ r. ⌜ Whole (stepOf (lent base (now (window .entry))) state op x y z)
-        (r .reply) (r .state) (lent base (now (window .exit))) ⌝ }
+/// One step on a state by value and the two windows.
+pub fn step(
+    state: State,
+    a: &mut [u8],
+    b: &mut [u8],
+    at: Bases,
+    op: u8,
+    x: u8,
+    y: u8,
+    z: u8,
+) -> Outcome
+    ensures { λ r. ⌜ Whole (stepOf (lent at (now (a .entry)) (now (b .entry))) state op x y z)
+        (r .reply) (r .state) (lent at (now (a .exit)) (now (b .exit))) ⌝ }
 {
     let mut general = state.general;
     let mut special = state.special;
@@ -83,8 +93,9 @@ pub fn step(state: State, window: &mut [u8], base: u64, op: u8, x: u8, y: u8, z:
         &mut pc,
         &mut halt,
         marks,
-        window,
-        base,
+        a,
+        b,
+        at,
         op,
         x,
         y,

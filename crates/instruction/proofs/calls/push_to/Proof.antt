@@ -21,7 +21,7 @@ returns c =
     λ halt.
     let told = c .before .before .before .before in
     let a = told .before .before .before .before .before .before .args in
-    push-done (lent (a .base) (a .window .now)) (made (a .general .now) (a .special .now) (a .pc .now) halt (a .marks)) (a .x) (a .target) _ _ _ (told .push-frame .ensures halt) (c .before .match .keys1)
+    push-done (lent (a .at) (a .a .now) (a .b .now)) (made (a .general .now) (a .special .now) (a .pc .now) halt (a .marks)) (a .x) (a .target) _ _ _ (told .push-frame .ensures halt) (c .before .match .keys1)
 
 same-length-2 : tie.Need-same-length-2
 same-length-2 c = search needs
@@ -31,7 +31,7 @@ returns-2 c =
     λ halt.
     let told = c .before .before .before in
     let a = told .before .before .before .before .before .before .args in
-    push-refused (lent (a .base) (a .window .now)) (made (a .general .now) (a .special .now) (a .pc .now) halt (a .marks)) (a .x) (a .target) _ _ _ (told .push-frame .ensures halt) (c .match .keys2)
+    push-refused (lent (a .at) (a .a .now) (a .b .now)) (made (a .general .now) (a .special .now) (a .pc .now) halt (a .marks)) (a .x) (a .target) _ _ _ (told .push-frame .ensures halt) (c .match .keys2)
 
 pub push-to-spec : {M : Type 1} → statement M
 push-to-spec =

@@ -24,7 +24,7 @@ returns c =
     let told = c .before .before .before .before .before .before in
     let a = told .before .before .before .before .before .before .args in
     let s = made (a .general .now) (a .special .now) (a .pc .now) (a .halt .now) (a .marks) in
-    onward-done _ s (save-onward (lent (a .base) (a .window .now)) s (a .x)) _ _ _ _ _ (told .save-context .ensures (a .pc .now)) _ (c .before .before .before .match .keys1) (c .following .ensures)
+    onward-done _ s (save-onward (lent (a .at) (a .a .now) (a .b .now)) s (a .x)) _ _ _ _ _ (told .save-context .ensures (a .pc .now)) _ (c .before .before .before .match .keys1) (c .following .ensures)
 
 same-length-2 : tie.Need-same-length-2
 same-length-2 c = search needs
@@ -35,7 +35,7 @@ returns-2 c =
     let told = c .before .before .before in
     let a = told .before .before .before .before .before .before .args in
     let s = made (a .general .now) (a .special .now) (a .pc .now) (a .halt .now) (a .marks) in
-    onward-refused _ s (save-onward (lent (a .base) (a .window .now)) s (a .x)) _ _ _ _ _ (told .save-context .ensures (a .pc .now)) (c .match .keys2)
+    onward-refused _ s (save-onward (lent (a .at) (a .a .now) (a .b .now)) s (a .x)) _ _ _ _ _ (told .save-context .ensures (a .pc .now)) (c .match .keys2)
 
 pub save-to-spec : {M : Type 1} → statement M
 save-to-spec =

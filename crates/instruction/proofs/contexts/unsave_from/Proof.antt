@@ -21,7 +21,7 @@ returns c =
     let told = c .before .before .before .before in
     let a = told .before .before .before .before .before .args in
     let s = made (a .general .now) (a .special .now) (a .pc .now) (a .halt .now) (a .marks) in
-    onward-done _ s (unsave-onward (lent (a .base) (a .window .now)) s (a .address)) _ _ _ _ _ (told .unsave-context .ensures (a .pc .now)) _ (c .before .before .before .match .keys1) (c .following .ensures)
+    onward-done _ s (unsave-onward (lent (a .at) (a .a .now) (a .b .now)) s (a .address)) _ _ _ _ _ (told .unsave-context .ensures (a .pc .now)) _ (c .before .before .before .match .keys1) (c .following .ensures)
 
 returns-2 : tie.Need-returns-2
 unfolding unsaveOf
@@ -29,7 +29,7 @@ returns-2 c =
     let told = c .before in
     let a = told .before .before .before .before .before .args in
     let s = made (a .general .now) (a .special .now) (a .pc .now) (a .halt .now) (a .marks) in
-    onward-refused _ s (unsave-onward (lent (a .base) (a .window .now)) s (a .address)) _ _ _ _ _ (told .unsave-context .ensures (a .pc .now)) (c .match .keys2)
+    onward-refused _ s (unsave-onward (lent (a .at) (a .a .now) (a .b .now)) s (a .address)) _ _ _ _ _ (told .unsave-context .ensures (a .pc .now)) (c .match .keys2)
 
 pub unsave-from-spec : {M : Type 1} → statement M
 unsave-from-spec =

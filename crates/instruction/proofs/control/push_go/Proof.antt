@@ -21,7 +21,7 @@ returns c =
     let sums = calls .before .before .before .before .before in
     let a = sums .before .before .before .args in
     let s = made (a .general .now) (a .special .now) (a .pc .now) halt (a .marks) in
-    push-at (lent (a .base) (a .window .now)) s (a .x) _ _ _ _ _ (sums .sum .ensures (a .special .now) (a .pc .now) halt (a .marks)) (calls .push-to .ensures halt)
+    push-at (lent (a .at) (a .a .now) (a .b .now)) s (a .x) _ _ _ _ _ (sums .sum .ensures (a .special .now) (a .pc .now) halt (a .marks)) (calls .push-to .ensures halt)
 
 pub push-go-spec : {M : Type 1} → statement M
 push-go-spec = tie.close (tie.spec sum-requires push-to-requires same-length returns)

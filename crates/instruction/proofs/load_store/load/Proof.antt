@@ -20,7 +20,7 @@ returns c =
     let sums = test .before in
     let a = sums .before .before .before .args in
     let s = made (a .general .now) (a .special .now) (a .pc .now) halt marks in
-    load-missing (lent (a .base) (a .window .now)) s _ _ _ _ _ (sums .sum .ensures (a .special .now) (a .pc .now) halt marks) (rw (test .run-refusal .ensures) at (c .if1 .taken))
+    load-missing (lent (a .at) (a .a .now) (a .b .now)) s _ _ _ _ _ (sums .sum .ensures (a .special .now) (a .pc .now) halt marks) (rw (test .run-refusal .ensures) at (c .if1 .taken))
 
 read-octa-requires : tie.Need-read-octa-requires
 read-octa-requires c κs = search needs
@@ -44,7 +44,7 @@ returns-2 c =
     let test = else .before in
     let sums = test .before in
     let a = sums .before .before .before .args in
-    let w = lent (a .base) (a .window .now) in
+    let w = lent (a .at) (a .a .now) (a .b .now) in
     let s = made (a .general .now) (a .special .now) (a .pc .now) halt marks in
     let there = rw (test .run-refusal .ensures) at (else .if1 .left) in
     load-done w s _ _ _ _ _ (sums .sum .ensures (a .special .now) (a .pc .now) halt marks) there _ _ _ _ _

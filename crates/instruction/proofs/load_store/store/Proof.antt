@@ -22,7 +22,7 @@ returns c =
     let sums = test .before .before in
     let a = sums .before .before .before .args in
     let s = made (a .general .now) (a .special .now) (a .pc .now) (a .halt .now) (a .marks) in
-    store-missing (lent (a .base) (a .window .now)) s _ _ _ _ _ (sums .sum .ensures (a .special .now) (a .pc .now) (a .halt .now) (a .marks)) (rw (test .run-refusal .ensures) at (c .if1 .taken))
+    store-missing (lent (a .at) (a .a .now) (a .b .now)) s _ _ _ _ _ (sums .sum .ensures (a .special .now) (a .pc .now) (a .halt .now) (a .marks)) (rw (test .run-refusal .ensures) at (c .if1 .taken))
 
 read-octa-requires : tie.Need-read-octa-requires
 read-octa-requires c κs = search needs
@@ -59,7 +59,7 @@ returns-2 c =
     let sums = test .before .before in
     let start = sums .before .before .before in
     let a = start .args in
-    let w = lent (a .base) (a .window .now) in
+    let w = lent (a .at) (a .a .now) (a .b .now) in
     let s = made (a .general .now) (a .special .now) (a .pc .now) (a .halt .now) (a .marks) in
     let there = rw (test .run-refusal .ensures) at (else .if1 .left) in
     store-fits w s _ _ _ _ _ (sums .sum .ensures (a .special .now) (a .pc .now) (a .halt .now) (a .marks)) there _ _ _
@@ -87,7 +87,7 @@ returns-3 c =
     let sums = test .before .before in
     let start = sums .before .before .before in
     let a = start .args in
-    let w = lent (a .base) (a .window .now) in
+    let w = lent (a .at) (a .a .now) (a .b .now) in
     let s = made (a .general .now) (a .special .now) (a .pc .now) (a .halt .now) (a .marks) in
     let there = rw (test .run-refusal .ensures) at (else .if1 .left) in
     store-raises w s _ _ _ _ _ (sums .sum .ensures (a .special .now) (a .pc .now) (a .halt .now) (a .marks)) there _ _ _

@@ -14,7 +14,7 @@ returns : tie.Need-returns
 returns c =
     let start = c .before .before .before .before in
     let a = start .args in
-    let w = lent (a .base) (a .window .now) in
+    let w = lent (a .at) (a .a .now) (a .b .now) in
     let s = made (a .general .now) (a .special .now) (a .pc .now) (a .halt .now) (a .marks) in
     inadmissible-step w s (a .op) (a .x) (a .y) (a .z) (sym (c .before .admissible .ensures (a .general .now) (a .pc .now) (a .halt .now)) ∙ not-true _ (c .if1 .taken))
 
@@ -29,7 +29,7 @@ returns-2 c =
     let passed = c .before .before .before in
     let start = passed .before .before .before .before in
     let a = start .args in
-    let w = lent (a .base) (a .window .now) in
+    let w = lent (a .at) (a .a .now) (a .b .now) in
     let s = made (a .general .now) (a .special .now) (a .pc .now) (a .halt .now) (a .marks) in
     unruled-step w s (a .op) (a .x) (a .y) (a .z) (sym (passed .before .admissible .ensures (a .general .now) (a .pc .now) (a .halt .now)) ∙ not-false _ (passed .if1 .left))
     (sym (c .before .is-ruled .ensures) ∙ not-true _ (c .if2 .taken))
