@@ -60,7 +60,7 @@ refusal-small s x v =
     on P (eqb x rA) (λ _. on P (ltb 0x3FFFF v) (λ _. omega arith) (λ _. omega arith)) (λ _. omega arith)))))
   where
     P : ℕ → Type 0
-    P n = n ≤ 20
+    P n = n ≤ 22
 
 module _ (s : State) (x v : ℕ) (r : Reply) (g l : List ℕ)
     (e : r ≡ replyOf (putRefusal s x v)) (f : withParts s g l ≡ cond (eqb (putRefusal s x v) 0) (putState s x v) s) where

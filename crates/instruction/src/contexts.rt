@@ -50,16 +50,7 @@ pub fn unsave_from(
         (made (now (general .entry)) (now (special .entry)) (now (pc .entry)) (now (halt .entry)) marks) address)
         r (made (now (general .exit)) (now (special .exit)) (now (pc .exit)) (now (halt .exit)) marks) (lent at (now (a .entry)) (now (b .entry))) ⌝ }
 {
-    let reply = stack::context::unsave_context(
-        general,
-        special,
-        halt,
-        marks,
-        a,
-        b,
-        at,
-        address,
-    );
+    let reply = stack::context::unsave_context(general, special, halt, marks, a, b, at, address);
     match reply {
         Reply::Done => {
             *pc = decode::target::following(*pc);

@@ -84,9 +84,7 @@ fn dispatch(
         opcode::JMP => control::jump(pc, op, x, y, z),
         opcode::JMPB => control::jump(pc, op, x, y, z),
         opcode::PUSHJ => control::push_jump(general, special, pc, marks, a, b, at, op, x, y, z),
-        opcode::PUSHJB => {
-            control::push_jump(general, special, pc, marks, a, b, at, op, x, y, z)
-        }
+        opcode::PUSHJB => { control::push_jump(general, special, pc, marks, a, b, at, op, x, y, z) }
         opcode::GETA => registers::get_address(general, special, pc, op, x, y, z),
         opcode::GETAB => registers::get_address(general, special, pc, op, x, y, z),
         opcode::PUT => system::put_register(general, special, pc, halt, x, z),

@@ -2,15 +2,16 @@
 use mathlib.Core.Path.{_≡_, refl, sym, ap, subst, _∙_}
 use mathlib.Core.Logic.{_⊎_, inl, inr}
 use mathlib.Core.List.{List, [], _∷_}
-use Prim.Native.Nat.{ℕ, _≤_}
+use Prim.Native.Nat.{ℕ}
 use native.Mathlib.Omega.{arith}
 use lib.ListN.{length}
-use Rattle.model.specs.Memory.{Windows, both, one}
+use Rattle.model.specs.Memory.{Windows, both}
 use Rattle.model.specs.Plan.{perform, worst, puts}
 use Rattle.model.specs.Lists.{stepOn, runs}
 use Rattle.model.specs.Registers.{Sized, Words}
 use Rattle.model.specs.NoMemory.{tell}
 use Rattle.model.specs.Step.{Item, step, exception, stepOf, itemPlan, mmix}
+use Rattle.model.specs.Numbers.{OfStep}
 use Rattle.model.specs.declared.State.{State}
 use Rattle.model.proofs.Numbers.{step-number}
 use Rattle.model.proofs.Leaves.{replies-leave}
@@ -58,13 +59,13 @@ pub record Left (s : State) (w : Windows) (i : Item) (r : ℕ) (k : Held) (v : W
   pub held-is : HeldIs k (stepOn both mmix s w i .state)
   pub window-is : v ≡ stepOn both mmix s w i .memory
 
-pub few : (n : ℕ) → (n ≡ 0) ⊎ ((n ≡ 1) ⊎ (n ≡ 19)) → n ≤ 20
-few n (inl e) = omega arith
-few n (inr (inl e)) = omega arith
-few n (inr (inr e)) = omega arith
+pub few : (n : ℕ) → (n ≡ 0) ⊎ ((n ≡ 1) ⊎ (n ≡ 19)) → OfStep n
+few n (inl e) = inl (omega arith)
+few n (inr (inl e)) = inl (omega arith)
+few n (inr (inr e)) = inl (omega arith)
 
 state-left : (s : State) (w : Windows) (i : Item) (r : ℕ) (t : State) (v : Windows) → Sized s → StateCall s w i r t v → Left s w i r (struct t) v
-unfolding StateCall HeldIs stepOn mmix itemPlan one stepOf tell perform worst puts
+unfolding StateCall HeldIs stepOn mmix itemPlan both stepOf tell perform worst puts
 state-left s w (step op x y z) r t v n g = record {
   reply-is = g .reply-is ∙ step-number _ (replies-leave .by-step w s op x y z n .most);
   held-is = g .state-is;
@@ -79,7 +80,7 @@ state-left s w (exception f op x y z a b) r t v n g = record {
 -- a call on an image is one on its state
 image-state : (l : List ℕ) (w : Windows) (i : Item) (r : ℕ) (m : List ℕ) (v : Windows) → length l ≡ imageLength → ImageCall l w i r m v
     → StateCall (stateOf l) w i r (stepOn both mmix (stateOf l) w i .state) v × (m ≡ imageOf (stepOn both mmix (stateOf l) w i .state))
-unfolding ImageCall StateCall stepOn mmix itemPlan one stepOf tell perform worst puts
+unfolding ImageCall StateCall stepOn mmix itemPlan both stepOf tell perform worst puts
 image-state l w (step op x y z) r m v n g = (
   record { reply-is = g .reply-is ∙ sym (if-image l n _ _); state-is = refl; window-is = g .window-is ∙ sym (if-image l n _ _) },
   g .image-is ∙ sym (if-image l n _ _),

@@ -4,7 +4,7 @@ use mathlib.Core.List.{List, [], _∷_, _++_, head-eq-of-cons-eq, tail-eq-of-con
 use Prim.Native.Nat.{ℕ, _+_}
 use native.Mathlib.Omega.{arith}
 use lib.ListN.{length}
-use Rattle.model.specs.Memory.{Windows, both, one}
+use Rattle.model.specs.Memory.{Windows, both}
 use Rattle.model.specs.Plan.{Outcome, All, Off}
 use Rattle.model.specs.Lists.{Ran, stepOn, runs, runNeeds}
 use Rattle.model.specs.Registers.{rO, sp, reg, Sized, Words}
@@ -155,7 +155,7 @@ record StepMade (g : Held) (w : Windows) (op x y z r : ℕ) (k : Held) (v : Wind
 
 step-made : (g : Held) (w : Windows) (e : Entry) (op x y z r : ℕ) (k : Held) (v : Windows) → Intact g → Bytes w → asked e ≡ step op x y z ∷ []
     → InstructionFits op x y z → Meets g w e r k v → StepMade g w op x y z r k v
-unfolding Fits AllFit answered runs stepOn mmix itemPlan one stepOf
+unfolding Fits AllFit answered runs stepOn mmix itemPlan both stepOf
 step-made g w e op x y z r k v h b a f c =
     let n : After (heldState g) w (step op x y z ∷ []) r k v
     = subst (λ (is : List Item). After (heldState g) w is r k v) a (after-call g w e r k v h c) in

@@ -8,7 +8,7 @@ use mathlib.Core.Bool.{Bool, true, false}
 use borrow.Author.Tests.{eqb-true, eqb-false}
 use lib.ListN.{length, getD}
 use Rattle.model.specs.Octa.{written, bytesOf}
-use Rattle.model.specs.Memory.{Windows, one}
+use Rattle.model.specs.Memory.{Windows, both}
 use Rattle.model.specs.Plan.{Outcome, perform, worst, puts}
 use Rattle.model.specs.Lists.{stepOn}
 use Rattle.model.specs.NoMemory.{Said, say, tell}
@@ -19,15 +19,17 @@ use Rattle.model.specs.Step.{step, exception, stepOf, exceptionOf, itemPlan, mm
 use Rattle.model.specs.Registers.{rB, rBB, rA, rW, rX, rY, rZ, rWW, rXX, rYY, rZZ, sp, reg, Sized}
 use Rattle.model.specs.Trips.{withAdded, wordOf}
 use Rattle.model.specs.Field.{fieldOf, answerOf}
-use Rattle.model.specs.Leaves.{Interrupted, StepLeaves, ExceptionLeaves, FieldLeaves}
+use Rattle.model.specs.Reader.{Part, readContext}
+use Rattle.model.specs.Numbers.{Early, OfStep}
+use Rattle.model.specs.Leaves.{Interrupted, StepLeaves, ExceptionLeaves, ReaderLeaves, FieldLeaves}
 use Rattle.model.proofs.Leaves.{replies-leave, added-sized, results-sized}
 use Rattle.model.proofs.Invariants.{items-keep}
 use Rattle.model.proofs.Numbers.{step-number}
 use Rattle.model.specs.declared.State.{State}
 use Rattle.model.specs.declared.Results.{Results}
 use Rattle.mmix.specs.Image.{imageLength, imageOf, stateOf}
-use Rattle.mmix.specs.Entries.{isImage, Stepped, Raised, SteppedState, RaisedState, FieldTold}
-use Rattle.mmix.specs.Leaves.{replaced, atSpecial, atHalt, haltBytes, tripOctas, trapOctas, StepCallLeaves, ExceptionCallLeaves, CallsLeave}
+use Rattle.mmix.specs.Entries.{lentAt, isImage, Stepped, Raised, SteppedState, RaisedState, ContextAt, FieldTold}
+use Rattle.mmix.specs.Leaves.{replaced, atSpecial, atHalt, haltBytes, tripOctas, trapOctas, StepCallLeaves, ExceptionCallLeaves, ContextCallLeaves, CallsLeave}
 use Rattle.mmix.specs.Calls.{image, HeldIs, ImageCall}
 use Rattle.mmix.proofs.RoundTrips.{halt-bytes, round-trips}
 use Rattle.mmix.proofs.Entries.{if-other}
@@ -61,15 +63,15 @@ module _ (l : List ℕ) (n : length l ≡ imageLength) (b : (i : ℕ) → getD l
   raised-sized s x r f n = added-sized (withResults s x r) f (results-sized s x r n)
 
   step-leaves : (w : Windows) (op x y z r : ℕ) (m : List ℕ) (v : Windows) → Left s w (step op x y z) r (image m) v → StepCallLeaves l w op x y z r m v
-  unfolding HeldIs stepOn mmix itemPlan one stepOf replaced
+  unfolding HeldIs stepOn mmix itemPlan both stepOf replaced
   step-leaves w op x y z r m v g =
       let o : Outcome State Windows = stepOf w s op x y z in
       let k : StepLeaves w s op x y z o = replies-leave .by-step w s op x y z zs in
       let zt : Sized (o .state) = items-keep .sized w s (step op x y z) zs in
       let e : r ≡ o .reply = g .reply-is in
       record {
-        most = omega (arith, e, k .most);
-        early = λ p. let h = k .early (omega (arith, e), omega (arith, e)) in (g .held-is ∙ ap imageOf (h .0) ∙ back, g .window-is ∙ h .1);
+        most = subst OfStep (sym e) (k .most);
+        early = λ p. let h = k .early (subst Early e p) in (g .held-is ∙ ap imageOf (h .0) ∙ back, g .window-is ∙ h .1);
         lost = λ p. let h = k .lost (omega (arith, e)) in (g .held-is ∙ ap imageOf (h .0) ∙ back, g .window-is ∙ h .1);
         halting = λ p.
             let h = k .halting (omega (arith, e), omega (arith, e)) in
@@ -104,11 +106,12 @@ module _ (l : List ℕ) (n : length l ≡ imageLength) (b : (i : ℕ) → getD l
                   ∙ ap (λ (c : List ℕ). replaced c (trapOctas s (wordOf op x y z) (reg s y) (reg s z))) back,
               g .window-is ∙ h .1,
             );
+        shared = λ p. k .shared (sym e ∙ p);
         done = λ p. halt-same m (o .state) (g .held-is) zt (k .done (sym e ∙ p));
       }
 
   exception-leaves : (w : Windows) (f op x y z u v r : ℕ) (m : List ℕ) → Left s w (exception f op x y z u v) r (image m) w → ExceptionCallLeaves l f op x y z u v r m
-  unfolding HeldIs stepOn mmix itemPlan one tell perform worst puts
+  unfolding HeldIs stepOn mmix itemPlan both tell perform worst puts
   exception-leaves w f op x y z u v r m g =
       let d : Said = exceptionOf s f op x y z u v in
       let k : ExceptionLeaves s f op x y z u v d = replies-leave .by-exception s f op x y z u v zs in
@@ -127,12 +130,13 @@ other-step : (l : List ℕ) (w : Windows) (op x y z r : ℕ) (m : List ℕ) (v :
 other-step l w op x y z r m v h g =
     let e : r ≡ 1 = g .reply-is ∙ sym (if-other l h _ _) in
     record {
-      most = omega arith;
+      most = inl (omega arith);
       early = λ p. (g .image-is ∙ sym (if-other l h _ _), g .window-is ∙ sym (if-other l h _ _));
       lost = λ p. absurd (omega arith);
       halting = λ p. absurd (omega arith);
       nineteen = λ p. absurd (omega arith);
       twenty = λ p. absurd (omega arith);
+      shared = λ p. absurd (omega arith);
       done = λ p. absurd (omega arith);
     }
 
@@ -163,7 +167,7 @@ unfolding ImageCall
 by-exception l f op x y z u v r m b g = go (isImage l) refl
   where
     no-window : Windows
-    no-window = record { base = 0; bytes = [] }
+    no-window = lentAt 0 0 [] []
 
     go : (t : Bool) → isImage l ≡ t → ExceptionCallLeaves l f op x y z u v r m
     go true e =
@@ -183,6 +187,17 @@ by-state-exception s f op x y z u v r t h g =
     let k : ExceptionLeaves s f op x y z u v (exceptionOf s f op x y z u v) = replies-leave .by-exception s f op x y z u v h in
     subst (ExceptionLeaves s f op x y z u v) (sym (λ i. record { reply = (g .reply-is ∙ step-number _ (few _ (k .among))) i; state = g .state-is i })) k
 
+by-context : (w : Windows) (p r which start length : ℕ) → ContextAt w p r which start length → ContextCallLeaves w r which start length
+by-context w p r which start length g =
+    let k : ReaderLeaves w (readContext w p) = replies-leave .by-reader w p in
+    record {
+      among = subst (λ (q : ℕ). (q ≡ 0) ⊎ ((q ≡ 2) ⊎ ((q ≡ 6) ⊎ ((q ≡ 14) ⊎ ((q ≡ 15) ⊎ ((q ≡ 16) ⊎ ((q ≡ 22) ⊎ (q ≡ 23)))))))) (sym (g .reply-is)) (k .among);
+      shared = λ e. k .shared (sym (g .reply-is) ∙ e);
+      refused = λ n.
+          let e = k .refused (λ q. n (g .reply-is ∙ q)) in
+          (g .which-is ∙ ap (λ (q : Part). q .which) e, g .start-is ∙ ap (λ (q : Part). q .start) e, g .length-is ∙ ap (λ (q : Part). q .size) e);
+    }
+
 by-field : (size from to r backward field : ℕ) → FieldTold (answerOf (fieldOf size from to)) r backward field
     → FieldLeaves (record { reply = r; backward = backward; field = field })
 by-field size from to r backward field g =
@@ -194,5 +209,6 @@ calls-leave = record {
   by-exception = by-exception;
   by-state-step = by-state-step;
   by-state-exception = by-state-exception;
+  by-context = by-context;
   by-field = by-field;
 }

@@ -1,5 +1,5 @@
 -- Demand 3 as a host meets it: lists of calls of the C functions, in any mix, each on what the one before left. A host holds the machine as
--- an image or as a struct, goes from one to the other by mmix_decode and mmix_encode, and lends one window. (mmix_initialize starts another
+-- an image or as a struct, goes from one to the other by mmix_decode and mmix_encode, and lends two windows. (mmix_initialize starts another
 -- run, mmix_context changes nothing, and mmix_branch_field and mmix_jump_field are given neither state nor window: none of them is in a list.)
 -- `Stepped`, `Raised`, `SteppedState`, `RaisedState`, `Decoded` and `Encoded` are the functions' contracts.
 use Prim.Native.Nat.{ℕ, _+_, _<_}
@@ -101,7 +101,7 @@ Meets g w encode r k v = AsStruct g (λ s. AsImage k (λ m. EncodedInto s r m)) 
 
 -- ---- a list of calls
 
--- a call that was made: the function with its arguments, its reply, and what is held and the window after it
+-- a call that was made: the function with its arguments, its reply, and what is held and the windows after it
 pub record Made : Type 0 where
   pub entry : Entry
   pub reply : ℕ
@@ -152,7 +152,7 @@ unfoldable pub AllFit : List Item → Type 0
 AllFit [] = Unit {0}
 AllFit (i ∷ is) = Fits i × AllFit is
 
--- THEOREM: a list of calls is `runs` on the state that is held: the same answers, state and window; mmix_decode and mmix_encode reply 0
+-- THEOREM: a list of calls is `runs` on the state that is held: the same answers, state and windows; mmix_decode and mmix_encode reply 0
 pub record Carried (g : Held) (w : Windows) (cs : List Made) (r : Ran State Windows) : Type 0 where
   pub answers-are : answers cs ≡ r .answers
   pub others-are : Moved cs

@@ -1,4 +1,4 @@
--- What the exported functions answer, and every byte of image and window afterwards. An image that is not 2,328 bytes long is 1, judged
+-- What the exported functions answer, and every byte of image and windows afterwards. An image that is not 2,328 bytes long is 1, judged
 -- first, and then nothing changes.
 use Prim.Native.Nat.{ℕ}
 use mathlib.Core.Path.{_≡_}
@@ -8,6 +8,7 @@ use lib.Dec.{eqb}
 use lib.ListN.{length}
 use Rattle.model.specs.Registers.{fresh}
 use Rattle.model.specs.Memory.{Windows}
+use Rattle.model.specs.Parts.{lent}
 use Rattle.model.specs.Step.{stepOf, exceptionOf}
 use Rattle.model.specs.Reader.{readContext}
 use Rattle.model.specs.Numbers.{numberOf, replyOf}
@@ -17,6 +18,10 @@ use Rattle.mmix.specs.Image.{imageLength, imageOf, stateOf}
 
 abbrev pub isImage : List ℕ → Bool
 isImage l = eqb (length l) imageLength
+
+-- the two windows as C lends them: the base of each, and its bytes
+abbrev pub lentAt : ℕ → ℕ → List ℕ → List ℕ → Windows
+lentAt base-a base-b a b = lent (record { a = base-a; b = base-b }) a b
 
 -- the state of an image, and the image of a state
 pub record Decoded (l : List ℕ) (s : State) (r : ℕ) (t : State) : Type 0 where
@@ -49,8 +54,9 @@ pub record RaisedState (s : State) (f op x y z u v r : ℕ) (t : State) : Type 0
   pub reply-is : r ≡ numberOf (replyOf (exceptionOf s f op x y z u v .reply))
   pub state-is : t ≡ exceptionOf s f op x y z u v .state
 
-pub record ContextAt (w : Windows) (p r start length : ℕ) : Type 0 where
+pub record ContextAt (w : Windows) (p r which start length : ℕ) : Type 0 where
   pub reply-is : r ≡ readContext w p .reply
+  pub which-is : which ≡ readContext w p .state .which
   pub start-is : start ≡ readContext w p .state .start
   pub length-is : length ≡ readContext w p .state .size
 

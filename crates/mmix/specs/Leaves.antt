@@ -2,25 +2,26 @@
 -- call that meets its contract, on an image of any length. (mmix_branch_field and mmix_jump_field are given no state: 21 leaves their outputs 0.)
 use Prim.Native.Nat.{ℕ, _+_, _*_, _≤_, _<_}
 use mathlib.Core.Path.{_≡_}
-use mathlib.Core.Logic.{_⊎_}
+use mathlib.Core.Logic.{_⊎_, _≢_}
+use mathlib.Core.Bool.{true}
 use mathlib.Core.List.{List, [], _∷_}
 use lib.ListN.{getD}
 use Rattle.model.specs.Octa.{part, written, bytesOf}
-use Rattle.model.specs.Memory.{Windows, putOcta, both}
+use Rattle.model.specs.Memory.{Windows, shapesOf, putOcta, both}
 use Rattle.model.specs.Plan.{look}
-use Rattle.model.specs.Registers.{rB, rJ, rBB, rA, rW, rX, rY, rZ, rWW, rXX, rYY, rZZ, sp, reg, following, Sized}
+use Rattle.model.specs.Registers.{rB, rJ, rBB, rA, rW, rX, rY, rZ, rWW, rXX, rYY, rZZ, sp, reg, following, Sized, admissible}
 use Rattle.model.specs.Opcodes.{Operand, Width, signed, trip, store, arithmetic, armOf}
 use Rattle.model.specs.NoMemory.{say}
 use Rattle.model.specs.Control.{operandOf, sumOf}
 use Rattle.model.specs.Trips.{wordOf, withAdded}
 use Rattle.model.specs.LoadStore.{merged, flagV}
 use Rattle.model.specs.ArithmeticStep.{resultsIn, withResults}
-use Rattle.model.specs.Numbers.{Early, Lost, Halting}
+use Rattle.model.specs.Numbers.{Early, Lost, Halting, OfStep}
 use Rattle.model.specs.Field.{fieldOf, answerOf}
-use Rattle.model.specs.Leaves.{StepLeaves, ExceptionLeaves, FieldLeaves}
+use Rattle.model.specs.Leaves.{Sharing, StepLeaves, ExceptionLeaves, FieldLeaves}
 use Rattle.model.specs.declared.State.{State}
 use Rattle.mmix.specs.Image.{stateOf, imageOf}
-use Rattle.mmix.specs.Entries.{Stepped, Raised, SteppedState, RaisedState, FieldTold}
+use Rattle.mmix.specs.Entries.{Stepped, Raised, SteppedState, RaisedState, ContextAt, FieldTold}
 use Rattle.model.specs.declared.Operation.{Operation}
 
 -- the image with octabytes replaced, one after another: by its number among the 291, and what it becomes
@@ -54,7 +55,7 @@ trapOctas s word u v = interruptOctas s rBB rWW rXX rYY rZZ word u v
 abbrev pub raisedIn : State → Operation → Operand → Operand → ℕ → ℕ → ℕ → State
 raisedIn s f p q x y z = withAdded (withResults s x (resultsIn s f (operandOf s p y) (operandOf s q z))) (resultsIn s f (operandOf s p y) (operandOf s q z) .flags)
 
--- 19 of TRIP leaves the window
+-- 19 of TRIP leaves the windows
 pub record TripCallLeaves (l : List ℕ) (w : Windows) (op x y z : ℕ) (m : List ℕ) (v : Windows) : Type 0 where
   pub arm-is : armOf op ≡ trip
   pub image-is : m ≡ replaced l (tripOctas (stateOf l) (wordOf op x y z) (reg (stateOf l) y) (reg (stateOf l) z))
@@ -80,14 +81,15 @@ pub record ArithmeticCallLeaves (l : List ℕ) (w : Windows) (op x y z : ℕ) (m
 
 -- what mmix_step leaves
 pub record StepCallLeaves (l : List ℕ) (w : Windows) (op x y z r : ℕ) (m : List ℕ) (v : Windows) : Type 0 where
-  pub most : r ≤ 20
-  -- 1 to 6
+  pub most : OfStep r
+  -- 1 to 6 and 22
   pub early : Early r → (m ≡ l) × (v ≡ w)
   pub lost : Lost r → (m ≡ l) × (v ≡ w)
   -- 7 to 18
   pub halting : Halting r → (m ≡ replaced l ((atHalt, 1) ∷ [])) × (v ≡ w)
   pub nineteen : r ≡ 19 → TripCallLeaves l w op x y z m v ⊎ (StoreCallLeaves l w op x y z m v ⊎ ArithmeticCallLeaves l w op x y z m v)
   pub twenty : r ≡ 20 → (m ≡ replaced l (trapOctas (stateOf l) (wordOf op x y z) (reg (stateOf l) y) (reg (stateOf l) z))) × (v ≡ w)
+  pub shared : r ≡ 22 → (admissible (stateOf l) ≡ true) × Sharing (shapesOf w)
   pub done : r ≡ 0 → haltBytes m ≡ haltBytes l
 
 -- what mmix_exceptions leaves; with 19, rA's additions too
@@ -96,6 +98,12 @@ pub record ExceptionCallLeaves (l : List ℕ) (f op x y z u v r : ℕ) (m : List
   pub refused : r ≡ 1 → m ≡ l
   pub nineteen : r ≡ 19 → m ≡ replaced l ((atSpecial rA, sp (withAdded (stateOf l) f) rA) ∷ tripOctas (stateOf l) (wordOf op x y z) u v)
   pub done : r ≡ 0 → haltBytes m ≡ haltBytes l
+
+-- what mmix_context leaves: "refusing, by 22 and 23 too", *which, *start and *length are 0. It is lent the windows to read
+pub record ContextCallLeaves (w : Windows) (r which start length : ℕ) : Type 0 where
+  pub among : (r ≡ 0) ⊎ ((r ≡ 2) ⊎ ((r ≡ 6) ⊎ ((r ≡ 14) ⊎ ((r ≡ 15) ⊎ ((r ≡ 16) ⊎ ((r ≡ 22) ⊎ (r ≡ 23)))))))
+  pub shared : r ≡ 22 → Sharing (shapesOf w)
+  pub refused : r ≢ 0 → (which ≡ 0) × (start ≡ 0) × (length ≡ 0)
 
 -- THEOREM
 pub record CallsLeave : Type 0 where
@@ -108,6 +116,8 @@ pub record CallsLeave : Type 0 where
       → SteppedState w s op x y z r t v → StepLeaves w s op x y z (record { reply = r; state = t; memory = v })
   pub by-state-exception : (s : State) (f op x y z u v r : ℕ) (t : State) → Sized s
       → RaisedState s f op x y z u v r t → ExceptionLeaves s f op x y z u v (say r t)
+  -- the context reader: it is given no state; refused, all three outputs are 0
+  pub by-context : (w : Windows) (p r which start length : ℕ) → ContextAt w p r which start length → ContextCallLeaves w r which start length
   -- the search for a field: 0 or 21, and then both outputs are 0
   pub by-field : (size from to r backward field : ℕ) → FieldTold (answerOf (fieldOf size from to)) r backward field
       → FieldLeaves (record { reply = r; backward = backward; field = field })

@@ -1,12 +1,13 @@
-//! The C library: what a relay host calls, on numbers and byte slices. 0 is done; 1 to 21 are the refusals.
+//! The C library: what a relay host calls, on numbers and byte slices. 0 is done; 1 to 23 are the refusals.
 
 ghost use Rattle.model.specs.Control.{branchFields, jumpFields};
 ghost use Rattle.model.specs.Field.{fieldOf, answerOf};
-ghost use Rattle.model.specs.Parts.{made, lent};
-ghost use Rattle.mmix.specs.Entries.{Initialized, Decoded, Encoded, Stepped, SteppedState, Raised, RaisedState, ContextAt, FieldTold};
+ghost use Rattle.model.specs.Parts.{made};
+ghost use Rattle.mmix.specs.Entries.{lentAt, Initialized, Decoded, Encoded, Stepped, SteppedState, Raised, RaisedState, ContextAt, FieldTold};
 use image::Answer;
 use image::IMAGE_LEN;
 use image::Rest;
+use model::Bases;
 use model::Reach;
 use model::Reply;
 use model::State;
@@ -40,18 +41,21 @@ pub extern "C" fn mmix_encode(state: &State, image: &mut [u8]) -> u64
     image::encode(*state, image)
 }
 
-/// One step on an image and a window.
+/// One step on an image and the two windows.
 #[no_mangle]
 pub extern "C" fn mmix_step(
-    base: u64,
+    base_a: u64,
+    base_b: u64,
     op: u8,
     x: u8,
     y: u8,
     z: u8,
     image: &mut [u8],
-    window: &mut [u8],
+    a: &mut [u8],
+    b: &mut [u8],
 ) -> u64
-    ensures { λ r. ⌜ Stepped (now (image .entry)) (lent base (now (window .entry))) op x y z r (now (image .exit)) (lent base (now (window .exit))) ⌝ }
+    ensures { λ r. ⌜ Stepped (now (image .entry)) (lentAt «base_a» «base_b» (now (a .entry)) (now (b .entry))) op x y z r
+        (now (image .exit)) (lentAt «base_a» «base_b» (now (a .exit)) (now (b .exit))) ⌝ }
 {
     if image.len() != IMAGE_LEN {
         return 1;
@@ -63,7 +67,8 @@ pub extern "C" fn mmix_step(
     let mut halt = rest.halt;
     let marks = rest.marks;
     let reply = mmix_step_parts(
-        base,
+        base_a,
+        base_b,
         op,
         x,
         y,
@@ -73,15 +78,27 @@ pub extern "C" fn mmix_step(
         &mut pc,
         &mut halt,
         marks,
-        window,
+        a,
+        b,
     );
     image::store_state(&mut *image, &general, &special, Rest { pc, halt, marks });
     reply
 }
 
 /// One step on a state by value.
-pub fn step(base: u64, op: u8, x: u8, y: u8, z: u8, state: State, window: &mut [u8]) -> Answer
-    ensures { λ r. ⌜ SteppedState (lent base (now (window .entry))) state op x y z (r .reply) (r .state) (lent base (now (window .exit))) ⌝ }
+pub fn step(
+    base_a: u64,
+    base_b: u64,
+    op: u8,
+    x: u8,
+    y: u8,
+    z: u8,
+    state: State,
+    a: &mut [u8],
+    b: &mut [u8],
+) -> Answer
+    ensures { λ r. ⌜ SteppedState (lentAt «base_a» «base_b» (now (a .entry)) (now (b .entry))) state op x y z (r .reply)
+        (r .state) (lentAt «base_a» «base_b» (now (a .exit)) (now (b .exit))) ⌝ }
 {
     let mut general = state.general;
     let mut special = state.special;
@@ -89,7 +106,8 @@ pub fn step(base: u64, op: u8, x: u8, y: u8, z: u8, state: State, window: &mut [
     let mut halt = state.halt;
     let marks = state.marks;
     let reply = mmix_step_parts(
-        base,
+        base_a,
+        base_b,
         op,
         x,
         y,
@@ -99,7 +117,8 @@ pub fn step(base: u64, op: u8, x: u8, y: u8, z: u8, state: State, window: &mut [
         &mut pc,
         &mut halt,
         marks,
-        window,
+        a,
+        b,
     );
     let next = State {
         general: general,
@@ -117,17 +136,20 @@ pub fn step(base: u64, op: u8, x: u8, y: u8, z: u8, state: State, window: &mut [
 /// One step on a lent state, changed in place.
 #[no_mangle]
 pub extern "C" fn mmix_step_lent(
-    base: u64,
+    base_a: u64,
+    base_b: u64,
     op: u8,
     x: u8,
     y: u8,
     z: u8,
     state: &mut State,
-    window: &mut [u8],
+    a: &mut [u8],
+    b: &mut [u8],
 ) -> u64
-    ensures { λ r. ⌜ SteppedState (lent base (now (window .entry))) (now (state .entry)) op x y z r (now (state .exit)) (lent base (now (window .exit))) ⌝ }
+    ensures { λ r. ⌜ SteppedState (lentAt «base_a» «base_b» (now (a .entry)) (now (b .entry))) (now (state .entry)) op x y z r
+        (now (state .exit)) (lentAt «base_a» «base_b» (now (a .exit)) (now (b .exit))) ⌝ }
 {
-    let out = step(base, op, x, y, z, *state, &mut *window);
+    let out = step(base_a, base_b, op, x, y, z, *state, &mut *a, &mut *b);
     *state = out.state;
     out.reply
 }
@@ -176,7 +198,8 @@ pub extern "C" fn mmix_exceptions(
 /// One step in place on the parts of a state, for a host that steps millions of times.
 #[no_mangle]
 pub extern "C" fn mmix_step_parts(
-    base: u64,
+    base_a: u64,
+    base_b: u64,
     op: u8,
     x: u8,
     y: u8,
@@ -186,25 +209,19 @@ pub extern "C" fn mmix_step_parts(
     pc: &mut u64,
     halt: &mut u64,
     marks: u64,
-    window: &mut [u8],
+    a: &mut [u8],
+    b: &mut [u8],
 ) -> u64
-    ensures { λ r. ⌜ SteppedState (lent base (now (window .entry)))
+    ensures { λ r. ⌜ SteppedState (lentAt «base_a» «base_b» (now (a .entry)) (now (b .entry)))
         (made (now (general .entry)) (now (special .entry)) (now (pc .entry)) (now (halt .entry)) marks) op x y z r
-        (made (now (general .exit)) (now (special .exit)) (now (pc .exit)) (now (halt .exit)) marks) (lent base (now (window .exit))) ⌝ }
+        (made (now (general .exit)) (now (special .exit)) (now (pc .exit)) (now (halt .exit)) marks)
+        (lentAt «base_a» «base_b» (now (a .exit)) (now (b .exit))) ⌝ }
 {
-    let reply = instruction::step::step(
-        general,
-        special,
-        pc,
-        halt,
-        marks,
-        window,
-        base,
-        op,
-        x,
-        y,
-        z,
-    );
+    let at = Bases {
+        a: base_a,
+        b: base_b,
+    };
+    let reply = instruction::step::step(general, special, pc, halt, marks, a, b, at, op, x, y, z);
     instruction::value::number_of(reply)
 }
 
@@ -245,21 +262,31 @@ pub extern "C" fn mmix_exceptions_parts(
     instruction::value::number_of(raised)
 }
 
-/// Where the context saved at `address` lies in the window: its first byte's index and its length, both 0 where it is refused.
+/// Where the context saved at `address` lies: in which window, 0 for A and 1 for B, its first byte's index there and its length, all 0
+/// where it is refused.
 #[no_mangle]
 pub extern "C" fn mmix_context(
-    base: u64,
+    base_a: u64,
+    base_b: u64,
     address: u64,
-    window: &[u8],
+    a: &[u8],
+    b: &[u8],
+    which: &mut u64,
     start: &mut usize,
     length: &mut usize,
 ) -> u64
-    ensures { λ r. ⌜ ContextAt (lent base (now (window .entry))) address r (now (start .exit)) (now (length .exit)) ⌝ }
+    ensures { λ r. ⌜ ContextAt (lentAt «base_a» «base_b» (now (a .entry)) (now (b .entry))) address r
+        (now (which .exit)) (now (start .exit)) (now (length .exit)) ⌝ }
 {
-    let at = stack::reader::place_context(window, base, address);
-    *start = at.start;
-    *length = at.size;
-    let found = at.reply;
+    let at = Bases {
+        a: base_a,
+        b: base_b,
+    };
+    let place = stack::reader::place_context(a, b, at, address);
+    *which = place.which;
+    *start = place.start;
+    *length = place.size;
+    let found = place.reply;
     instruction::value::number_of(found)
 }
 
