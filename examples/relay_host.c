@@ -1,7 +1,7 @@
 /* A relay host. It keeps the direction of feed in a local of the caller, calls the feed routine some levels deep, parks the
- * whole context while a case is worked, comes back, and shows that the direction is as it was. On the way it meets what a
- * host meets: a curve kept in the window, a trip, a system call to serve, a halt, a jump to patch, a window too small, steps
- * in place.
+ * whole context while a case is worked, comes back, and shows that the direction is as it was. Its curves and texts live low
+ * in memory, in window A, and the calls' stack in window B. On the way it meets what a host meets: a curve kept in A, a trip,
+ * a system call to serve, a halt, a jump to patch, a window too small, windows that share, steps in place.
  *
  *     make host
  */
@@ -13,7 +13,7 @@
 #include "mmix.h"
 #include "mmix_text.h"
 
-enum { WINDOW_LEN = 8192, CURVE_AT = 7936, MESSAGE_AT = 8000, DEPTH = 5 };
+enum { LOW_LEN = 2048, STACK_LEN = 8192, CURVE_AT = 0x400, MESSAGE_AT = 0x500, DEPTH = 5 };   /* A starts at address 0 */
 
 enum { FPUTS = 7 };                     /* the system call that this host serves: Y of TRAP 0,Fputs,.. */
 
@@ -21,7 +21,8 @@ static const uint64_t FORWARD = 0xF0;   /* direction markers: feed forward, feed
 static const uint64_t REVERSED = 0x0F;
 
 static uint8_t image[MMIX_IMAGE_LEN];
-static uint8_t window[WINDOW_LEN];
+static uint8_t low[LOW_LEN], stack[STACK_LEN];
+static const struct mmix_windows lent = { 0, MMIX_STACK_START, low, LOW_LEN, stack, STACK_LEN };
 
 /* The octabyte that starts at a byte of the image. */
 static uint64_t octabyte(size_t at)
@@ -63,7 +64,7 @@ static void end(const char *why)
 
 static uint64_t ask(uint8_t op, uint8_t x, uint8_t y, uint8_t z)
 {
-    return mmix_step(MMIX_STACK_START, op, x, y, z, image, sizeof image, window, sizeof window);
+    return mmix_step_in(&lent, op, x, y, z, image, sizeof image);
 }
 
 /* One step that has to be done. */
@@ -88,12 +89,19 @@ static void refused(const char *what, uint64_t reply, uint64_t expected)
 static void work_another_case(void)
 {
     uint8_t before[MMIX_IMAGE_LEN];
+    uint64_t which;
     size_t start, length;
 
     memcpy(before, image, sizeof image);
     step("SAVE $255: park", MMIX_OP_SAVE, 255, 0, 0);
-    uint64_t reply = mmix_context(MMIX_STACK_START, general(255), window, sizeof window, &start, &length);
-    printf("%-28s reply %2" PRIu64 "  bytes %zu to %zu\n", "the parked context", reply, start, start + length);
+    uint64_t reply = mmix_context(0, MMIX_STACK_START, general(255), low, sizeof low, stack, sizeof stack, &which, &start, &length);
+    if (reply != MMIX_DONE)
+        end(mmix_reply_text(reply));
+    printf("%-28s reply %2" PRIu64 "  window %c, bytes %zu to %zu\n", "the parked context", reply, which == 1 ? 'B' : 'A', start,
+           start + length);
+    refused("read in two windows",
+            mmix_context(MMIX_STACK_START, MMIX_STACK_START + 1024, general(255), stack, 1024, stack + 1024, STACK_LEN - 1024,
+                         &which, &start, &length), MMIX_ACROSS);
 
     step("the other case: GETA $0", MMIX_OP_GETA, 0, 0x40, 0);
     step("the other case: PUSHJ $1", MMIX_OP_PUSHJ, 1, 0, 8);
@@ -109,16 +117,16 @@ static void work_another_case(void)
     printf("%-28s all 256 general and 32 special ones\n", "registers as before");
 }
 
-/* A margin of a relay's curve, kept in the window as a tetra and read back with its sign; and a seventh of it. */
+/* A margin of a relay's curve, kept in A as a tetra and read back with its sign; and a seventh of it. */
 static void keep_a_margin(void)
 {
-    set_octabyte(MMIX_AT_GENERAL(253), MMIX_STACK_START + CURVE_AT);
+    set_octabyte(MMIX_AT_GENERAL(253), CURVE_AT);
     set_octabyte(MMIX_AT_GENERAL(254), (uint64_t)-40);
     step("STT $254,$253,4: a margin", MMIX_OP_STTI, 254, 253, 4);
     step("LDT $252,$253,4: read back", MMIX_OP_LDTI, 252, 253, 4);
     printf("%-28s %" PRId64 ", bytes", "the margin", (int64_t)general(252));
     for (size_t k = 4; k < 8; k++)
-        printf(" %02x", window[CURVE_AT + k]);
+        printf(" %02x", low[CURVE_AT + k]);
     printf("\n");
     if (general(252) != general(254))
         end("the margin is CHANGED");
@@ -148,16 +156,16 @@ static void serve_a_call(void)
 {
     static const char message[] = "served: feed held";
 
-    memcpy(window + MESSAGE_AT, message, sizeof message);
-    set_octabyte(MMIX_AT_GENERAL(255), MMIX_STACK_START + MESSAGE_AT);
+    memcpy(low + MESSAGE_AT, message, sizeof message);
+    set_octabyte(MMIX_AT_GENERAL(255), MESSAGE_AT);
     refused("TRAP 0,Fputs,1", ask(MMIX_OP_TRAP, 0, FPUTS, 1), MMIX_NAMED_TRAP);
 
-    uint64_t from = general(255) - MMIX_STACK_START;
-    const char *zero = from < sizeof window ? memchr(window + from, 0, sizeof window - from) : NULL;
+    uint64_t from = general(255);
+    const char *zero = from < sizeof low ? memchr(low + from, 0, sizeof low - from) : NULL;
     if (zero == NULL)
-        end("the text of Fputs is not in the window");
-    printf("%-28s %s\n", "", (const char *)window + from);
-    set_octabyte(MMIX_AT_GENERAL(255), (uint64_t)(zero - (const char *)(window + from)));
+        end("the text of Fputs is not in window A");
+    printf("%-28s %s\n", "", (const char *)low + from);
+    set_octabyte(MMIX_AT_GENERAL(255), (uint64_t)(zero - (const char *)(low + from)));
     set_octabyte(MMIX_AT_PC, octabyte(MMIX_AT_PC) + 4);
 }
 
@@ -195,9 +203,9 @@ static void step_in_place(void)
 
     if (mmix_decode(image, sizeof image, &state) != MMIX_DONE)
         end("no state in an image");
-    uint64_t called = mmix_step_lent(MMIX_STACK_START, MMIX_OP_PUSHJ, 1, 0, 16, &state, window, sizeof window);
-    uint64_t back = mmix_step_parts(MMIX_STACK_START, MMIX_OP_POP, 0, 0, 0, state.general, state.special, &state.pc,
-                                    &state.halt, state.marks, window, sizeof window);
+    uint64_t called = mmix_step_lent_in(&lent, MMIX_OP_PUSHJ, 1, 0, 16, &state);
+    uint64_t back = mmix_step_parts_in(&lent, MMIX_OP_POP, 0, 0, 0, state.general, state.special, &state.pc, &state.halt,
+                                       state.marks);
     uint64_t raised = mmix_exceptions_parts(MMIX_FLAG_X, 0x04, 1, 2, 3, 7, 9, state.general, state.special, &state.pc,
                                             &state.halt, state.marks);
     printf("%-28s replies %" PRIu64 ", %" PRIu64 ", %" PRIu64 "; the state then:\n", "PUSHJ, POP, inexact in place", called,
@@ -238,11 +246,11 @@ int main(void)
     step_in_place();
 
     /* what a host meets when it asks for what is not there */
-    refused("PUSHJ $1, window too small",
-            mmix_step(MMIX_STACK_START, MMIX_OP_PUSHJ, 1, 0, 16, image, sizeof image, window, 8), MMIX_MISSING);
-    refused("an image cut short",
-            mmix_step(MMIX_STACK_START, MMIX_OP_TRIP, 0, 0, 0, image, sizeof image - 1, window, sizeof window),
-            MMIX_NOT_ADMISSIBLE);
+    struct mmix_windows small = mmix_one_window(MMIX_STACK_START, stack, 8), sharing = lent;
+    sharing.base_a = MMIX_STACK_START + STACK_LEN - 8;
+    refused("PUSHJ $1, window too small", mmix_step_in(&small, MMIX_OP_PUSHJ, 1, 0, 16, image, sizeof image), MMIX_MISSING);
+    refused("PUSHJ $1, windows that share", mmix_step_in(&sharing, MMIX_OP_PUSHJ, 1, 0, 16, image, sizeof image), MMIX_SHARED);
+    refused("an image cut short", mmix_step_in(&lent, MMIX_OP_TRIP, 0, 0, 0, image, sizeof image - 1), MMIX_NOT_ADMISSIBLE);
 
     if (general(0) != REVERSED || special(MMIX_RO) != MMIX_STACK_START)
         end("the direction marker is CHANGED");

@@ -1,14 +1,14 @@
 /* mmix.h: the MMIX register machine, one step at a time.
  *
  * The library keeps nothing between calls, allocates nothing and calls nothing but memcpy and memset. Every function
- * takes any values, ends, and returns MMIX_DONE (0) or the number of a refusal (1 to 21). That each function does what it
+ * takes any values, ends, and returns MMIX_DONE (0) or the number of a refusal (1 to 23). That each function does what it
  * should is proved; README.md says what that means.
  *
  * What the caller owes:
  *  - a pointer is to as many bytes as the length beside it says, or to an object of its type; it may be null only where
  *    that length is 0. It is aligned as C demands of its type;
- *  - no two objects that one call may write to overlap, and none that it writes to overlaps one that it reads: image,
- *    window, state, parts, start, length, backward and field are apart from each other;
+ *  - no two objects that one call may write to overlap, and none that it writes to overlaps one that it reads: image, the
+ *    windows a and b, state, parts, which, start, length, backward and field are apart from each other;
  *  - nothing else reads or writes them during the call.
  *
  * What can hurt:
@@ -41,22 +41,26 @@ extern "C" {
 
 /* What a change of the version promises. Minor: something was added, as a function, a name or a reply above the last; what
  * was written for an earlier minor version compiles, links and means the same. Major: a function, a struct, the image or a
- * number has another meaning; look before you link. */
-#define MMIX_VERSION_MAJOR 1
-#define MMIX_VERSION_MINOR 3
+ * number has another meaning; look before you link.
+ *
+ * 2.0: two windows are lent, a and b, each with its base, where 1 had one: mmix_step, mmix_step_lent, mmix_step_parts and
+ * mmix_context take both, and mmix_context tells by *which where the context lies. A host with one window lends it as b, and
+ * null with length 0 (base 0) as a; its steps then do what they did. MMIX_SHARED and MMIX_ACROSS are new. */
+#define MMIX_VERSION_MAJOR 2
+#define MMIX_VERSION_MINOR 0
 
-/* The replies. 1 to 6 leave every byte as it was; 7 to 18 set the halt code to 1 and leave all else; 19 and 20 set the
+/* The replies. 1 to 6 and 22 leave every byte as it was; 7 to 18 set the halt code to 1 and leave all else; 19 and 20 set the
  * halt code to 1 and the trip or trap registers, with PC where it was (an exception refused by 19 has also added to rA; a
  * store refused by 19 is made, and $X, rH and rR of an operation are written). 21 is the number of mmix_branch_field and
- * mmix_jump_field alone, which are given no state. */
+ * mmix_jump_field alone, and 23 that of mmix_context alone, which are given no state. */
 enum mmix_reply {
     MMIX_DONE = 0,                /* The step or the exception was done. */
     MMIX_NOT_ADMISSIBLE = 1,      /* rG, rL, rA or the marks are out of range, or the image is not MMIX_IMAGE_LEN bytes. */
-    MMIX_WINDOW_RULE = 2,         /* The window's length or base is no multiple of 8, or it is longer than MMIX_WINDOW_MAX. */
+    MMIX_WINDOW_RULE = 2,         /* A window's length or base is no multiple of 8, or it is longer than MMIX_WINDOW_MAX. */
     MMIX_NO_ARM = 3,              /* This machine has no such instruction, or it is RESUME. */
     MMIX_NAMED_TRAP = 4,          /* TRAP 0 that names a system call, which the host must serve. */
     MMIX_NO_SPECIAL = 5,          /* GET of a special register above 31. */
-    MMIX_MISSING = 6,             /* An octabyte that the step needs lies outside the window: lend more, and ask again. */
+    MMIX_MISSING = 6,             /* An octabyte that the step needs lies in neither window: lend more, and ask again. */
     MMIX_PUT_UNKNOWN = 7,         /* PUT to a special register above 31. */
     MMIX_PUT_PRIVILEGED = 8,      /* PUT to rC, rI, rK, rQ, rT, rU, rV or rTT. */
     MMIX_PUT_ILLEGAL = 9,         /* PUT to rN, rO or rS. */
@@ -71,7 +75,9 @@ enum mmix_reply {
     MMIX_SYNC_ILLEGAL = 18,       /* SYNC above 7. */
     MMIX_NOT_LOADED = 19,         /* A trip whose vector is not marked loaded: of TRIP, an exception, a store or an operation. */
     MMIX_TRAPPED = 20,            /* TRAP that names no system call. */
-    MMIX_OUT_OF_REACH = 21        /* No field of either direction leads from the one address to the other. */
+    MMIX_OUT_OF_REACH = 21,       /* No field of either direction leads from the one address to the other. */
+    MMIX_SHARED = 22,             /* The two windows share an octabyte. An empty one shares none. */
+    MMIX_ACROSS = 23              /* mmix_context: the context lies partly in one window and partly in the other. */
 };
 
 /* The opcodes that have an arm; every other byte is MMIX_NO_ARM. Of a pair with B at the end, that one goes backward; with I
@@ -127,7 +133,7 @@ enum mmix_flag {
 #define MMIX_AT_HALT 2312
 #define MMIX_AT_MARKS 2320
 
-/* The longest window. */
+/* The longest window; each of the two may be so long. */
 #define MMIX_WINDOW_MAX 65536
 
 /* Where the register stack starts: rO and rS of a fresh state. */
@@ -142,8 +148,11 @@ struct mmix_state {
     uint64_t marks;    /* bit k, k from 0 to 8: the trip vector at address 16 * k is loaded */
 };
 
-/* The window is the part of MMIX's memory that the host lends: `window_len` bytes from address `base` up, octabytes with
- * their high byte first. Addresses wrap at 2^64, so a window may cross the end of memory. */
+/* The two windows are the parts of MMIX's memory that the host lends: `a_len` bytes from address `base_a` up, and `b_len` bytes
+ * from `base_b` up, octabytes with their high byte first. Addresses wrap at 2^64, so a window may cross the end of memory. As
+ * a rule A holds programs and curves, low in memory, and B is the stack's window; any octabyte may lie in either, one step
+ * may use both, and a frame or a context may lie across two windows that touch. A host with one window lends it as B, and
+ * null with length 0 (base 0) as A. */
 
 /* ---- on an image */
 
@@ -151,9 +160,9 @@ struct mmix_state {
  * MMIX_NOT_ADMISSIBLE, and no byte changed, where image_len is not MMIX_IMAGE_LEN. */
 uint64_t mmix_initialize(uint8_t *image, size_t image_len);
 
-/* One step: the instruction with bytes op, x, y, z, at the image's PC, on image and window. */
-uint64_t mmix_step(uint64_t base, uint8_t op, uint8_t x, uint8_t y, uint8_t z,
-                   uint8_t *image, size_t image_len, uint8_t *window, size_t window_len);
+/* One step: the instruction with bytes op, x, y, z, at the image's PC, on image and windows. */
+uint64_t mmix_step(uint64_t base_a, uint64_t base_b, uint8_t op, uint8_t x, uint8_t y, uint8_t z,
+                   uint8_t *image, size_t image_len, uint8_t *a, size_t a_len, uint8_t *b, size_t b_len);
 
 /* The arithmetic exceptions that the instruction with bytes op, x, y, z raised: flags are those of enum mmix_flag, y_val and
  * z_val its operands. The leftmost one that rA enables is taken, a trip; those that rA does not enable are added to rA. With
@@ -171,24 +180,25 @@ uint64_t mmix_decode(const uint8_t *image, size_t image_len, struct mmix_state *
 uint64_t mmix_encode(const struct mmix_state *state, uint8_t *image, size_t image_len);
 
 /* As mmix_step. */
-uint64_t mmix_step_lent(uint64_t base, uint8_t op, uint8_t x, uint8_t y, uint8_t z,
-                        struct mmix_state *state, uint8_t *window, size_t window_len);
+uint64_t mmix_step_lent(uint64_t base_a, uint64_t base_b, uint8_t op, uint8_t x, uint8_t y, uint8_t z,
+                        struct mmix_state *state, uint8_t *a, size_t a_len, uint8_t *b, size_t b_len);
 
 /* As mmix_step and mmix_exceptions, on the parts of a state: the fastest, for a host that steps millions of times. The parts
  * may be those of a struct mmix_state. The marks do not change. */
-uint64_t mmix_step_parts(uint64_t base, uint8_t op, uint8_t x, uint8_t y, uint8_t z,
+uint64_t mmix_step_parts(uint64_t base_a, uint64_t base_b, uint8_t op, uint8_t x, uint8_t y, uint8_t z,
                          uint64_t general[256], uint64_t special[32], uint64_t *pc, uint64_t *halt, uint64_t marks,
-                         uint8_t *window, size_t window_len);
+                         uint8_t *a, size_t a_len, uint8_t *b, size_t b_len);
 uint64_t mmix_exceptions_parts(uint8_t flags, uint8_t op, uint8_t x, uint8_t y, uint8_t z, uint64_t y_val, uint64_t z_val,
                                uint64_t general[256], uint64_t special[32], uint64_t *pc, uint64_t *halt, uint64_t marks);
 
 /* ---- saved contexts */
 
-/* Finds the context that SAVE put in the window; `address` is what SAVE left in $X. Done, the context is the *length bytes of
- * the window from index *start on: its locals, their count, its globals, twelve special registers, rG and rA packed.
- * Refused by 2, 6, 14, 15 or 16, as UNSAVE of it would be, *start and *length are 0. No byte of the window is changed. */
-uint64_t mmix_context(uint64_t base, uint64_t address, const uint8_t *window, size_t window_len,
-                      size_t *start, size_t *length);
+/* Finds the context that SAVE put in a window; `address` is what SAVE left in $X. Done, *which is 0 for A and 1 for B, and the
+ * context is the *length bytes of that window from index *start on: its locals, their count, its globals, twelve special
+ * registers, rG and rA packed. Refused by 2, 22, 6, 14, 15 or 16, as UNSAVE of it would be, or by 23 where UNSAVE of it would
+ * be done and it lies across both windows, *which, *start and *length are 0. No byte of a window is changed. */
+uint64_t mmix_context(uint64_t base_a, uint64_t base_b, uint64_t address, const uint8_t *a, size_t a_len,
+                      const uint8_t *b, size_t b_len, uint64_t *which, size_t *start, size_t *length);
 
 /* ---- patching */
 
@@ -199,6 +209,61 @@ uint64_t mmix_context(uint64_t base, uint64_t address, const uint8_t *window, si
  * may be given; misaligned ones too, since their difference counts. */
 uint64_t mmix_branch_field(uint64_t from, uint64_t to, uint8_t *backward, uint32_t *field);
 uint64_t mmix_jump_field(uint64_t from, uint64_t to, uint8_t *backward, uint32_t *field);
+
+/* ---- the two windows in a struct, for people: the functions above under shorter calls, not proved and in no library */
+
+struct mmix_windows {
+    uint64_t base_a;
+    uint64_t base_b;
+    uint8_t *a;
+    size_t a_len;
+    uint8_t *b;
+    size_t b_len;
+};
+
+/* One window alone, the stack's. */
+static inline struct mmix_windows mmix_one_window(uint64_t base, uint8_t *window, size_t window_len)
+{
+    struct mmix_windows lent = { 0, 0, NULL, 0, NULL, 0 };
+
+    lent.base_b = base;
+    lent.b = window;
+    lent.b_len = window_len;
+    return lent;
+}
+
+static inline uint64_t mmix_step_in(const struct mmix_windows *lent, uint8_t op, uint8_t x, uint8_t y, uint8_t z,
+                                    uint8_t *image, size_t image_len)
+{
+    return mmix_step(lent->base_a, lent->base_b, op, x, y, z, image, image_len, lent->a, lent->a_len, lent->b, lent->b_len);
+}
+
+static inline uint64_t mmix_step_lent_in(const struct mmix_windows *lent, uint8_t op, uint8_t x, uint8_t y, uint8_t z,
+                                         struct mmix_state *state)
+{
+    return mmix_step_lent(lent->base_a, lent->base_b, op, x, y, z, state, lent->a, lent->a_len, lent->b, lent->b_len);
+}
+
+static inline uint64_t mmix_step_parts_in(const struct mmix_windows *lent, uint8_t op, uint8_t x, uint8_t y, uint8_t z,
+                                          uint64_t general[256], uint64_t special[32], uint64_t *pc, uint64_t *halt,
+                                          uint64_t marks)
+{
+    return mmix_step_parts(lent->base_a, lent->base_b, op, x, y, z, general, special, pc, halt, marks,
+                           lent->a, lent->a_len, lent->b, lent->b_len);
+}
+
+/* Done, *context is the first of the *length bytes of the context; refused, it is null and *length is 0. */
+static inline uint64_t mmix_context_in(const struct mmix_windows *lent, uint64_t address, const uint8_t **context,
+                                       size_t *length)
+{
+    uint64_t which;
+    size_t start;
+    uint64_t reply = mmix_context(lent->base_a, lent->base_b, address, lent->a, lent->a_len, lent->b, lent->b_len,
+                                  &which, &start, length);
+
+    *context = reply != MMIX_DONE ? NULL : (which == 1 ? lent->b : lent->a) + start;
+    return reply;
+}
 
 #ifdef __cplusplus
 }

@@ -16,11 +16,11 @@ static inline const char *mmix_reply_text(uint64_t reply)
     switch (reply) {
     case MMIX_DONE: return "done";
     case MMIX_NOT_ADMISSIBLE: return "the state is not admissible, or the image has the wrong length";
-    case MMIX_WINDOW_RULE: return "the window breaks its rule";
+    case MMIX_WINDOW_RULE: return "a window breaks its rule";
     case MMIX_NO_ARM: return "there is no such instruction";
     case MMIX_NAMED_TRAP: return "TRAP names a system call, which the host must serve";
     case MMIX_NO_SPECIAL: return "GET of a special register above 31";
-    case MMIX_MISSING: return "a needed octabyte lies outside the window";
+    case MMIX_MISSING: return "a needed octabyte lies in neither window";
     case MMIX_PUT_UNKNOWN: return "PUT to a special register above 31";
     case MMIX_PUT_PRIVILEGED: return "PUT to a privileged register";
     case MMIX_PUT_ILLEGAL: return "PUT to rN, rO or rS";
@@ -36,6 +36,8 @@ static inline const char *mmix_reply_text(uint64_t reply)
     case MMIX_NOT_LOADED: return "a trip to a vector that is not loaded";
     case MMIX_TRAPPED: return "TRAP that names no system call";
     case MMIX_OUT_OF_REACH: return "no field of either direction reaches that address";
+    case MMIX_SHARED: return "the two windows share an octabyte";
+    case MMIX_ACROSS: return "the context lies across both windows";
     default: return "no reply of this version";
     }
 }

@@ -49,6 +49,9 @@ enum-told-4 c = search needs
 enum-told-5 : tie.Need-enum-told-5
 enum-told-5 c = search needs
 
+enum-told-6 : tie.Need-enum-told-6
+enum-told-6 c = search needs
+
 returns : tie.Need-returns
 unfolding goes
 returns c =
@@ -91,6 +94,13 @@ returns-6 c =
     let a = told .before .before .before .before .before .before .before .args in
     pop-refused (lent (a .at) (a .a .now) (a .b .now)) (made (a .general .now) (a .special .now) (a .pc .now) (a .halt .now) (a .marks)) (a .x) (yzOf (a .y) (a .z)) _ _ (told .pop-frame .ensures (a .pc .now)) _ _ (c .enum-told5 .given .1) refl refl
 
+returns-7 : tie.Need-returns-7
+unfolding replyOf popNumber
+returns-7 c =
+    let told = c .before .before in
+    let a = told .before .before .before .before .before .before .before .args in
+    pop-refused (lent (a .at) (a .a .now) (a .b .now)) (made (a .general .now) (a .special .now) (a .pc .now) (a .halt .now) (a .marks)) (a .x) (yzOf (a .y) (a .z)) _ _ (told .pop-frame .ensures (a .pc .now)) _ _ (c .enum-told6 .given .1) refl refl
+
 pub pop-to-spec : {M : Type 1} → statement M
 pop-to-spec =
     tie.close
@@ -108,9 +118,11 @@ pop-to-spec =
     enum-told-3
     enum-told-4
     enum-told-5
+    enum-told-6
     returns
     returns-2
     returns-3
     returns-4
     returns-5
-    returns-6)
+    returns-6
+    returns-7)

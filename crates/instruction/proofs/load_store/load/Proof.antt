@@ -48,7 +48,7 @@ returns-2 c =
     let s = made (a .general .now) (a .special .now) (a .pc .now) halt marks in
     let there = rw (test .run-refusal .ensures) at (else .if1 .left) in
     load-done w s _ _ _ _ _ (sums .sum .ensures (a .special .now) (a .pc .now) halt marks) there _ _ _ _ _
-    (reads .read-octa .ensures ∙ octa-read w _ there) (loads .loaded .ensures) (sets .set-register .ensures s) (c .following .ensures)
+    (reads .read-octa .ensures .0 ∙ octa-read w _ there) (loads .loaded .ensures) (sets .set-register .ensures s) (c .following .ensures)
 
 pub load-spec : {M : Type 1} → statement M
 load-spec =

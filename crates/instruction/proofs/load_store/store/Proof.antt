@@ -63,7 +63,7 @@ returns-2 c =
     let s = made (a .general .now) (a .special .now) (a .pc .now) (a .halt .now) (a .marks) in
     let there = rw (test .run-refusal .ensures) at (else .if1 .left) in
     store-fits w s _ _ _ _ _ (sums .sum .ensures (a .special .now) (a .pc .now) (a .halt .now) (a .marks)) there _ _ _
-    (reads .read-octa .ensures ∙ octa-read w _ there) (writes .before .merged .ensures) (writes .write-octa .ensures ∙ octa-written w _ there _)
+    (reads .read-octa .ensures .0 ∙ octa-read w _ there) (writes .before .merged .ensures) (writes .write-octa .ensures .0 ∙ octa-written w _ there _)
     _ (sym (asks .fits2 .ensures) ∙ then .if2 .taken) (c .following .ensures)
 
 word-of-requires : tie.Need-word-of-requires
@@ -91,7 +91,7 @@ returns-3 c =
     let s = made (a .general .now) (a .special .now) (a .pc .now) (a .halt .now) (a .marks) in
     let there = rw (test .run-refusal .ensures) at (else .if1 .left) in
     store-raises w s _ _ _ _ _ (sums .sum .ensures (a .special .now) (a .pc .now) (a .halt .now) (a .marks)) there _ _ _
-    (reads .read-octa .ensures ∙ octa-read w _ there) (writes .before .merged .ensures) (writes .write-octa .ensures ∙ octa-written w _ there _)
+    (reads .read-octa .ensures .0 ∙ octa-read w _ there) (writes .before .merged .ensures) (writes .write-octa .ensures .0 ∙ octa-written w _ there _)
     _ _ _ (sym (asks .fits2 .ensures) ∙ left .if2 .left) (words .word-of .ensures) (c .raise .ensures)
 
 pub store-spec : {M : Type 1} → statement M
