@@ -15,24 +15,39 @@ enum-told c = search needs
 same-length : tie.Need-same-length
 same-length c = search needs
 
+same-length-2 : tie.Need-same-length-2
+same-length-2 c = search needs
+
 returns : tie.Need-returns
 unfolding goes
 returns c =
     λ halt.
-    let told = c .before .before .before .before in
-    let a = told .before .before .before .before .before .before .args in
+    let told = c .before .before .before .before .before .before in
+    let a = told .before .before .before .before .before .before .before .before .args in
     push-done (lent (a .at) (a .a .now) (a .b .now)) (made (a .general .now) (a .special .now) (a .pc .now) halt (a .marks)) (a .x) (a .target) _ _ _ (told .push-frame .ensures halt) (c .before .match .keys1)
 
-same-length-2 : tie.Need-same-length-2
-same-length-2 c = search needs
+same-length-3 : tie.Need-same-length-3
+same-length-3 c = search needs
+
+same-length-4 : tie.Need-same-length-4
+same-length-4 c = search needs
 
 returns-2 : tie.Need-returns-2
 returns-2 c =
     λ halt.
-    let told = c .before .before .before in
-    let a = told .before .before .before .before .before .before .args in
+    let told = c .before .before .before .before .before in
+    let a = told .before .before .before .before .before .before .before .before .args in
     push-refused (lent (a .at) (a .a .now) (a .b .now)) (made (a .general .now) (a .special .now) (a .pc .now) halt (a .marks)) (a .x) (a .target) _ _ _ (told .push-frame .ensures halt) (c .match .keys2)
 
 pub push-to-spec : {M : Type 1} → statement M
 push-to-spec =
-    tie.close (tie.spec push-frame-requires enum-told same-length returns same-length-2 returns-2)
+    tie.close
+    (tie.spec
+    push-frame-requires
+    enum-told
+    same-length
+    same-length-2
+    returns
+    same-length-3
+    same-length-4
+    returns-2)

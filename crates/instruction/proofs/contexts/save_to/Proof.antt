@@ -18,22 +18,28 @@ following-requires c κs = search needs
 same-length : tie.Need-same-length
 same-length c = search needs
 
+same-length-2 : tie.Need-same-length-2
+same-length-2 c = search needs
+
 returns : tie.Need-returns
 unfolding saveOf
 returns c =
-    let told = c .before .before .before .before .before .before in
-    let a = told .before .before .before .before .before .before .args in
+    let told = c .before .before .before .before .before .before .before .before in
+    let a = told .before .before .before .before .before .before .before .before .args in
     let s = made (a .general .now) (a .special .now) (a .pc .now) (a .halt .now) (a .marks) in
     onward-done _ s (save-onward (lent (a .at) (a .a .now) (a .b .now)) s (a .x)) _ _ _ _ _ (told .save-context .ensures (a .pc .now)) _ (c .before .before .before .match .keys1) (c .following .ensures)
 
-same-length-2 : tie.Need-same-length-2
-same-length-2 c = search needs
+same-length-3 : tie.Need-same-length-3
+same-length-3 c = search needs
+
+same-length-4 : tie.Need-same-length-4
+same-length-4 c = search needs
 
 returns-2 : tie.Need-returns-2
 unfolding saveOf
 returns-2 c =
-    let told = c .before .before .before in
-    let a = told .before .before .before .before .before .before .args in
+    let told = c .before .before .before .before .before in
+    let a = told .before .before .before .before .before .before .before .before .args in
     let s = made (a .general .now) (a .special .now) (a .pc .now) (a .halt .now) (a .marks) in
     onward-refused _ s (save-onward (lent (a .at) (a .a .now) (a .b .now)) s (a .x)) _ _ _ _ _ (told .save-context .ensures (a .pc .now)) (c .match .keys2)
 
@@ -45,6 +51,8 @@ save-to-spec =
     enum-told
     following-requires
     same-length
-    returns
     same-length-2
+    returns
+    same-length-3
+    same-length-4
     returns-2)

@@ -19,7 +19,7 @@ returns : tie.Need-returns
 unfolding unsaveOf
 returns c =
     let told = c .before .before .before .before in
-    let a = told .before .before .before .before .before .args in
+    let a = told .before .before .before .before .before .before .args in
     let s = made (a .general .now) (a .special .now) (a .pc .now) (a .halt .now) (a .marks) in
     onward-done _ s (unsave-onward (lent (a .at) (a .a .now) (a .b .now)) s (a .address)) _ _ _ _ _ (told .unsave-context .ensures (a .pc .now)) _ (c .before .before .before .match .keys1) (c .following .ensures)
 
@@ -27,7 +27,7 @@ returns-2 : tie.Need-returns-2
 unfolding unsaveOf
 returns-2 c =
     let told = c .before in
-    let a = told .before .before .before .before .before .args in
+    let a = told .before .before .before .before .before .before .args in
     let s = made (a .general .now) (a .special .now) (a .pc .now) (a .halt .now) (a .marks) in
     onward-refused _ s (unsave-onward (lent (a .at) (a .a .now) (a .b .now)) s (a .address)) _ _ _ _ _ (told .unsave-context .ensures (a .pc .now)) (c .match .keys2)
 

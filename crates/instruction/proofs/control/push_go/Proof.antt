@@ -14,14 +14,17 @@ push-to-requires c κs = search needs
 same-length : tie.Need-same-length
 same-length c = search needs
 
+same-length-2 : tie.Need-same-length-2
+same-length-2 c = search needs
+
 returns : tie.Need-returns
 returns c =
     λ halt.
-    let calls = c .before .before in
-    let sums = calls .before .before .before .before .before in
-    let a = sums .before .before .before .args in
+    let calls = c .before .before .before .before in
+    let sums = calls .before .before .before .before .before .before in
+    let a = sums .before .before .before .before .args in
     let s = made (a .general .now) (a .special .now) (a .pc .now) halt (a .marks) in
     push-at (lent (a .at) (a .a .now) (a .b .now)) s (a .x) _ _ _ _ _ (sums .sum .ensures (a .special .now) (a .pc .now) halt (a .marks)) (calls .push-to .ensures halt)
 
 pub push-go-spec : {M : Type 1} → statement M
-push-go-spec = tie.close (tie.spec sum-requires push-to-requires same-length returns)
+push-go-spec = tie.close (tie.spec sum-requires push-to-requires same-length same-length-2 returns)

@@ -18,7 +18,7 @@ returns c =
     λ halt marks.
     let test = c .before in
     let sums = test .before in
-    let a = sums .before .before .before .args in
+    let a = sums .before .before .before .before .args in
     let s = made (a .general .now) (a .special .now) (a .pc .now) halt marks in
     load-missing (lent (a .at) (a .a .now) (a .b .now)) s _ _ _ _ _ (sums .sum .ensures (a .special .now) (a .pc .now) halt marks) (rw (test .run-refusal .ensures) at (c .if1 .taken))
 
@@ -43,7 +43,7 @@ returns-2 c =
     let else = reads .before in
     let test = else .before in
     let sums = test .before in
-    let a = sums .before .before .before .args in
+    let a = sums .before .before .before .before .args in
     let w = lent (a .at) (a .a .now) (a .b .now) in
     let s = made (a .general .now) (a .special .now) (a .pc .now) halt marks in
     let there = rw (test .run-refusal .ensures) at (else .if1 .left) in

@@ -16,11 +16,14 @@ run-refusal-requires c κs = search needs
 same-length : tie.Need-same-length
 same-length c = search needs
 
+same-length-2 : tie.Need-same-length-2
+same-length-2 c = search needs
+
 returns : tie.Need-returns
 returns c =
     let test = c .before in
-    let sums = test .before .before in
-    let a = sums .before .before .before .args in
+    let sums = test .before .before .before in
+    let a = sums .before .before .before .before .args in
     let s = made (a .general .now) (a .special .now) (a .pc .now) (a .halt .now) (a .marks) in
     store-missing (lent (a .at) (a .a .now) (a .b .now)) s _ _ _ _ _ (sums .sum .ensures (a .special .now) (a .pc .now) (a .halt .now) (a .marks)) (rw (test .run-refusal .ensures) at (c .if1 .taken))
 
@@ -45,19 +48,22 @@ fits-requires c κs = search needs
 following-requires : tie.Need-following-requires
 following-requires c κs = search needs
 
-same-length-2 : tie.Need-same-length-2
-same-length-2 c = search needs
+same-length-3 : tie.Need-same-length-3
+same-length-3 c = search needs
+
+same-length-4 : tie.Need-same-length-4
+same-length-4 c = search needs
 
 returns-2 : tie.Need-returns-2
 returns-2 c =
     let then = c .before .before in
     let asks = then .before in
-    let writes = asks .before .before .before in
-    let reads = writes .before .before .before .before in
-    let else = reads .before .before in
+    let writes = asks .before .before .before .before .before in
+    let reads = writes .before .before .before .before .before in
+    let else = reads .before .before .before in
     let test = else .before in
-    let sums = test .before .before in
-    let start = sums .before .before .before in
+    let sums = test .before .before .before in
+    let start = sums .before .before .before .before in
     let a = start .args in
     let w = lent (a .at) (a .a .now) (a .b .now) in
     let s = made (a .general .now) (a .special .now) (a .pc .now) (a .halt .now) (a .marks) in
@@ -72,20 +78,23 @@ word-of-requires c κs = search needs
 raise-requires : tie.Need-raise-requires
 raise-requires c κs = search needs
 
-same-length-3 : tie.Need-same-length-3
-same-length-3 c = search needs
+same-length-5 : tie.Need-same-length-5
+same-length-5 c = search needs
+
+same-length-6 : tie.Need-same-length-6
+same-length-6 c = search needs
 
 returns-3 : tie.Need-returns-3
 returns-3 c =
     let words = c .before .before .before .before .before in
     let left = words .before in
     let asks = left .before in
-    let writes = asks .before .before .before in
-    let reads = writes .before .before .before .before in
-    let else = reads .before .before in
+    let writes = asks .before .before .before .before .before in
+    let reads = writes .before .before .before .before .before in
+    let else = reads .before .before .before in
     let test = else .before in
-    let sums = test .before .before in
-    let start = sums .before .before .before in
+    let sums = test .before .before .before in
+    let start = sums .before .before .before .before in
     let a = start .args in
     let w = lent (a .at) (a .a .now) (a .b .now) in
     let s = made (a .general .now) (a .special .now) (a .pc .now) (a .halt .now) (a .marks) in
@@ -101,6 +110,7 @@ store-spec =
     sum-requires
     run-refusal-requires
     same-length
+    same-length-2
     returns
     read-octa-requires
     mul-u
@@ -109,9 +119,11 @@ store-spec =
     write-octa-requires
     fits-requires
     following-requires
-    same-length-2
+    same-length-3
+    same-length-4
     returns-2
     word-of-requires
     raise-requires
-    same-length-3
+    same-length-5
+    same-length-6
     returns-3)

@@ -15,11 +15,14 @@ load-requires c κs = search needs
 same-length : tie.Need-same-length
 same-length c = search needs
 
+same-length-2 : tie.Need-same-length-2
+same-length-2 c = search needs
+
 returns : tie.Need-returns
 unfolding rangedOf
 returns c =
-    let then = c .before .before .before .before .before in
-    let a = then .before .before .before .args in
+    let then = c .before .before .before .before .before .before in
+    let a = then .before .before .before .before .args in
     rw (sym (then .before .is-among .ensures) ∙ then .if1 .taken) (c .load .ensures (a .halt .now) (a .marks))
 
 is-among-requires-2 : tie.Need-is-among-requires-2
@@ -28,14 +31,17 @@ is-among-requires-2 c κs = search needs
 store-requires : tie.Need-store-requires
 store-requires c κs = search needs
 
-same-length-2 : tie.Need-same-length-2
-same-length-2 c = search needs
+same-length-3 : tie.Need-same-length-3
+same-length-3 c = search needs
+
+same-length-4 : tie.Need-same-length-4
+same-length-4 c = search needs
 
 returns-2 : tie.Need-returns-2
 unfolding rangedOf
 returns-2 c =
-    let call = c .before .before in
-    let then = call .before .before .before .before .before .before in
+    let call = c .before .before .before .before in
+    let then = call .before .before .before .before .before .before .before in
     let first = then .before .before in
     rw (sym (first .before .is-among .ensures) ∙ first .if1 .left, sym (then .before .is-among2 .ensures) ∙ then .if2 .taken) (call .store .ensures)
 
@@ -68,10 +74,12 @@ by-range-spec =
     is-among-requires
     load-requires
     same-length
+    same-length-2
     returns
     is-among-requires-2
     store-requires
-    same-length-2
+    same-length-3
+    same-length-4
     returns-2
     is-among-requires-3
     compute-requires
