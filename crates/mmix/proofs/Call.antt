@@ -2,7 +2,7 @@
 use mathlib.Core.Path.{_≡_, refl, sym, ap, subst, _∙_}
 use mathlib.Core.Logic.{_⊎_, inl, inr}
 use mathlib.Core.List.{List, [], _∷_}
-use Prim.Native.Nat.{ℕ}
+use Prim.Native.Nat.{ℕ, _≤_}
 use native.Mathlib.Omega.{arith}
 use lib.ListN.{length}
 use Rattle.model.specs.Memory.{Windows, both}
@@ -11,7 +11,6 @@ use Rattle.model.specs.Lists.{stepOn, runs}
 use Rattle.model.specs.Registers.{Sized, Words}
 use Rattle.model.specs.NoMemory.{tell}
 use Rattle.model.specs.Step.{Item, step, exception, stepOf, itemPlan, mmix}
-use Rattle.model.specs.Numbers.{OfStep}
 use Rattle.model.specs.declared.State.{State}
 use Rattle.model.proofs.Numbers.{step-number}
 use Rattle.model.proofs.Leaves.{replies-leave}
@@ -59,7 +58,7 @@ pub record Left (s : State) (w : Windows) (i : Item) (r : ℕ) (k : Held) (v : W
   pub held-is : HeldIs k (stepOn both mmix s w i .state)
   pub window-is : v ≡ stepOn both mmix s w i .memory
 
-pub few : (n : ℕ) → (n ≡ 0) ⊎ ((n ≡ 1) ⊎ (n ≡ 19)) → OfStep n
+pub few : (n : ℕ) → (n ≡ 0) ⊎ ((n ≡ 1) ⊎ (n ≡ 19)) → (n ≤ 20) ⊎ (n ≡ 22)
 few n (inl e) = inl (omega arith)
 few n (inr (inl e)) = inl (omega arith)
 few n (inr (inr e)) = inl (omega arith)

@@ -2,7 +2,7 @@
 use mathlib.Core.Path.{_≡_, refl, sym, ap, subst, _∙_}
 use mathlib.Core.Logic.{_⊎_, inl, inr, ⊎-elim}
 use mathlib.Core.List.{List, [], _∷_}
-use Prim.Native.Nat.{ℕ, _*_, _<_}
+use Prim.Native.Nat.{ℕ, _*_, _≤_, _<_}
 use native.Mathlib.Omega.{arith}
 use mathlib.Core.Bool.{Bool, true, false}
 use borrow.Author.Tests.{eqb-true, eqb-false}
@@ -20,7 +20,7 @@ use Rattle.model.specs.Registers.{rB, rBB, rA, rW, rX, rY, rZ, rWW, rXX, rYY, r
 use Rattle.model.specs.Trips.{withAdded, wordOf}
 use Rattle.model.specs.Field.{fieldOf, answerOf}
 use Rattle.model.specs.Reader.{Part, readContext}
-use Rattle.model.specs.Numbers.{Early, OfStep}
+use Rattle.model.specs.Numbers.{Early}
 use Rattle.model.specs.Leaves.{Interrupted, StepLeaves, ExceptionLeaves, ReaderLeaves, FieldLeaves}
 use Rattle.model.proofs.Leaves.{replies-leave, added-sized, results-sized}
 use Rattle.model.proofs.Invariants.{items-keep}
@@ -70,7 +70,7 @@ module _ (l : List ℕ) (n : length l ≡ imageLength) (b : (i : ℕ) → getD l
       let zt : Sized (o .state) = items-keep .sized w s (step op x y z) zs in
       let e : r ≡ o .reply = g .reply-is in
       record {
-        most = subst OfStep (sym e) (k .most);
+        most = subst (λ (n : ℕ). (n ≤ 20) ⊎ (n ≡ 22)) (sym e) (k .most);
         early = λ p. let h = k .early (subst Early e p) in (g .held-is ∙ ap imageOf (h .0) ∙ back, g .window-is ∙ h .1);
         lost = λ p. let h = k .lost (omega (arith, e)) in (g .held-is ∙ ap imageOf (h .0) ∙ back, g .window-is ∙ h .1);
         halting = λ p.

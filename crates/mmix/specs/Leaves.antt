@@ -16,7 +16,7 @@ use Rattle.model.specs.Control.{operandOf, sumOf}
 use Rattle.model.specs.Trips.{wordOf, withAdded}
 use Rattle.model.specs.LoadStore.{merged, flagV}
 use Rattle.model.specs.ArithmeticStep.{resultsIn, withResults}
-use Rattle.model.specs.Numbers.{Early, Lost, Halting, OfStep}
+use Rattle.model.specs.Numbers.{Early, Lost, Halting}
 use Rattle.model.specs.Field.{fieldOf, answerOf}
 use Rattle.model.specs.Leaves.{Sharing, StepLeaves, ExceptionLeaves, FieldLeaves}
 use Rattle.model.specs.declared.State.{State}
@@ -81,7 +81,7 @@ pub record ArithmeticCallLeaves (l : List ℕ) (w : Windows) (op x y z : ℕ) (m
 
 -- what mmix_step leaves
 pub record StepCallLeaves (l : List ℕ) (w : Windows) (op x y z r : ℕ) (m : List ℕ) (v : Windows) : Type 0 where
-  pub most : OfStep r
+  pub most : (r ≤ 20) ⊎ (r ≡ 22)
   -- 1 to 6 and 22
   pub early : Early r → (m ≡ l) × (v ≡ w)
   pub lost : Lost r → (m ≡ l) × (v ≡ w)

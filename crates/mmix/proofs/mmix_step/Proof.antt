@@ -23,12 +23,15 @@ same-length c = search needs
 same-length-2 : tie.Need-same-length-2
 same-length-2 c = search needs
 
+same-length-3 : tie.Need-same-length-3
+same-length-3 c = search needs
+
 returns-2 : tie.Need-returns-2
 returns-2 c =
     let storing = c .before .before in
-    let stepping = storing .before .before .before .before .before .before in
-    let loading = stepping .before .before .before .before .before .before in
-    stepped (loading .before .before .before .before .before .before .before .args .image .now) (omega arith) _ _ _ _ _ _ (loading .load-state .ensures) _ _ _ (stepping .mmix-step-parts .ensures) _ (storing .store-state .ensures)
+    let stepping = storing .before .before .before .before .before .before .before .before in
+    let loading = stepping .before .before .before .before .before .before .before in
+    stepped (loading .before .before .before .before .before .before .before .before .args .image .now) (omega arith) _ _ _ _ _ _ (loading .load-state .ensures) _ _ _ (stepping .mmix-step-parts .ensures) _ (storing .store-state .ensures)
 
 pub mmix-step-spec : {M : Type 1} → statement M
 mmix-step-spec =
@@ -40,4 +43,5 @@ mmix-step-spec =
     store-state-requires
     same-length
     same-length-2
+    same-length-3
     returns-2)

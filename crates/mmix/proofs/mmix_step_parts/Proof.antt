@@ -13,8 +13,18 @@ number-of-requires c κs = search needs
 same-length : tie.Need-same-length
 same-length c = search needs
 
+same-length-2 : tie.Need-same-length-2
+same-length-2 c = search needs
+
 returns : tie.Need-returns
-returns c = stepped-state _ _ _ _ _ _ _ _ _ (c .before .before .before .step .ensures) _ (c .number-of .ensures)
+returns c = stepped-state _ _ _ _ _ _ _ _ _ (c .before .before .before .before .before .step .ensures) _ (c .number-of .ensures)
 
 pub mmix-step-parts-spec : {M : Type 1} → statement M
-mmix-step-parts-spec = tie.close (tie.spec step-requires number-of-requires same-length returns)
+mmix-step-parts-spec =
+    tie.close
+    (tie.spec
+    step-requires
+    number-of-requires
+    same-length
+    same-length-2
+    returns)

@@ -9,8 +9,11 @@ mmix-step-parts-requires c κs = search needs
 same-length : tie.Need-same-length
 same-length c = search needs
 
+same-length-2 : tie.Need-same-length-2
+same-length-2 c = search needs
+
 returns : tie.Need-returns
-returns c = c .before .before .mmix-step-parts .ensures
+returns c = c .before .before .before .before .mmix-step-parts .ensures
 
 pub step-spec : {M : Type 1} → statement M
-step-spec = tie.close (tie.spec mmix-step-parts-requires same-length returns)
+step-spec = tie.close (tie.spec mmix-step-parts-requires same-length same-length-2 returns)
