@@ -18,7 +18,7 @@ use Rattle.model.proofs.Bools.{on, and-left}
 use Rattle.script.specs.Codes.{codes}
 use Rattle.script.specs.Text.{hexMark}
 use Rattle.script.specs.Line.{registerLine, specialLine, stepLine, digitOf, digitsAt, isNumber, numberOf, startsWith, before, matched, registerForm, specialForm, stepForm, orElse, lineOf}
-use Rattle.script.specs.Script.{doneLine, refusedLine, badLine, stepText, badText, turnOf, atFirst, pieces, carried, window, scriptMost, printed, outputLength, Bounded}
+use Rattle.script.specs.Script.{doneLine, refusedLine, badLine, stepText, badText, turnOf, atFirst, pieces, carried, windows, scriptMost, printed, outputLength, Bounded}
 use Rattle.script.specs.declared.line.Form.{Form}
 use Rattle.script.specs.declared.line.Form.the-variants.{Register, Special, Step, Bad}
 use Rattle.script.specs.declared.line.Instruction.{Instruction}
@@ -144,7 +144,7 @@ unfolding carried joined
 most-carried n s w p [] = on (λ (t : List ℕ). length t + 12 ≤ 12 * (suc (length p) + 0) + 27) (eqb (length p) 0) (λ e. omega arith) (λ e. omega (arith, bad-most n))
 most-carried n s w p (q ∷ ps) =
     let f = lineOf p in
-    let rest = most-carried (suc n) (turnOf n s w f .state) (turnOf n s w f .window) q ps in
+    let rest = most-carried (suc n) (turnOf n s w f .state) (turnOf n s w f .windows) q ps in
     go (turnOf n s w f .text) (turnOf n s w f .goesOn) _ (most-if-on n s w p f (enough p)) (most n s w p f (enough p)) rest
   where
     go : (t : List ℕ) (b : Bool) (u : List ℕ) → (b ≡ true → length t ≤ 12 * suc (length p)) → length t ≤ 12 * suc (length p) + 27
@@ -162,12 +162,12 @@ carried-most n s w l = go (pieces l) (joined-pieces l)
 
 by-length : (l : List ℕ) → length (printed l) ≤ 12 * length l + 27
 unfolding printed
-by-length l = on (λ (t : List ℕ). length t ≤ 12 * length l + 27) (leb (length l) scriptMost) (λ e. carried-most 1 start window l) (λ e. omega (arith, bad-most 0))
+by-length l = on (λ (t : List ℕ). length t ≤ 12 * length l + 27) (leb (length l) scriptMost) (λ e. carried-most 1 start windows l) (λ e. omega (arith, bad-most 0))
 
 of-any : (l : List ℕ) → length (printed l) ≤ outputLength
 unfolding printed
 of-any l =
-    on (λ (t : List ℕ). length t ≤ outputLength) (leb (length l) scriptMost) (λ e. omega (arith, leb-true (length l) scriptMost e, carried-most 1 start window l))
+    on (λ (t : List ℕ). length t ≤ outputLength) (leb (length l) scriptMost) (λ e. omega (arith, leb-true (length l) scriptMost e, carried-most 1 start windows l))
     (λ e. omega (arith, bad-most 0))
 
 pub bounded : Bounded

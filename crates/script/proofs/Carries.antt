@@ -24,7 +24,7 @@ use Rattle.model.proofs.Leaves.{replies-leave}
 use Rattle.instruction.specs.StepAnswer.{Whole}
 use Rattle.script.specs.Line.{lineOf}
 use Rattle.script.specs.Text.{filled}
-use Rattle.script.specs.Script.{doneLine, refusedLine, stepText, badText, turnOf, atFirst, pieces, carried, window, scriptMost, printed}
+use Rattle.script.specs.Script.{doneLine, refusedLine, stepText, badText, turnOf, atFirst, pieces, carried, windows, scriptMost, printed}
 use Rattle.script.specs.Writing.{Wrote, Leaves, lineLength}
 use Rattle.script.specs.declared.line.Form.{Form}
 use Rattle.script.specs.declared.line.Form.the-variants.{Register, Special, Step, Bad}
@@ -103,15 +103,15 @@ special-out s k v h = λ i. record { general = s .general; special = sym (set-ou
 module _ (n : ℕ) (s : State) (w : Windows) (f : Form) (b : List ℕ) (at : ℕ) where
   pub leaves-register : (a : Setting) → f ≡ Register a → (t : State) → t ≡ setRegister s (a .index) (a .value) → Leaves (turnOf n s w f) b at b at true t w
   unfolding turnOf
-  leaves-register a e t h = rw e (record { text-is = wrote-nothing b at; goes-on-is = refl; state-is = h; window-is = refl })
+  leaves-register a e t h = rw e (record { text-is = wrote-nothing b at; goes-on-is = refl; state-is = h; windows-are = refl })
 
   pub leaves-special : (a : Setting) → f ≡ Special a → (t : State) → t ≡ withSpecial s (a .index) (a .value) → Leaves (turnOf n s w f) b at b at true t w
   unfolding turnOf
-  leaves-special a e t h = rw e (record { text-is = wrote-nothing b at; goes-on-is = refl; state-is = h; window-is = refl })
+  leaves-special a e t h = rw e (record { text-is = wrote-nothing b at; goes-on-is = refl; state-is = h; windows-are = refl })
 
   pub leaves-bad : f ≡ Bad → (c : List ℕ) (end : ℕ) → Wrote b at (badText n) c end → Leaves (turnOf n s w f) b at c end false s w
   unfolding turnOf
-  leaves-bad e c end h = rw e (record { text-is = h; goes-on-is = refl; state-is = refl; window-is = refl })
+  leaves-bad e c end h = rw e (record { text-is = h; goes-on-is = refl; state-is = refl; windows-are = refl })
 
   pub leaves-same : (g : Form) → f ≡ g → (c : List ℕ) (end : ℕ) (going : Bool) (t : State) (v : Windows)
       → Leaves (turnOf n s w g) b at c end going t v → Leaves (turnOf n s w f) b at c end going t v
@@ -131,7 +131,7 @@ leaves-step n s w i b at z q t v g number e c end p =
           (ap (λ (k : ℕ). stepText i k t) r ∙ ap (stepText i (o .reply)) (g .state-is)) p;
       goes-on-is = ap (λ (k : ℕ). eqb k 0) r;
       state-is = g .state-is;
-      window-is = g .window-is;
+      windows-are = g .windows-are;
     }
 
 -- ---- what is left of a script
@@ -140,7 +140,7 @@ module _ (n : ℕ) (s : State) (w : Windows) where
   carried-more : (p : List ℕ) (ps : List (List ℕ)) → 0 < length ps
       → carried n s w (p ∷ ps)
       ≡ turnOf n s w (lineOf p) .text
-      ++ cond (turnOf n s w (lineOf p) .goesOn) (carried (suc n) (turnOf n s w (lineOf p) .state) (turnOf n s w (lineOf p) .window) ps) []
+      ++ cond (turnOf n s w (lineOf p) .goesOn) (carried (suc n) (turnOf n s w (lineOf p) .state) (turnOf n s w (lineOf p) .windows) ps) []
   unfolding carried
   carried-more p [] h = absurd (omega arith)
   carried-more p (q ∷ ps) h = refl
@@ -164,7 +164,7 @@ module _ (n : ℕ) (s : State) (w : Windows) where
       → f ≡ lineOf (take (end - at) (drop at l))
       → carried n s w (pieces (drop at l))
       ≡ turnOf n s w f .text
-      ++ cond (turnOf n s w f .goesOn) (carried (n + 1) (turnOf n s w f .state) (turnOf n s w f .window) (pieces (drop (end + 1) l))) []
+      ++ cond (turnOf n s w f .goesOn) (carried (n + 1) (turnOf n s w f .state) (turnOf n s w f .windows) (pieces (drop (end + 1) l))) []
   carried-line l at end f h e z g =
       let k : lineLength (drop at l) < length (drop at l) = omega (arith, length-drop at l, length-line (drop at l)) in
       let m : end - at ≡ lineLength (drop at l) = omega arith in
@@ -179,11 +179,11 @@ module _ (l b t : List ℕ) (n : ℕ) (s : State) (w : Windows) (c : List ℕ) (
   left : (k : Bool) → going ≡ k
       → carried n s w (pieces (drop at l))
       ≡ turnOf n s w f .text
-      ++ cond k (carried (n + 1) (turnOf n s w f .state) (turnOf n s w f .window) (pieces (drop (end + 1) l))) []
+      ++ cond k (carried (n + 1) (turnOf n s w f .state) (turnOf n s w f .windows) (pieces (drop (end + 1) l))) []
   left k r = rw (← r, q .goes-on-is) (carried-line n s w l at end f h e z g)
 
   pub line-onward : going ≡ true → Leads d m (carried (n + 1) u v (pieces (drop (end + 1) l))) b 0 t
-  line-onward r = rw (q .state-is, q .window-is) (leads-on b 0 t c next _ (turnOf n s w f .text) _ d m p (left true r) (q .text-is))
+  line-onward r = rw (q .state-is, q .windows-are) (leads-on b 0 t c next _ (turnOf n s w f .text) _ d m p (left true r) (q .text-is))
 
   pub line-stop : going ≡ false → Wrote b 0 t d m
   line-stop r = leads-last b 0 t c next _ (turnOf n s w f .text) d m p (left false r ∙ append-nil (turnOf n s w f .text)) (q .text-is)
@@ -200,9 +200,9 @@ module _ (l b c : List ℕ) (r : ℕ) where
   unfolding printed
   prints-long h p = rw (lt-leb (length l) scriptMost h) (p .bytes-are, omega (arith, p .end-is))
 
-  pub prints-carried : length l ≤ scriptMost → (s : State) (w : Windows) → s ≡ start → w ≡ window → Wrote b 0 (carried 1 s w (pieces l)) c r
+  pub prints-carried : length l ≤ scriptMost → (s : State) (w : Windows) → s ≡ start → w ≡ windows → Wrote b 0 (carried 1 s w (pieces l)) c r
       → (c ≡ written b 0 (printed l)) × (r ≡ length (printed l))
   unfolding printed
   prints-carried h s w e f p =
-      let k : carried 1 s w (pieces l) ≡ carried 1 start window (pieces l) = ap (λ (u : State). carried 1 u w (pieces l)) e ∙ ap (λ (v : Windows). carried 1 start v (pieces l)) f in
+      let k : carried 1 s w (pieces l) ≡ carried 1 start windows (pieces l) = ap (λ (u : State). carried 1 u w (pieces l)) e ∙ ap (λ (v : Windows). carried 1 start v (pieces l)) f in
       rw (le-leb (length l) scriptMost h) (p .bytes-are ∙ ap (written b 0) k, omega (arith, p .end-is, ap length k))

@@ -14,7 +14,7 @@ use Rattle.model.specs.Bench.{start}
 use Rattle.script.specs.Codes.{codes}
 use Rattle.script.specs.Text.{glyph, numeral, filled}
 use Rattle.script.specs.Line.{registerLine, specialLine, stepLine, digitOf, digitsAt, isNumber, numberOf, matched, registerForm, specialForm, stepForm, lineOf}
-use Rattle.script.specs.Script.{doneLine, refusedLine, badLine, stepText, badText, turnOf, pieces, carried, window, printed, sample, sampleText, SamplePrinted}
+use Rattle.script.specs.Script.{doneLine, refusedLine, badLine, stepText, badText, turnOf, pieces, carried, windows, printed, sample, sampleText, SamplePrinted}
 
 pub sample-printed : SamplePrinted
 unfolding over indexed within tab octa part written valueOf bytesOf admissible fresh goes withSpecial cleared claimLocal stored setRegister spilled shapeOf ruled offset has octaBytes writeOcta one worst named look looks puts perform conditionOf armOf tell targetOf hole framed slid slide pushedRule pushed pushFrame countOf lastOutput restored unslide popped popTo popRule noFrame misplaced popFrame refusalOf unruledBy judged guarded fromThree refusing planOf stepPlan stepOf start codes glyph numeral filled registerLine specialLine stepLine digitOf digitsAt isNumber numberOf matched registerForm specialForm stepForm lineOf doneLine refusedLine badLine stepText badText turnOf pieces carried window printed sample sampleText

@@ -8,6 +8,8 @@ use lib.Dec.{leb, eqb}
 use lib.ListN.{length, replicate, take}
 use Rattle.model.specs.Registers.{rG, rL, rO, sp, stackStart, setRegister, withSpecial}
 use Rattle.model.specs.Memory.{Windows}
+use Rattle.model.specs.Parts.{lent}
+use Rattle.model.specs.declared.Bases.{Bases}
 use Rattle.model.specs.Plan.{Outcome}
 use Rattle.model.specs.Step.{stepOf}
 use Rattle.model.specs.Bench.{start}
@@ -47,10 +49,10 @@ pub record Turn : Type 0 where
   pub text : List ℕ
   pub goesOn : Bool
   pub state : State
-  pub window : Windows
+  pub windows : Windows
 
 abbrev turn : List ℕ → Bool → State → Windows → Turn
-turn t b s w = record { text = t; goesOn = b; state = s; window = w }
+turn t b s w = record { text = t; goesOn = b; state = s; windows = w }
 
 abbrev stepTurn : Instruction → Outcome State Windows → Turn
 stepTurn i o = turn (stepText i (o .reply) (o .state)) (eqb (o .reply) 0) (o .state) (o .memory)
@@ -79,11 +81,14 @@ carried n s w [] = []
 carried n s w (p ∷ []) = cond (eqb (length p) 0) [] (badText n)
 carried n s w (p ∷ q ∷ ps) =
     turnOf n s w (lineOf p) .text
-    ++ cond (turnOf n s w (lineOf p) .goesOn) (carried (suc n) (turnOf n s w (lineOf p) .state) (turnOf n s w (lineOf p) .window) (q ∷ ps)) []
+    ++ cond (turnOf n s w (lineOf p) .goesOn) (carried (suc n) (turnOf n s w (lineOf p) .state) (turnOf n s w (lineOf p) .windows) (q ∷ ps)) []
 
--- "window base 0x6000000000000000 and 2,048 bytes, all 0"; the start is that of the bench points
-unfoldable pub window : Windows
-window = record { base = stackStart; bytes = replicate 2048 0 }
+-- "window base 0x6000000000000000 and 2,048 bytes, all 0", and 02: "The bench program's A is 2,048 zero bytes at 0"; the start is that of the bench points
+abbrev pub bases : Bases
+bases = record { a = 0; b = stackStart }
+
+unfoldable pub windows : Windows
+windows = lent bases (replicate 2048 0) (replicate 2048 0)
 
 -- "at most 65,536 bytes of script"
 abbrev pub scriptMost : ℕ
@@ -91,7 +96,7 @@ scriptMost = 65536
 
 -- THE text that a script prints
 unfoldable pub printed : List ℕ → List ℕ
-printed l = cond (leb (length l) scriptMost) (carried 1 start window (pieces l)) (badText 0)
+printed l = cond (leb (length l) scriptMost) (carried 1 start windows (pieces l)) (badText 0)
 
 -- a buffer for a script has a byte more than the longest one, so that a longer one is seen to be longer
 abbrev pub inputLength : ℕ

@@ -34,4 +34,4 @@ pub record Leaves (t : Turn) (b : List ℕ) (at : ℕ) (c : List ℕ) (end : ℕ
   pub text-is : Wrote b at (t .text) c end
   pub goes-on-is : goesOn ≡ t .goesOn
   pub state-is : s ≡ t .state
-  pub window-is : w ≡ t .window
+  pub windows-are : w ≡ t .windows

@@ -3,14 +3,15 @@ ghost use mathlib.Core.Path.{_≡_};
 ghost use Prim.Native.Nat.{ℕ, _+_, _≤_, _<_, _^_};
 ghost use lib.ListN.{length, drop};
 ghost use Rattle.model.specs.Octa.{written};
-ghost use Rattle.model.specs.Registers.{withSpecial, stackStart};
+ghost use Rattle.model.specs.Registers.{withSpecial};
 ghost use Rattle.model.specs.Parts.{lent};
-ghost use Rattle.script.specs.Script.{stepText, badText, turnOf, pieces, carried, scriptMost, printed};
+ghost use Rattle.script.specs.Script.{stepText, badText, bases, turnOf, pieces, carried, scriptMost, printed};
 ghost use Rattle.script.specs.Writing.{Wrote, Leaves, lineLength};
 ghost use Rattle.script.specs.declared.line.Form.the-variants.{Step as Form·Step};
 use super::line::Form;
 use super::line::Instruction;
 use super::line::Setting;
+use model::Bases;
 use model::State;
 
 const NEWLINE: u8 = 10;
@@ -24,6 +25,7 @@ pub const INPUT_LEN: usize = SCRIPT_MOST + 1;
 /// A buffer for what any script prints.
 pub const OUTPUT_LEN: usize = 12 * SCRIPT_MOST + 27;
 
+/// How long each of the two windows is.
 const WINDOW_SIZE: usize = 2048;
 
 /// The marks of a state in which every vector is loaded.
@@ -89,12 +91,16 @@ fn put_bad(out: &mut [u8], at: usize, n: u64) -> usize
 }
 
 /// A step is done or refused, and printed; a refused one ends the script.
-fn step(out: &mut [u8], window: &mut [u8], at: usize, state: State, i: Instruction) -> After
+fn step(out: &mut [u8], a: &mut [u8], b: &mut [u8], at: usize, state: State, i: Instruction) -> After
     requires { ⌜ at < 2 ^ 63 ⌝ }
-    ensures { λ r. ⌜ ((n : ℕ) → Leaves (turnOf n state (lent stackStart (now (window .entry))) (Form·Step i))
-        (now (out .entry)) at (now (out .exit)) (r .next) (r .going) (r .state) (lent stackStart (now (window .exit)))) ⌝ }
+    ensures { λ r. ⌜ ((n : ℕ) → Leaves (turnOf n state (lent bases (now (a .entry)) (now (b .entry))) (Form·Step i))
+        (now (out .entry)) at (now (out .exit)) (r .next) (r .going) (r .state) (lent bases (now (a .exit)) (now (b .exit)))) ⌝ }
 {
-    let outcome = instruction::value::step(state, window, State::STACK_START, i.op, i.x, i.y, i.z);
+    let bases = Bases {
+        a: 0,
+        b: State::STACK_START,
+    };
+    let outcome = instruction::value::step(state, a, b, bases, i.op, i.x, i.y, i.z);
     let reply = outcome.reply;
     let after = outcome.state;
     let number = instruction::value::number_of(reply);
@@ -107,10 +113,10 @@ fn step(out: &mut [u8], window: &mut [u8], at: usize, state: State, i: Instructi
 }
 
 /// One line, number n of the script.
-fn turn(out: &mut [u8], window: &mut [u8], at: usize, n: u64, state: State, form: Form) -> After
+fn turn(out: &mut [u8], a: &mut [u8], b: &mut [u8], at: usize, n: u64, state: State, form: Form) -> After
     requires { ⌜ at < 2 ^ 63 ⌝ }
-    ensures { λ r. ⌜ Leaves (turnOf n state (lent stackStart (now (window .entry))) form)
-        (now (out .entry)) at (now (out .exit)) (r .next) (r .going) (r .state) (lent stackStart (now (window .exit))) ⌝ }
+    ensures { λ r. ⌜ Leaves (turnOf n state (lent bases (now (a .entry)) (now (b .entry))) form)
+        (now (out .entry)) at (now (out .exit)) (r .next) (r .going) (r .state) (lent bases (now (a .exit)) (now (b .exit))) ⌝ }
 {
     match form {
         Form::Register(setting) => {
@@ -129,7 +135,7 @@ fn turn(out: &mut [u8], window: &mut [u8], at: usize, n: u64, state: State, form
                 state: left,
             }
         }
-        Form::Step(i) => step(out, window, at, state, i),
+        Form::Step(i) => step(out, a, b, at, state, i),
         Form::Bad => {
             let end = put_bad(out, at, n);
             After {
@@ -157,10 +163,10 @@ fn line_end(script: &[u8], at: usize) -> usize
 }
 
 /// The lines from the first on, until one ends the script.
-fn carry(script: &[u8], out: &mut [u8], window: &mut [u8], first: State) -> usize
+fn carry(script: &[u8], out: &mut [u8], a: &mut [u8], b: &mut [u8], first: State) -> usize
     requires { ⌜ length (now script) ≤ scriptMost ⌝ }
     ensures { λ r. ⌜ Wrote (now (out .entry)) 0
-        (carried 1 first (lent stackStart (now (window .entry))) (pieces (now (script .entry)))) (now (out .exit)) r ⌝ }
+        (carried 1 first (lent bases (now (a .entry)) (now (b .entry))) (pieces (now (script .entry)))) (now (out .exit)) r ⌝ }
 {
     let mut state = first;
     let mut next: usize = 0;
@@ -172,7 +178,7 @@ fn carry(script: &[u8], out: &mut [u8], window: &mut [u8], first: State) -> usiz
             return put_bad(out, next, n);
         }
         let form = super::line::read(&script[at..end]);
-        let after = turn(out, window, next, n, state, form);
+        let after = turn(out, a, b, next, n, state, form);
         next = after.next;
         let left = after.state;
         let going = after.going;
@@ -204,6 +210,7 @@ pub fn run(script: &[u8], out: &mut [u8]) -> usize
         halt: fresh.halt,
         marks: ALL_LOADED,
     };
-    let mut window = [0u8; WINDOW_SIZE];
-    carry(script, out, &mut window, first)
+    let mut a = [0u8; WINDOW_SIZE];
+    let mut b = [0u8; WINDOW_SIZE];
+    carry(script, out, &mut a, &mut b, first)
 }

@@ -5,9 +5,8 @@ use native.Mathlib.Omega.{arith}
 use lib.ListN.{length, drop}
 use borrow.Author.Needs.{needs}
 use borrow.Author.Tests.{not-true, not-false}
-use Rattle.model.specs.Registers.{stackStart}
 use Rattle.model.specs.Parts.{lent}
-use Rattle.script.specs.Script.{pieces, carried}
+use Rattle.script.specs.Script.{bases, pieces, carried}
 use Rattle.script.proofs.Writes.{Leads, leads-whole, leads-last, leads-end}
 use Rattle.script.proofs.Carries.{line-within, carried-end, carried-unended, line-onward, line-stop}
 use Rattle.script.proofs.Bounds.{carried-most}
@@ -15,18 +14,18 @@ use Rattle.script.proofs.script.carry.Statement.{statement}
 use Rattle.script.proofs.script.carry.Tie as tie
 
 abbrev Inv-loop : tie.InvT-loop
-Inv-loop script out₀ window₀ state₀ next₀ at₀ n₀ out window state next at n =
-    (at ≤ length script) × (n ≤ at + 1) × (length out ≡ length out₀) × (length window ≡ length window₀)
-    × Leads out next (carried n state (lent stackStart window) (pieces (drop at script))) out₀ 0 (carried 1 state₀ (lent stackStart window₀) (pieces script))
+Inv-loop script out₀ a₀ b₀ state₀ next₀ at₀ n₀ out a b state next at n =
+    (at ≤ length script) × (n ≤ at + 1) × (length out ≡ length out₀) × (length a ≡ length a₀) × (length b ≡ length b₀)
+    × Leads out next (carried n state (lent bases a b) (pieces (drop at script))) out₀ 0 (carried 1 state₀ (lent bases a₀ b₀) (pieces script))
 
 abbrev μ-loop : tie.MeasureT-loop
-μ-loop script out₀ window₀ state₀ next₀ at₀ n₀ out window state next at n = length script - at
+μ-loop script out₀ a₀ b₀ state₀ next₀ at₀ n₀ out a b state next at n = length script - at
 
 -- what is printed is no longer than the whole
 small : (c : tie.At-loop Inv-loop μ-loop) → c .loop .next < 2 ^ 63
 small c =
     let s = c .before .before .before .before in
-    omega (arith, c .loop .inv .4 .same-end, s .pre, carried-most 1 (s .args .first) (lent stackStart (s .args .window .now)) (s .args .script .now))
+    omega (arith, c .loop .inv .5 .same-end, s .pre, carried-most 1 (s .args .first) (lent bases (s .args .a .now) (s .args .b .now)) (s .args .script .now))
 
 -- a line ends within the script
 within : (c : tie.After-line-end Inv-loop μ-loop)
@@ -58,8 +57,8 @@ returns c =
     let at-loop = ending .before .before in
     let l = at-loop .loop in
     let a = at-loop .before .before .before .before .args in
-    leads-last _ _ _ _ _ _ _ _ _ (l .inv .4)
-    (carried-unended (l .n) (l .state) (lent stackStart (l .window)) (a .script .now) (l .at) (ending .line-end .result)
+    leads-last _ _ _ _ _ _ _ _ _ (l .inv .5)
+    (carried-unended (l .n) (l .state) (lent bases (l .a) (l .b)) (a .script .now) (l .at) (ending .line-end .result)
     (ending .before .loop-test .taken) (ending .line-end .ensures) (here .if1 .taken))
     (printing .put-bad .ensures)
 
@@ -92,9 +91,9 @@ returns-2 c =
     let ending = here .before in
     let l = ending .before .before .loop in
     let a = ending .before .before .before .before .before .before .args in
-    line-stop (a .script .now) _ _ (l .n) (l .state) (lent stackStart (l .window)) (l .out) (l .next) (l .at)
+    line-stop (a .script .now) _ _ (l .n) (l .state) (lent bases (l .a) (l .b)) (l .out) (l .next) (l .at)
     (ending .line-end .result) (reading .read .result) _ _ (turning .turn .result .going) _ _
-    (ending .before .loop-test .taken) (ending .line-end .ensures) (here .if1 .left) (reading .read .ensures) (l .inv .4) (turning .turn .ensures) (not-true _ (c .if2 .taken))
+    (ending .before .loop-test .taken) (ending .line-end .ensures) (here .if1 .left) (reading .read .ensures) (l .inv .5) (turning .turn .ensures) (not-true _ (c .if2 .taken))
 
 add-at : tie.Need-add-at Inv-loop μ-loop
 add-at c =
@@ -123,9 +122,9 @@ loop-again c =
       omega (arith, within ending, l .inv .1),
       turning .turn .kept .0 ∙ l .inv .2,
       turning .turn .kept .1 .0 ∙ l .inv .3,
-      line-onward (a .script .now) _ _ (l .n) (l .state) (lent stackStart (l .window)) (l .out) (l .next) (l .at)
+      line-onward (a .script .now) _ _ (l .n) (l .state) (lent bases (l .a) (l .b)) (l .out) (l .next) (l .at)
           (ending .line-end .result) (reading .read .result) _ _ (turning .turn .result .going) _ _
-          (ending .before .loop-test .taken) (ending .line-end .ensures) (here .if1 .left) (reading .read .ensures) (l .inv .4) (turning .turn .ensures) (not-false _ (c .if2 .left)),
+          (ending .before .loop-test .taken) (ending .line-end .ensures) (here .if1 .left) (reading .read .ensures) (l .inv .5) (turning .turn .ensures) (not-false _ (c .if2 .left)),
     )
 
 same-length-5 : tie.Need-same-length-5 Inv-loop μ-loop
@@ -135,7 +134,7 @@ same-length-6 : tie.Need-same-length-6 Inv-loop μ-loop
 same-length-6 c = c .before .loop .inv .3
 
 returns-3 : tie.Need-returns-3 Inv-loop μ-loop
-returns-3 c = leads-end _ _ _ _ _ _ (c .before .loop .inv .4) (carried-end _ _ _ _ _ (c .loop-test .left))
+returns-3 c = leads-end _ _ _ _ _ _ (c .before .loop .inv .5) (carried-end _ _ _ _ _ (c .loop-test .left))
 
 pub carry-spec : {M : Type 1} → statement M
 carry-spec =

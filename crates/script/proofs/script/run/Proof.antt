@@ -1,7 +1,7 @@
 -- `run` meets its contract: it starts in the start and the window of the definition.
 use mathlib.Core.Path.{refl}
 use borrow.Author.Needs.{needs}
-use Rattle.script.specs.Script.{window}
+use Rattle.script.specs.Script.{windows}
 use Rattle.script.proofs.Carries.{start-is, prints-long, prints-carried}
 use Rattle.script.proofs.script.run.Statement.{statement}
 use Rattle.script.proofs.script.run.Tie as tie
@@ -30,7 +30,7 @@ same-length-2 : tie.Need-same-length-2
 same-length-2 c = search needs
 
 returns-2 : tie.Need-returns-2
-unfolding window
+unfolding windows
 returns-2 c =
     let carrying = c .before .before .before in
     let making = carrying .before .before .before .before .before in

@@ -29,7 +29,7 @@ returns c n =
     let good = start .good .1 .1 .1 .0 in
     let sized : Sized (start .args .state) = record { generals = search needs; specials = search needs } in
     let leaves = leaves-step n _ _ (start .args .i) _ _ sized _ _ _ (stepping .step .ensures) _ (numbering .number-of .ensures) _ _ (printing .put-step .ensures) in
-    record { text-is = leaves .text-is; goes-on-is = leaves .goes-on-is; state-is = leaves .state-is; window-is = leaves .window-is }
+    record { text-is = leaves .text-is; goes-on-is = leaves .goes-on-is; state-is = leaves .state-is; windows-are = leaves .windows-are }
 
 pub step-spec : {M : Type 1} → statement M
 step-spec =
