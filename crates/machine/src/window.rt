@@ -45,7 +45,7 @@ pub fn room(window: &[u8], base: u64, addr: u64) -> u64
 }
 
 /// The octabyte that `addr` names, or 0 where it lies outside the window.
-pub(crate) fn read_octa(window: &[u8], base: u64, addr: u64) -> u64
+pub fn read_octa(window: &[u8], base: u64, addr: u64) -> u64
     ensures { λ r. ⌜ r ≡ readBy one (lentOne base (now (window .entry))) addr ⌝ }
 {
     if room(window, base, addr) == 0 {
@@ -56,7 +56,7 @@ pub(crate) fn read_octa(window: &[u8], base: u64, addr: u64) -> u64
 }
 
 /// The octabyte that `addr` names becomes v; a window that does not hold it is left as it was.
-pub(crate) fn write_octa(window: &mut [u8], base: u64, addr: u64, v: u64)
+pub fn write_octa(window: &mut [u8], base: u64, addr: u64, v: u64)
     ensures { λ _. ⌜ lentOne base (now (window .exit)) ≡ writtenBy one (lentOne base (now (window .entry))) addr v ⌝ }
 {
     if room(window, base, addr) == 0 {

@@ -1,8 +1,8 @@
 -- Laws of octabytes by their number: what the window's read and write are at base 0, what a write changes, one more octabyte on a line
 -- and in a sum; and that a call is the one that is given.
 use mathlib.Core.Path.{_≡_, refl, sym, ap, _∙_}
-use mathlib.Core.Bool.{Bool, true, cond}
-use mathlib.Core.List.{List}
+use mathlib.Core.Bool.{true}
+use mathlib.Core.List.{List, [], _∷_}
 use Prim.Native.Nat.{ℕ, _+_, _-_, _*_, _%_, _^_, _≤_, _<_}
 use native.Mathlib.Numerals.{add-one}
 use native.Mathlib.Nat.{mod-add-mod, add-mul}
@@ -11,12 +11,11 @@ use native.Mathlib.Omega.{arith}
 use borrow.Author.Tests.{le-leb}
 use lib.ListN.{length}
 use Rattle.model.specs.Octa.{octa, part, written, valueOf, bytesOf}
-use Rattle.model.specs.Memory.{Windows, shapesOf, shapeOf, offset, inside, has, putOcta, writeOcta, both}
-use Rattle.model.specs.Plan.{look}
+use Rattle.model.specs.Memory.{Window, shapeOf, offset, has, writeOcta, one}
 use Rattle.model.specs.Parts.{lent}
 use Rattle.model.proofs.Octa.{length-written, part-cong, part-written, written-below, written-above, value-bytes}
-use Rattle.machine.specs.Octas.{readOcta, writtenOcta}
-use Rattle.machine.proofs.Octas.{look-is}
+use Rattle.machine.specs.Octas.{readBy, writtenBy, lentOne}
+use Rattle.machine.proofs.Octas.{inside-read, inside-written, look-is}
 use Rattle.model.proofs.Bytes.{eight}
 use Rattle.mmix.specs.Entries.{Stepped, Raised}
 use Rattle.replay.specs.Format.{octabyteOf, byteOf, Called, onLine, Filled, Lined, plainSum, runningSum}
@@ -28,24 +27,23 @@ module _ (l : List ℕ) (i : ℕ) (fits : 8 * i + 8 ≤ length l) (small : 8 * i
   unfolding offset octa
   at-offset = omega arith
 
-  octa-there : inside (shapesOf (lent 0 l)) (8 * i) ≡ true
+  octa-there : has (shapeOf (lentOne 0 l)) (8 * i) ≡ true
   unfolding has shapeOf
   octa-there =
       let h : offset 0 (8 * i) + 8 ≤ length l = omega (arith, at-offset) in
       le-leb _ _ h
 
-  pub read-octabyte : readOcta (lent 0 l) (8 * i) ≡ octabyteOf l i
-  unfolding readOcta octabyteOf
+  pub read-octabyte : readBy one (lentOne 0 l) (8 * i) ≡ octabyteOf l i
+  unfolding octabyteOf
   read-octabyte =
-      ap (λ (t : Bool). cond t (look both (lent 0 l) (8 * i)) 0) octa-there
-      ∙ look-is (lent 0 l) (8 * i)
+      inside-read one (lentOne 0 l) (8 * i) (unfold one in octa-there)
+      ∙ look-is (lentOne 0 l) (8 * i)
       ∙ ap (λ (n : ℕ). valueOf 0 (part l n 8)) at-offset
 
-  pub write-octabyte : (m : List ℕ) (v : ℕ) → lent 0 m ≡ writtenOcta (lent 0 l) (8 * i) v → m ≡ written l (8 * i) (bytesOf v)
-  unfolding writtenOcta writeOcta
+  pub write-octabyte : (m : List ℕ) (v : ℕ) → lentOne 0 m ≡ writtenBy one (lentOne 0 l) (8 * i) v → m ≡ written l (8 * i) (bytesOf v)
   write-octabyte m v e =
-      ap (λ (w : Windows). w .bytes) (e ∙ ap (λ (t : Bool). cond t (putOcta (lent 0 l) (8 * i) v) (lent 0 l)) octa-there)
-      ∙ ap (λ (n : ℕ). written l n (bytesOf v)) at-offset
+      let put : lentOne 0 m ≡ writeOcta (lentOne 0 l) (8 * i) v = e ∙ inside-written one (lentOne 0 l) (8 * i) v (unfold one in octa-there) ∙ (unfold one in refl) in
+      ap (λ (w : Window). w .bytes) put ∙ (unfold writeOcta in (ap (λ (n : ℕ). written l n (bytesOf v)) at-offset))
 
 -- ---- a write
 
@@ -120,9 +118,15 @@ running-next l n = rw add-one
 
 -- ---- the call
 
+empty : (l : List ℕ) → length l ≡ 0 → l ≡ []
+empty [] e = refl
+empty (x ∷ l) e = absurd (omega arith)
+
 module _ (given image window image' window' : List ℕ) (r : ℕ) where
-  pub called-step : (base : ℕ) → byteOf given 0 ≡ 0 → base ≡ octabyteOf given 3 → Stepped image (lent base window) (byteOf given 2) (byteOf given 3) (byteOf given 4) (byteOf given 5) r image' (lent base window') → Called given image window r image' window'
-  called-step base k e s = record { step = λ h. rw e at s; exception = λ f. absurd (f k) }
+  pub called-step : (base : ℕ) (none none' : List ℕ) → length none ≡ 0 → length none' ≡ 0 → byteOf given 0 ≡ 0 → base ≡ octabyteOf given 3
+      → Stepped image (lent (record { a = 0; b = base }) none window) (byteOf given 2) (byteOf given 3) (byteOf given 4) (byteOf given 5) r image' (lent (record { a = 0; b = base }) none' window')
+      → Called given image window r image' window'
+  called-step base none none' n n' k e s = record { step = λ h. rw (e, empty none n, empty none' n') at s; exception = λ f. absurd (f k) }
 
   pub called-exception : (u v : ℕ) → (byteOf given 0 ≡ 0 → ⊥) → u ≡ octabyteOf given 1 → v ≡ octabyteOf given 2 → Raised image (byteOf given 1) (byteOf given 2) (byteOf given 3) (byteOf given 4) (byteOf given 5) u v r image' → window' ≡ window → Called given image window r image' window'
   called-exception u v k d e s w = record { step = λ h. absurd (k h); exception = λ f. (rw (d, e) at s, w) }

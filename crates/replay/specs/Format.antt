@@ -129,9 +129,13 @@ pub record Summed (l : List ℕ) (plain running : ℕ) : Type 0 where
 
 -- ---- the call, and what is told of it
 
+-- the window as B, and A empty
+abbrev pub stackAt : ℕ → List ℕ → Windows
+stackAt base window = lent (record { a = 0; b = base }) [] window
+
 -- the call that is given: a step where its first byte is 0, else an exception, as the library's contracts have them
 pub record Called (given image window : List ℕ) (reply : ℕ) (image' window' : List ℕ) : Type 0 where
-  pub step : byteOf given 0 ≡ 0 → Stepped image (lent (octabyteOf given 3) window) (byteOf given 2) (byteOf given 3) (byteOf given 4) (byteOf given 5) reply image' (lent (octabyteOf given 3) window')
+  pub step : byteOf given 0 ≡ 0 → Stepped image (stackAt (octabyteOf given 3) window) (byteOf given 2) (byteOf given 3) (byteOf given 4) (byteOf given 5) reply image' (stackAt (octabyteOf given 3) window')
   pub exception : (byteOf given 0 ≡ 0 → ⊥) → Raised image (byteOf given 1) (byteOf given 2) (byteOf given 3) (byteOf given 4) (byteOf given 5) (octabyteOf given 1) (octabyteOf given 2) reply image' × (window' ≡ window)
 
 -- what a call leaves is what is told: PC, halt code, rG, rL and rO stand in the state's image

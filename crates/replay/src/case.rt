@@ -182,7 +182,7 @@ fn build(given: &[u8], image: &mut [u8], window: &mut [u8], rl: usize, rg: usize
     set_places(given, &mut *image, &mut *window);
 }
 
-// Makes the call, by the library's functions for C, and answers its reply's number.
+// Makes the call, by the library's functions for C, and answers its reply's number. The window is lent as B, and A is empty.
 fn call(given: &[u8], image: &mut [u8], window: &mut [u8]) -> u64
     requires { ⌜ HasGiven (now given) ⌝ }
     ensures { λ r. ⌜ Called (now (given .entry)) (now (image .entry)) (now (window .entry)) r (now (image .exit)) (now (window .exit)) ⌝ }
@@ -195,7 +195,9 @@ fn call(given: &[u8], image: &mut [u8], window: &mut [u8]) -> u64
     let z = given[5];
     if kind == 0 {
         let base = octabyte(given, BASE);
-        return mmix::mmix_step(base, op, x, y, z, &mut *image, &mut *window);
+        let mut space = [0u8; 8];
+        let none = &mut space[..0];
+        return mmix::mmix_step(0, base, op, x, y, z, &mut *image, &mut *none, &mut *window);
     }
     let y_val = octabyte(given, Y_VAL);
     let z_val = octabyte(given, Z_VAL);

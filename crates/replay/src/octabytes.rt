@@ -11,7 +11,7 @@ pub(crate) fn octabyte(bytes: &[u8], i: usize) -> u64
     requires { ⌜ 8 * i + 8 ≤ length (now bytes) ⌝ }
     ensures { λ r. ⌜ r ≡ octabyteOf (now (bytes .entry)) i ⌝ }
 {
-    machine::memory::read_octa(bytes, 0, 8 * (i as u64))
+    machine::window::read_octa(bytes, 0, 8 * (i as u64))
 }
 
 /// Octabyte i becomes v.
@@ -19,7 +19,7 @@ pub(crate) fn set_octabyte(bytes: &mut [u8], i: usize, v: u64)
     requires { ⌜ 8 * i + 8 ≤ length (now bytes) ⌝ }
     ensures { λ _. ⌜ now (bytes .exit) ≡ written (now (bytes .entry)) (8 * i) (bytesOf v) ⌝ }
 {
-    machine::memory::write_octa(bytes, 0, 8 * (i as u64), v);
+    machine::window::write_octa(bytes, 0, 8 * (i as u64), v);
 }
 
 /// Octabytes `first` to `end` - 1 become from, from + by, from + 2 × by and so on.
