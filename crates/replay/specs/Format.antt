@@ -3,12 +3,13 @@
 use Prim.Native.Nat.{ℕ, zero, suc, _+_, _-_, _*_, _/_, _%_, _^_, _≤_, _<_}
 use mathlib.Core.Path.{_≡_}
 use mathlib.Core.Bool.{cond}
-use mathlib.Core.List.{List}
+use mathlib.Core.List.{List, []}
 use lib.Dec.{ltb, eqb}
 use lib.ListN.{length, getD, take, drop}
 use Rattle.model.specs.Fill.{within}
 use Rattle.model.specs.Octa.{part, written, valueOf, bytesOf}
 use Rattle.model.specs.Registers.{rO, rS, rG, rL, rA}
+use Rattle.model.specs.Memory.{Windows}
 use Rattle.model.specs.Parts.{lent}
 use Rattle.mmix.specs.Image.{imageLength}
 use Rattle.mmix.specs.Entries.{Stepped, Raised}
