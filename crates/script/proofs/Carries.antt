@@ -131,7 +131,7 @@ leaves-step n s w i b at z q t v g number e c end p =
           (ap (λ (k : ℕ). stepText i k t) r ∙ ap (stepText i (o .reply)) (g .state-is)) p;
       goes-on-is = ap (λ (k : ℕ). eqb k 0) r;
       state-is = g .state-is;
-      windows-are = g .windows-are;
+      windows-are = g .window-is;
     }
 
 -- ---- what is left of a script

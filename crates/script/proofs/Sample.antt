@@ -3,7 +3,7 @@ use mathlib.Core.Path.{refl}
 use Rattle.model.specs.Fill.{over, indexed, within, tab}
 use Rattle.model.specs.Octa.{octa, part, written, valueOf, bytesOf}
 use Rattle.model.specs.Registers.{admissible, fresh, goes, withSpecial, cleared, claimLocal, stored, setRegister, spilled}
-use Rattle.model.specs.Memory.{shapeOf, ruled, offset, has, octaBytes, writeOcta, one}
+use Rattle.model.specs.Memory.{shapeOf, ruledOne, offset, has, octaBytes, writeOcta, shapesOf, inside, octaAt, putOcta, both, ruled, shares}
 use Rattle.model.specs.Plan.{worst, named, look, looks, puts, perform}
 use Rattle.model.specs.Opcodes.{conditionOf, armOf}
 use Rattle.model.specs.NoMemory.{tell}
@@ -17,5 +17,5 @@ use Rattle.script.specs.Line.{registerLine, specialLine, stepLine, digit
 use Rattle.script.specs.Script.{doneLine, refusedLine, badLine, stepText, badText, turnOf, pieces, carried, windows, printed, sample, sampleText, SamplePrinted}
 
 pub sample-printed : SamplePrinted
-unfolding over indexed within tab octa part written valueOf bytesOf admissible fresh goes withSpecial cleared claimLocal stored setRegister spilled shapeOf ruled offset has octaBytes writeOcta one worst named look looks puts perform conditionOf armOf tell targetOf hole framed slid slide pushedRule pushed pushFrame countOf lastOutput restored unslide popped popTo popRule noFrame misplaced popFrame refusalOf unruledBy judged guarded fromThree refusing planOf stepPlan stepOf start codes glyph numeral filled registerLine specialLine stepLine digitOf digitsAt isNumber numberOf matched registerForm specialForm stepForm lineOf doneLine refusedLine badLine stepText badText turnOf pieces carried window printed sample sampleText
+unfolding over indexed within tab octa part written valueOf bytesOf admissible fresh goes withSpecial cleared claimLocal stored setRegister spilled shapeOf ruledOne offset has octaBytes writeOcta shapesOf inside octaAt putOcta both ruled shares worst named look looks puts perform conditionOf armOf tell targetOf hole framed slid slide pushedRule pushed pushFrame countOf lastOutput restored unslide popped popTo popRule noFrame misplaced popFrame refusalOf unruledBy judged guarded fromThree refusing planOf stepPlan stepOf start codes glyph numeral filled registerLine specialLine stepLine digitOf digitsAt isNumber numberOf matched registerForm specialForm stepForm lineOf doneLine refusedLine badLine stepText badText turnOf pieces carried windows printed sample sampleText
 sample-printed = refl

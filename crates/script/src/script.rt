@@ -91,7 +91,14 @@ fn put_bad(out: &mut [u8], at: usize, n: u64) -> usize
 }
 
 /// A step is done or refused, and printed; a refused one ends the script.
-fn step(out: &mut [u8], a: &mut [u8], b: &mut [u8], at: usize, state: State, i: Instruction) -> After
+fn step(
+    out: &mut [u8],
+    a: &mut [u8],
+    b: &mut [u8],
+    at: usize,
+    state: State,
+    i: Instruction,
+) -> After
     requires { ⌜ at < 2 ^ 63 ⌝ }
     ensures { λ r. ⌜ ((n : ℕ) → Leaves (turnOf n state (lent bases (now (a .entry)) (now (b .entry))) (Form·Step i))
         (now (out .entry)) at (now (out .exit)) (r .next) (r .going) (r .state) (lent bases (now (a .exit)) (now (b .exit)))) ⌝ }
@@ -113,7 +120,15 @@ fn step(out: &mut [u8], a: &mut [u8], b: &mut [u8], at: usize, state: State, i: 
 }
 
 /// One line, number n of the script.
-fn turn(out: &mut [u8], a: &mut [u8], b: &mut [u8], at: usize, n: u64, state: State, form: Form) -> After
+fn turn(
+    out: &mut [u8],
+    a: &mut [u8],
+    b: &mut [u8],
+    at: usize,
+    n: u64,
+    state: State,
+    form: Form,
+) -> After
     requires { ⌜ at < 2 ^ 63 ⌝ }
     ensures { λ r. ⌜ Leaves (turnOf n state (lent bases (now (a .entry)) (now (b .entry))) form)
         (now (out .entry)) at (now (out .exit)) (r .next) (r .going) (r .state) (lent bases (now (a .exit)) (now (b .exit))) ⌝ }

@@ -1,4 +1,4 @@
--- `run` meets its contract: it starts in the start and the window of the definition.
+-- `run` meets its contract: it starts in the start and the windows of the definition.
 use mathlib.Core.Path.{refl}
 use borrow.Author.Needs.{needs}
 use Rattle.script.specs.Script.{windows}
@@ -23,6 +23,9 @@ initialize-requires c κs = search needs
 slice-aggregate-carry : tie.Need-slice-aggregate-carry
 slice-aggregate-carry c = search needs
 
+slice-aggregate-carry-2 : tie.Need-slice-aggregate-carry-2
+slice-aggregate-carry-2 c = search needs
+
 carry-requires : tie.Need-carry-requires
 carry-requires c κs = search needs
 
@@ -32,8 +35,8 @@ same-length-2 c = search needs
 returns-2 : tie.Need-returns-2
 unfolding windows
 returns-2 c =
-    let carrying = c .before .before .before in
-    let making = carrying .before .before .before .before .before in
+    let carrying = c .before .before .before .before in
+    let making = carrying .before .before .before .before .before .before in
     let here = making .before in
     prints-carried (here .before .before .before .args .script .now) _ _ _ (here .if1 .left) _ _ (start-is (making .initialize .result) (making .initialize .ensures)) refl (carrying .carry .ensures)
 
@@ -46,6 +49,7 @@ run-spec =
     returns
     initialize-requires
     slice-aggregate-carry
+    slice-aggregate-carry-2
     carry-requires
     same-length-2
     returns-2)

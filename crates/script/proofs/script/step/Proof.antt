@@ -20,13 +20,16 @@ same-length c = search needs
 same-length-2 : tie.Need-same-length-2
 same-length-2 c = search needs
 
+same-length-3 : tie.Need-same-length-3
+same-length-3 c = search needs
+
 returns : tie.Need-returns
 returns c n =
     let printing = c .before .before in
     let numbering = printing .before .before in
-    let stepping = numbering .before .before .before .before in
-    let start = stepping .before .before .before .before in
-    let good = start .good .1 .1 .1 .0 in
+    let stepping = numbering .before .before .before .before .before .before in
+    let start = stepping .before .before .before .before .before .before in
+    let good = start .good .1 .1 .1 .1 .0 in
     let sized : Sized (start .args .state) = record { generals = search needs; specials = search needs } in
     let leaves = leaves-step n _ _ (start .args .i) _ _ sized _ _ _ (stepping .step .ensures) _ (numbering .number-of .ensures) _ _ (printing .put-step .ensures) in
     record { text-is = leaves .text-is; goes-on-is = leaves .goes-on-is; state-is = leaves .state-is; windows-are = leaves .windows-are }
@@ -34,4 +37,4 @@ returns c n =
 pub step-spec : {M : Type 1} → statement M
 step-spec =
     tie.close
-    (tie.spec step-requires number-of-requires put-step-requires same-length same-length-2 returns)
+    (tie.spec step-requires number-of-requires put-step-requires same-length same-length-2 same-length-3 returns)

@@ -44,14 +44,17 @@ same-length c = search needs
 same-length-2 : tie.Need-same-length-2
 same-length-2 c = search needs
 
-returns-3 : tie.Need-returns-3
-returns-3 c =
-    let stepping = c .before .before .before .before in
-    let told = stepping .before .before .before .before in
-    leaves-same _ _ _ _ _ _ _ (told .form3 .given .1) _ _ _ _ _ (stepping .step .ensures _)
-
 same-length-3 : tie.Need-same-length-3
 same-length-3 c = search needs
+
+returns-3 : tie.Need-returns-3
+returns-3 c =
+    let stepping = c .before .before .before .before .before .before in
+    let told = stepping .before .before .before .before .before in
+    leaves-same _ _ _ _ _ _ _ (told .form3 .given .1) _ _ _ _ _ (stepping .step .ensures _)
+
+same-length-4 : tie.Need-same-length-4
+same-length-4 c = search needs
 
 returns-4 : tie.Need-returns-4
 returns-4 c =
@@ -74,6 +77,7 @@ turn-spec =
     returns-2
     same-length
     same-length-2
-    returns-3
     same-length-3
+    returns-3
+    same-length-4
     returns-4)
