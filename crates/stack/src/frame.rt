@@ -1,7 +1,7 @@
 // Frames in place: PUSH and POP.
 ghost use mathlib.Core.Path.{_≡_};
 ghost use mathlib.Core.List.{List};
-ghost use Prim.Native.Nat.{ℕ, _+_, _-_, _≤_, _<_, min};
+ghost use Prim.Native.Nat.{ℕ, _+_, _≤_, min};
 ghost use lib.ListN.{getD};
 ghost use Rattle.model.specs.Fill.{tab};
 ghost use Rattle.model.specs.Memory.{shapesOf, both};
