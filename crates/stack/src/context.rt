@@ -48,7 +48,8 @@ fn store_specials(special: &[u64; 32], a: &mut [u8], b: &mut [u8], at: Bases, ad
 /// The context, stored from rO up.
 fn store_context(general: &[u64; 256], special: &[u64; 32], a: &mut [u8], b: &mut [u8], at: Bases)
     requires { ⌜ Ranged (now special) ⌝ }
-    ensures { λ _. ⌜ StoresContext (now (general .entry)) (now (special .entry)) (lent at (now (a .entry)) (now (b .entry))) (lent at (now (a .exit)) (now (b .exit))) ⌝ }
+    ensures { λ _. ⌜ StoresContext (now (general .entry)) (now (special .entry))
+        (lent at (now (a .entry)) (now (b .entry))) (lent at (now (a .exit)) (now (b .exit))) ⌝ }
 {
     let ro = special[State::RO];
     let rl = special[State::RL];
@@ -75,7 +76,8 @@ fn put_away(
     x: u8,
 )
     requires { ⌜ Ranged (now special) ⌝ }
-    ensures { λ _. ⌜ StoresContext (now (general .entry)) (now (special .entry)) (lent at (now (a .entry)) (now (b .entry))) (lent at (now (a .exit)) (now (b .exit)))
+    ensures { λ _. ⌜ StoresContext (now (general .entry)) (now (special .entry))
+        (lent at (now (a .entry)) (now (b .entry))) (lent at (now (a .exit)) (now (b .exit)))
         × (now (general .exit) ≡ leftGeneral (now (general .entry)) (now (special .entry)) x) ⌝ }
 {
     let ro = special[State::RO];
