@@ -83,12 +83,12 @@ module _ (w : Windows) (u : unruledBy (shapesOf w) ≡ 0) where
         across-two (shapesOf w) a n room h
         (λ q. true≢false (sym (holder-has w k (a + 8 * room) l (q ∙ e)) ∙ room-ends (shapeOf (windowOf w k)) a short some-room))
 
-    pub part-held : partIn k (windowOf w k) a n ≡ heldPart w a n
+    part-held : partIn k (windowOf w k) a n ≡ heldPart w a n
     unfolding partIn heldPart partAt
     part-held = ⊎-elim (λ lt. rw (lt-ltb room n lt, broken lt)) (λ le. rw (le-ltb room n le, whole le, e)) (lt-or-le room n)
 
     -- a part ends in its window
-    pub part-ends : 0 < n → across (shapesOf w) a n ≡ false → offset (windowOf w k .base) a + 8 * n ≤ length (windowOf w k .bytes)
+    part-ends : 0 < n → across (shapesOf w) a n ≡ false → offset (windowOf w k .base) a + 8 * n ≤ length (windowOf w k .bytes)
     unfolding shapeOf
     part-ends s f =
         ⊎-elim (λ lt. absurd (true≢false (sym (broken lt) ∙ f))) (λ le. run-end (shapeOf (windowOf w k)) a short n s le) (lt-or-le room n)
