@@ -26,6 +26,12 @@ shared-slice-read-z c = search needs
 octabyte-requires : tie.Need-octabyte-requires
 octabyte-requires c κs = search needs
 
+array-borrow-prefix-space : tie.Need-array-borrow-prefix-space
+array-borrow-prefix-space c = search needs
+
+slice-aggregate-none : tie.Need-slice-aggregate-none
+slice-aggregate-none c = search needs
+
 mmix-step-requires : tie.Need-mmix-step-requires
 mmix-step-requires c κs = search needs
 
@@ -37,9 +43,9 @@ same-length-2 c = search needs
 
 returns : tie.Need-returns
 returns c =
-    let stepped = c .before .before .before .before in
-    let read = stepped .before .before .before in
-    called-step _ _ _ _ _ _ _ (read .before .if1 .taken) (read .octabyte .ensures) (stepped .mmix-step .ensures)
+    let stepped = c .before .before .before .before .before in
+    let read = stepped .before .before .before .before in
+    called-step _ _ _ _ _ _ _ _ _ refl (stepped .mmix-step .kept .1 .1 .1 .1 .1 .1 .1 .0) (read .before .if1 .taken) (read .octabyte .ensures) (stepped .mmix-step .ensures)
 
 octabyte-requires-2 : tie.Need-octabyte-requires-2
 octabyte-requires-2 c κs = search needs
@@ -70,6 +76,8 @@ call-spec =
     shared-slice-read-y
     shared-slice-read-z
     octabyte-requires
+    array-borrow-prefix-space
+    slice-aggregate-none
     mmix-step-requires
     same-length
     same-length-2
