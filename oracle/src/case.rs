@@ -1,12 +1,13 @@
 //! One call with everything it is given, and its text of one line.
 //!
 //! The line is the call's name and then fields `name=value` in hexadecimal: op x y z, flags yv zv (exceptions),
-//! address (context), from to (branch_field, jump_field), base, len (of the window), image (length of the image), pc, halt, marks, partly,
-//! g and s (registers that are not zero, `number:value`), w (octabytes of the window that are not zero,
-//! `offset:bytes`). What is left out is zero; `image` left out is 2,328 bytes.
+//! address (context), from to (branch_field, jump_field), base, len (of window B), image (length of the image), pc, halt, marks, partly,
+//! g and s (registers that are not zero, `number:value`), w (octabytes of window B that are not zero,
+//! `offset:bytes`), and abase, alen, aw of window A. What is left out is zero; `image` left out is 2,328 bytes.
 
 use std::fmt::{self, Display, Write};
 
+use crate::lent::{Window, Windows};
 use crate::state::{IMAGE_LEN, State};
 
 #[derive(Clone, Copy, PartialEq, Eq, Debug)]
@@ -50,13 +51,22 @@ pub struct Case {
     pub image_len: usize,
     /// Bit 4k + j: byte j of the vector at 16 × k was loaded though bit k of the marks is not set.
     pub partly: u64,
-    pub base: u64,
-    pub window: Vec<u8>,
+    pub windows: Windows,
 }
 
 impl Case {
-    pub fn new(call: Call, state: State, base: u64, window: Vec<u8>) -> Self {
-        Self { call, state, image_len: IMAGE_LEN, partly: 0, base, window }
+    pub fn new(call: Call, state: State, windows: Windows) -> Self {
+        Self { call, state, image_len: IMAGE_LEN, partly: 0, windows }
+    }
+
+    /// A call with one window, lent as B.
+    pub fn one(call: Call, state: State, base: u64, window: Vec<u8>) -> Self {
+        Self::new(call, state, Windows::one(base, window))
+    }
+
+    /// A call with no window at all.
+    pub fn none(call: Call, state: State) -> Self {
+        Self::new(call, state, Windows::default())
     }
 
     /// The image as lent: cut or lengthened where its length is wrong.
@@ -110,8 +120,11 @@ impl Display for Case {
                 field(&mut line, "to", *to);
             }
         }
-        field(&mut line, "base", self.base);
-        field(&mut line, "len", self.window.len() as u64);
+        let Windows { a, b } = &self.windows;
+        for (window, [base, len]) in [(b, ["base", "len"]), (a, ["abase", "alen"])] {
+            field(&mut line, base, window.base);
+            field(&mut line, len, window.size());
+        }
         if self.image_len != IMAGE_LEN {
             write!(line, " image={:x}", self.image_len)?;
         }
@@ -126,25 +139,31 @@ impl Display for Case {
                 write!(line, " {name}={}", set.join(","))?;
             }
         }
-        let set: Vec<String> = (self.window.chunks(8).enumerate())
-            .filter(|(_, bytes)| bytes.iter().any(|b| *b != 0))
-            .map(|(k, bytes)| {
-                let digits: String = bytes.iter().map(|b| format!("{b:02x}")).collect();
-                format!("{:x}:{digits}", 8 * k)
-            })
-            .collect();
-        if !set.is_empty() {
-            write!(line, " w={}", set.join(","))?;
+        for (window, name) in [(b, "w"), (a, "aw")] {
+            let set = octabytes(window);
+            if !set.is_empty() {
+                write!(line, " {name}={}", set.join(","))?;
+            }
         }
         f.write_str(&line)
     }
+}
+
+/// The octabytes of a window that are not zero.
+fn octabytes(window: &Window) -> Vec<String> {
+    let set = window.bytes.chunks(8).enumerate().filter(|(_, bytes)| bytes.iter().any(|b| *b != 0));
+    set.map(|(k, bytes)| {
+        let digits: String = bytes.iter().map(|b| format!("{b:02x}")).collect();
+        format!("{:x}:{digits}", 8 * k)
+    })
+    .collect()
 }
 
 /// Read a line back.
 pub fn parse(line: &str) -> Result<Case, String> {
     let mut words = line.split_whitespace();
     let name = words.next().ok_or("an empty line")?;
-    let mut case = Case::new(Call::Initialize, State::zero(), 0, Vec::new());
+    let mut case = Case::none(Call::Initialize, State::zero());
     let mut i = Instruction { op: 0, x: 0, y: 0, z: 0 };
     let (mut flags, mut y_val, mut z_val, mut address, mut from, mut to) = (0, 0, 0, 0, 0, 0);
     for word in words {
@@ -161,8 +180,10 @@ pub fn parse(line: &str) -> Result<Case, String> {
             "address" => address = value()?,
             "from" => from = value()?,
             "to" => to = value()?,
-            "base" => case.base = value()?,
-            "len" => case.window.resize(value()? as usize, 0),
+            "base" => case.windows.b.base = value()?,
+            "len" => case.windows.b.bytes.resize(value()? as usize, 0),
+            "abase" => case.windows.a.base = value()?,
+            "alen" => case.windows.a.bytes.resize(value()? as usize, 0),
             "image" => case.image_len = value()? as usize,
             "pc" => case.state.pc = value()?,
             "halt" => case.state.halt = value()?,
@@ -170,7 +191,8 @@ pub fn parse(line: &str) -> Result<Case, String> {
             "partly" => case.partly = value()?,
             "g" => registers(text, &mut case.state.general)?,
             "s" => registers(text, &mut case.state.special)?,
-            "w" => bytes(text, &mut case.window)?,
+            "w" => bytes(text, &mut case.windows.b.bytes)?,
+            "aw" => bytes(text, &mut case.windows.a.bytes)?,
             _ => return Err(format!("no such field: {word}")),
         }
     }
@@ -205,7 +227,7 @@ fn registers(text: &str, into: &mut [u64]) -> Result<(), String> {
     Ok(())
 }
 
-/// The field `len` stands before this one.
+/// The field `len` or `alen` stands before this one.
 fn bytes(text: &str, into: &mut [u8]) -> Result<(), String> {
     for pair in pairs(text) {
         let (at, digits) = pair?;

@@ -1,4 +1,4 @@
-//! Chains: steps and exceptions one after the other on one window, each from what the one before left.
+//! Chains: steps and exceptions one after the other on the same windows, each from what the one before left.
 
 use std::sync::LazyLock;
 
@@ -51,15 +51,16 @@ pub fn chain(random: &mut Random, run: &mut dyn FnMut(&Case) -> Option<Answer>) 
     state.special[RO] = base.wrapping_add(8 * random.below(octabytes / 2));
     state.special[RS] = state.special[RO];
     point(random, &mut state);
-    let mut case = Case::new(Call::Initialize, state, base, vec![0; 8 * octabytes as usize]);
-    windows::fill(random, &mut case.window);
+    let mut case = Case::one(Call::Initialize, state, base, vec![0; 8 * octabytes as usize]);
+    windows::fill(random, &mut case.windows.b.bytes);
+    windows::two(random, &mut case);
     case.partly = states::partly(random);
     let mut parked = 255;
     for _ in 0..CHAIN {
         case.call = link(random, &case.state, &mut parked);
         let answer = run(&case)?;
         case.state = answer.state;
-        case.window = answer.window;
+        case.windows = answer.windows;
     }
     Some(())
 }

@@ -1,11 +1,12 @@
 //! One case on all sides. Every entry of a subject that takes the case must give the Rust's reply, state and
-//! window to the last byte; the octabytes that the Rust touches must be the needs, which the model tells. At an added opcode
+//! both windows to the last byte; the octabytes that the Rust touches must be the needs, which the model tells. At an added opcode
 //! the model stands in for the Rust (`reference`).
 
 use crate::case::{Call, Case, Instruction, Kind};
 use crate::compared;
 use crate::fields;
 use crate::guards::WROTE_OUTSIDE;
+use crate::lent::Windows;
 use crate::reference::{Answer, Reference};
 use crate::state::{IMAGE_LEN, State};
 use crate::subject::{Aim, Found, Subject};
@@ -70,17 +71,18 @@ fn codec(subject: &dyn Subject, case: &Case) -> Result<(), String> {
     Err(format!("mmix_encode: reply {reply}, another image"))
 }
 
-/// Both numbers must be written: the part is empty where the reader refuses.
+/// All three numbers must be written: the part is an empty one of A where the reader refuses.
 fn context(subject: &dyn Subject, case: &Case, answer: &Answer) -> Result<(), String> {
     let Call::Context { address } = case.call else { unreachable!() };
-    let (mut start, mut length) = (usize::MAX, usize::MAX);
-    let found = Found { start: &mut start, length: &mut length };
-    let reply = subject.context(case.base, address, &case.window, found);
+    let (mut which, mut start, mut length) = (u64::MAX, usize::MAX, usize::MAX);
+    let found = Found { which: &mut which, start: &mut start, length: &mut length };
+    let reply = subject.context(address, case.windows.show(), found);
     same_reply("mmix_context", answer.reply, reply)?;
-    if (start, length) == (answer.part.start, answer.part.len()) {
+    let (expected, found) = ((answer.which, answer.part.start, answer.part.len()), (which, start, length));
+    if expected == found {
         return Ok(());
     }
-    Err(format!("mmix_context: reply {reply}, part {:?} against {length} from {start}", answer.part))
+    Err(format!("mmix_context: reply {reply}, window, start and length {expected:?} against {found:?}"))
 }
 
 /// Both outputs must be written; an instruction that has the field found goes there.
@@ -96,9 +98,9 @@ fn field(subject: &dyn Subject, case: &Case, answer: &Answer) -> Result<(), Stri
     if reply != 0 {
         return Ok(());
     }
-    let Case { call, mut state, base, mut window, .. } = fields::patched(kind, backward == 1, field, from);
+    let Case { call, mut state, mut windows, .. } = fields::patched(kind, backward == 1, field, from);
     let Call::Step(i) = call else { unreachable!() };
-    let reply = subject.step_lent(base, i, &mut state, &mut window);
+    let reply = subject.step_lent(i, &mut state, windows.lend());
     if (reply, state.pc) == (0, to) {
         return Ok(());
     }
@@ -106,23 +108,23 @@ fn field(subject: &dyn Subject, case: &Case, answer: &Answer) -> Result<(), Stri
 }
 
 fn step(subject: &dyn Subject, case: &Case, i: Instruction, answer: &Answer) -> Result<(), String> {
-    let (mut image, mut window) = (case.image(), case.window.clone());
-    let reply = subject.step(case.base, i, &mut image, &mut window);
+    let (mut image, mut windows) = (case.image(), case.windows.clone());
+    let reply = subject.step(i, &mut image, windows.lend());
     same_image("mmix_step", case, answer, reply, &image)?;
-    same_window("mmix_step", answer, &window)?;
+    same_windows("mmix_step", answer, &windows)?;
     if case.image_len != IMAGE_LEN {
         return Ok(());
     }
 
-    let (mut state, mut window) = (case.state.clone(), case.window.clone());
-    let reply = subject.step_lent(case.base, i, &mut state, &mut window);
+    let (mut state, mut windows) = (case.state.clone(), case.windows.clone());
+    let reply = subject.step_lent(i, &mut state, windows.lend());
     same_state("mmix_step_lent", answer, reply, &state)?;
-    same_window("mmix_step_lent", answer, &window)?;
+    same_windows("mmix_step_lent", answer, &windows)?;
 
-    let (mut state, mut window) = (case.state.clone(), case.window.clone());
-    let reply = subject.step_parts(case.base, i, (&mut state).into(), &mut window);
+    let (mut state, mut windows) = (case.state.clone(), case.windows.clone());
+    let reply = subject.step_parts(i, (&mut state).into(), windows.lend());
     same_state("mmix_step_parts", answer, reply, &state)?;
-    same_window("mmix_step_parts", answer, &window)
+    same_windows("mmix_step_parts", answer, &windows)
 }
 
 fn same_image(entry: &str, case: &Case, answer: &Answer, reply: u64, image: &[u8]) -> Result<(), String> {
@@ -152,25 +154,27 @@ fn same_state(entry: &str, answer: &Answer, reply: u64, state: &State) -> Result
     }
 }
 
-fn same_window(entry: &str, answer: &Answer, window: &[u8]) -> Result<(), String> {
-    if answer.window == window {
-        return Ok(());
+fn same_windows(entry: &str, answer: &Answer, windows: &Windows) -> Result<(), String> {
+    let sides = [("A", &answer.windows.a, &windows.a), ("B", &answer.windows.b, &windows.b)];
+    for (name, expected, found) in sides {
+        if let Some(at) = expected.bytes.iter().zip(&found.bytes).position(|(a, b)| a != b) {
+            let (a, b) = (expected.bytes[at], found.bytes[at]);
+            return Err(format!("{entry}: reply {}, byte {at} of window {name} {a:#x} against {b:#x}", answer.reply));
+        }
     }
-    let at = answer.window.iter().zip(window).position(|(a, b)| a != b).unwrap_or(0);
-    let (a, b) = (answer.window[at], window[at]);
-    Err(format!("{entry}: reply {}, byte {at} of the window {a:#x} against {b:#x}", answer.reply))
+    Ok(())
 }
 
 /// Where all is inside, the needs are what the Rust touches. Where 6 is given, what was touched inside may go
 /// on with what was not there, so the needs are among the touched and one of them is missing.
 fn needs(case: &Case, answer: &Answer) -> Result<(), String> {
     let mut needs = match case.call {
-        Call::Step(i) if case.image_len == IMAGE_LEN => compared::needs(case.base, i, &case.state, &case.window),
+        Call::Step(i) if case.image_len == IMAGE_LEN => compared::needs(i, &case.state, &case.windows),
         Call::Context { .. } => return Ok(()),
         _ => Vec::new(),
     };
     needs.sort_unstable();
-    let outside = |a: &u64| a.wrapping_sub(case.base) >= case.window.len() as u64;
+    let outside = |a: &u64| !case.windows.holds(*a);
     let fits = if answer.reply == 6 {
         needs.iter().all(|a| answer.touched.binary_search(a).is_ok()) && needs.iter().any(outside)
     } else {

@@ -15,11 +15,11 @@ pub fn patched(kind: Kind, backward: bool, field: u32, from: u64) -> Case {
     };
     let mut state = State::zero();
     (state.special[RG], state.pc) = (32, from);
-    Case::new(Call::Step(Instruction { op: op + backward as u8, x, y, z }), state, 0, Vec::new())
+    Case::none(Call::Step(Instruction { op: op + backward as u8, x, y, z }), state)
 }
 
 fn case(kind: Kind, from: u64, offset: u64) -> Case {
-    Case::new(Call::Field { kind, from, to: from.wrapping_add(offset) }, State::zero(), 0, Vec::new())
+    Case::none(Call::Field { kind, from, to: from.wrapping_add(offset) }, State::zero())
 }
 
 /// Where the answer turns: no distance, one field too many in each direction, half of all addresses.

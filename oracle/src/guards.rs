@@ -8,6 +8,7 @@ use std::ffi::{c_int, c_void};
 use std::{process, ptr, slice};
 
 use crate::case::{Case, Instruction, Kind};
+use crate::lent::{Lent, Shown};
 use crate::state::{IMAGE_LEN, State, WINDOW_MAX};
 use crate::subject::{Aim, Found, Parts, Subject};
 
@@ -112,7 +113,7 @@ pub struct Guarded {
 impl Guarded {
     pub fn new(subject: Box<dyn Subject>, guard: Guard) -> Self {
         let areas = match guard {
-            Guard::Pages => [2 * IMAGE_LEN; 5].into_iter().chain([WINDOW_MAX + 2 * PAGE]).map(Area::new).collect(),
+            Guard::Pages => [2 * IMAGE_LEN; 5].into_iter().chain([WINDOW_MAX + 2 * PAGE; 2]).map(Area::new).collect(),
             Guard::Heap => Vec::new(),
         };
         Self { subject, guard, areas: RefCell::new(areas), at_end: Cell::new(false) }
@@ -141,12 +142,8 @@ impl Guarded {
         }
         let places: [*mut u8; N] = std::array::from_fn(|k| areas[used[k]].place(buffers[k].len(), at_end));
         let reply = lend(&mut buffers, places, call);
-        for k in 0..N {
-            if !areas[used[k]].clear(places[k], buffers[k].len()) {
-                return WROTE_OUTSIDE;
-            }
-        }
-        reply
+        let cleared: [bool; N] = std::array::from_fn(|k| areas[used[k]].clear(places[k], buffers[k].len()));
+        if cleared == [true; N] { reply } else { WROTE_OUTSIDE }
     }
 }
 
@@ -186,35 +183,38 @@ impl Subject for Guarded {
         self.call([image], |[image]| self.subject.initialize(image))
     }
 
-    fn step(&self, base: u64, i: Instruction, image: &mut [u8], window: &mut [u8]) -> u64 {
-        self.call([image, window], |[image, window]| self.subject.step(base, i, image, window))
+    fn step(&self, i: Instruction, image: &mut [u8], lent: Lent) -> u64 {
+        let Lent { at, a, b } = lent;
+        self.call([image, a, b], |[image, a, b]| self.subject.step(i, image, Lent { at, a, b }))
     }
 
     fn exceptions(&self, flags: u8, of: Instruction, y_val: u64, z_val: u64, image: &mut [u8]) -> u64 {
         self.call([image], |[image]| self.subject.exceptions(flags, of, y_val, z_val, image))
     }
 
-    fn context(&self, base: u64, address: u64, window: &[u8], found: Found) -> u64 {
-        let mut copy = window.to_vec();
-        let buffers = [bytes_of(found.start), bytes_of(found.length), &mut copy];
-        let reply = self.call(buffers, |[start, length, window]| {
-            let found = Found { start: of_bytes(start), length: of_bytes(length) };
-            self.subject.context(base, address, window, found)
+    fn context(&self, address: u64, shown: Shown, found: Found) -> u64 {
+        let (mut in_a, mut in_b) = (shown.a.to_vec(), shown.b.to_vec());
+        let buffers = [bytes_of(found.which), bytes_of(found.start), bytes_of(found.length), &mut in_a, &mut in_b];
+        let reply = self.call(buffers, |[which, start, length, a, b]| {
+            let found = Found { which: of_bytes(which), start: of_bytes(start), length: of_bytes(length) };
+            self.subject.context(address, Shown { at: shown.at, a, b }, found)
         });
-        if copy == window { reply } else { WROTE_OUTSIDE }
+        if in_a == shown.a && in_b == shown.b { reply } else { WROTE_OUTSIDE }
     }
 
-    fn step_lent(&self, base: u64, i: Instruction, state: &mut State, window: &mut [u8]) -> u64 {
-        self.call([bytes_of(state), window], |[state, window]| self.subject.step_lent(base, i, of_bytes(state), window))
+    fn step_lent(&self, i: Instruction, state: &mut State, lent: Lent) -> u64 {
+        let Lent { at, a, b } = lent;
+        let buffers = [bytes_of(state), a, b];
+        self.call(buffers, |[state, a, b]| self.subject.step_lent(i, of_bytes(state), Lent { at, a, b }))
     }
 
-    fn step_parts(&self, base: u64, i: Instruction, parts: Parts, window: &mut [u8]) -> u64 {
-        let Parts { general, special, pc, halt, marks } = parts;
-        let buffers = [bytes_of(general), bytes_of(special), bytes_of(pc), bytes_of(halt), window];
-        self.call(buffers, |[general, special, pc, halt, window]| {
+    fn step_parts(&self, i: Instruction, parts: Parts, lent: Lent) -> u64 {
+        let (Parts { general, special, pc, halt, marks }, Lent { at, a, b }) = (parts, lent);
+        let buffers = [bytes_of(general), bytes_of(special), bytes_of(pc), bytes_of(halt), a, b];
+        self.call(buffers, |[general, special, pc, halt, a, b]| {
             let (general, special) = (of_bytes(general), of_bytes(special));
             let parts = Parts { general, special, pc: of_bytes(pc), halt: of_bytes(halt), marks };
-            self.subject.step_parts(base, i, parts, window)
+            self.subject.step_parts(i, parts, Lent { at, a, b })
         })
     }
 

@@ -1,13 +1,13 @@
 //! Differential harness: the Rust register machine, unchanged, beside another one that must equal it.
 //!
-//! - `state`, `opcodes`, `case`: a machine state with its image of bytes; opcodes by name; one call with all that it is given, and its
-//!   one-line text.
+//! - `state`, `lent`, `opcodes`, `case`: a machine state with its image of bytes; the two windows; opcodes by name; one call with all that it
+//!   is given, and its one-line text.
 //! - `reference`: the Rust's answer to a case, the model's at an added opcode, with the octabytes that it touched.
 //! - `subject`: the functions that are compared; `model` (01 as a program) and `library` (C) offer them, and
 //!   `guards` lends each of their buffers in a guarded place.
 //! - `compare`: one case on all sides. `shrink`: a smaller case that still differs.
 //! - `random`, `states`, `windows`, `operands`, `numbers`, `fields`, `rounds`, `chains`, `sweep`: the cases. `starts`, `points`:
-//!   short ones. `tally`, `situations`, `met`: the counts.
+//!   short ones. `tally`, `situations`, `met`, `lendings`: the counts.
 
 // The model that is compared: `model`, or a copy with a fault in it (build.rs).
 #[cfg(changed_model)]
@@ -20,6 +20,8 @@ pub mod chains;
 pub mod compare;
 pub mod fields;
 pub mod guards;
+pub mod lendings;
+pub mod lent;
 #[cfg(feature = "library")]
 pub mod library;
 pub mod met;

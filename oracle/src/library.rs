@@ -3,21 +3,25 @@
 use std::ptr;
 
 use crate::case::{Instruction, Kind};
+use crate::lent::{Bases, Lent, Shown};
 use crate::state::State;
 use crate::subject::{Aim, Found, Parts, Subject};
 
 unsafe extern "C" {
     fn mmix_initialize(image: *mut u8, image_len: usize) -> u64;
     fn mmix_step(
-        base: u64,
+        base_a: u64,
+        base_b: u64,
         op: u8,
         x: u8,
         y: u8,
         z: u8,
         image: *mut u8,
         image_len: usize,
-        window: *mut u8,
-        window_len: usize,
+        a: *mut u8,
+        a_len: usize,
+        b: *mut u8,
+        b_len: usize,
     ) -> u64;
     fn mmix_exceptions(
         flags: u8,
@@ -31,25 +35,33 @@ unsafe extern "C" {
         image_len: usize,
     ) -> u64;
     fn mmix_context(
-        base: u64,
+        base_a: u64,
+        base_b: u64,
         address: u64,
-        window: *const u8,
-        window_len: usize,
+        a: *const u8,
+        a_len: usize,
+        b: *const u8,
+        b_len: usize,
+        which: *mut u64,
         start: *mut usize,
         length: *mut usize,
     ) -> u64;
     fn mmix_step_lent(
-        base: u64,
+        base_a: u64,
+        base_b: u64,
         op: u8,
         x: u8,
         y: u8,
         z: u8,
         state: *mut State,
-        window: *mut u8,
-        window_len: usize,
+        a: *mut u8,
+        a_len: usize,
+        b: *mut u8,
+        b_len: usize,
     ) -> u64;
     fn mmix_step_parts(
-        base: u64,
+        base_a: u64,
+        base_b: u64,
         op: u8,
         x: u8,
         y: u8,
@@ -59,8 +71,10 @@ unsafe extern "C" {
         pc: *mut u64,
         halt: *mut u64,
         marks: u64,
-        window: *mut u8,
-        window_len: usize,
+        a: *mut u8,
+        a_len: usize,
+        b: *mut u8,
+        b_len: usize,
     ) -> u64;
     fn mmix_exceptions_parts(
         flags: u8,
@@ -110,10 +124,11 @@ impl Subject for Library {
     }
 
     #[inline]
-    fn step(&self, base: u64, i: Instruction, image: &mut [u8], window: &mut [u8]) -> u64 {
-        let Instruction { op, x, y, z } = i;
-        let (bytes, room) = (self.lent_mut(image), self.lent_mut(window));
-        unsafe { mmix_step(base, op, x, y, z, bytes, image.len(), room, window.len()) }
+    fn step(&self, i: Instruction, image: &mut [u8], lent: Lent) -> u64 {
+        let (Instruction { op, x, y, z }, Lent { at, a, b }) = (i, lent);
+        let (bytes, len) = (self.lent_mut(image), image.len());
+        let (in_a, in_b) = (self.lent_mut(a), self.lent_mut(b));
+        unsafe { mmix_step(at.a, at.b, op, x, y, z, bytes, len, in_a, a.len(), in_b, b.len()) }
     }
 
     #[inline]
@@ -123,22 +138,27 @@ impl Subject for Library {
     }
 
     #[inline]
-    fn context(&self, base: u64, address: u64, window: &[u8], found: Found) -> u64 {
-        unsafe { mmix_context(base, address, self.lent(window), window.len(), found.start, found.length) }
+    fn context(&self, address: u64, shown: Shown, found: Found) -> u64 {
+        let (Shown { at: Bases { a: base_a, b: base_b }, a, b }, Found { which, start, length }) = (shown, found);
+        let (in_a, in_b) = (self.lent(a), self.lent(b));
+        unsafe { mmix_context(base_a, base_b, address, in_a, a.len(), in_b, b.len(), which, start, length) }
     }
 
     #[inline]
-    fn step_lent(&self, base: u64, i: Instruction, state: &mut State, window: &mut [u8]) -> u64 {
-        let Instruction { op, x, y, z } = i;
-        unsafe { mmix_step_lent(base, op, x, y, z, state, self.lent_mut(window), window.len()) }
+    fn step_lent(&self, i: Instruction, state: &mut State, lent: Lent) -> u64 {
+        let (Instruction { op, x, y, z }, Lent { at, a, b }) = (i, lent);
+        let (in_a, in_b) = (self.lent_mut(a), self.lent_mut(b));
+        unsafe { mmix_step_lent(at.a, at.b, op, x, y, z, state, in_a, a.len(), in_b, b.len()) }
     }
 
     #[inline]
-    fn step_parts(&self, base: u64, i: Instruction, parts: Parts, window: &mut [u8]) -> u64 {
-        let Instruction { op, x, y, z } = i;
+    fn step_parts(&self, i: Instruction, parts: Parts, lent: Lent) -> u64 {
+        let (Instruction { op, x, y, z }, Lent { at, a, b }) = (i, lent);
         let Parts { general, special, pc, halt, marks } = parts;
-        let room = self.lent_mut(window);
-        unsafe { mmix_step_parts(base, op, x, y, z, general, special, pc, halt, marks, room, window.len()) }
+        let (in_a, in_b) = (self.lent_mut(a), self.lent_mut(b));
+        unsafe {
+            mmix_step_parts(at.a, at.b, op, x, y, z, general, special, pc, halt, marks, in_a, a.len(), in_b, b.len())
+        }
     }
 
     #[inline]

@@ -1,6 +1,7 @@
 //! What a case and its answer tell, for the situations that are asked of them.
 
 use crate::case::{Call, Case, Instruction};
+use crate::lent::{Window, Windows};
 use crate::numbers::{self, LEAST};
 use crate::opcodes::*;
 use crate::operands::{self, V_ENABLED, around_limit};
@@ -54,8 +55,7 @@ impl Met<'_> {
     }
 
     pub fn octabyte_at(&self, address: u64) -> Option<u64> {
-        let at = (address & !7).wrapping_sub(self.case.base) as usize;
-        self.case.window.get(at..at.checked_add(8)?).map(octabyte)
+        self.case.windows.octabyte_at(address)
     }
 
     /// The packed octabyte that UNSAVE asks for, and its local count.
@@ -95,17 +95,31 @@ impl Met<'_> {
         self.loads(6) || self.stores(6)
     }
 
-    /// A of a load or store, and the distance of its octabyte from the window's base.
+    /// A of a load or store.
     pub fn address(&self) -> u64 {
         operands::address(&self.case.state, self.i)
     }
 
-    pub fn distance(&self) -> u64 {
-        (self.address() & !7).wrapping_sub(self.case.base)
+    /// For one of the windows, A's octabyte is its first or last, or the one before it or after it.
+    pub fn is_first(&self) -> bool {
+        self.in_a_window(|w, distance| w.size() > 0 && distance == 0)
     }
 
-    pub fn size(&self) -> u64 {
-        self.case.window.len() as u64
+    pub fn is_last(&self) -> bool {
+        self.in_a_window(|w, distance| w.size() > 0 && distance == w.size() - 8)
+    }
+
+    pub fn is_before(&self) -> bool {
+        self.in_a_window(|_, distance| distance == 8u64.wrapping_neg())
+    }
+
+    pub fn is_after(&self) -> bool {
+        self.in_a_window(|w, distance| w.size() > 0 && distance == w.size())
+    }
+
+    fn in_a_window(&self, test: fn(&Window, u64) -> bool) -> bool {
+        let Windows { a, b } = &self.case.windows;
+        [a, b].iter().any(|w| test(w, w.distance(self.address())))
     }
 
     /// What a load left in $X.

@@ -72,7 +72,7 @@ pub fn single(random: &mut Random, op: u8) -> Case {
     let octabytes = random.below(4);
     let (base, mut window) = windows::around(random, state.special[RO], octabytes);
     windows::fill(random, &mut window);
-    let mut case = Case::new(Call::Step(i), state, base, window);
+    let mut case = Case::one(Call::Step(i), state, base, window);
     case.partly = states::partly(random);
     case
 }

@@ -37,7 +37,7 @@ pub fn single(random: &mut Random, op: u8) -> Case {
     let at = address(&state, i);
     let (base, mut window) = windows::around(random, at, 1);
     windows::fill(random, &mut window);
-    let mut case = Case::new(Call::Step(i), state, base, window);
+    let mut case = Case::one(Call::Step(i), state, base, window);
     if !random.one_in(4) {
         windows::store(&mut case, at, random.any());
     }

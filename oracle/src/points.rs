@@ -1,15 +1,17 @@
-//! Points: drawn steps, lists, exceptions, context reads and the initial state, with all that the Rust leaves of each, the
-//! model where the Rust has no arm (`reference`).
+//! Points: drawn steps, lists, exceptions, context reads and the initial state, most with two windows, with all that the Rust
+//! leaves of each, the model where the Rust has no arm (`reference`).
 //! They are short enough for a prover to compute: registers and octabytes in lines (`starts`), most windows of few octabytes.
 
 use crate::case::{Call, Case};
 use crate::chains::{link, point};
 use crate::compare::compare;
+use crate::lendings::{self, LENDINGS};
+use crate::lent::Windows;
 use crate::model;
 use crate::opcodes::*;
 use crate::random::Random;
 use crate::reference::{Answer, Reference};
-use crate::rounds::{exception, single};
+use crate::rounds::{exception, with_one};
 use crate::situations::{self, SITUATIONS};
 use crate::starts::Start;
 use crate::state::{IMAGE_LEN, RD, RG, RL, RO, RS, STACK_START, State};
@@ -67,13 +69,16 @@ const OPCODES: [u8; 36] = [
     GETAB, POP, SYNC, TRIP, TRAP, PUT, GO, GOI, UNSAVE, JMP, JMPB, BNB, PBEVB, PUT, PUSHJ, POP, TRAP, SWYM,
 ];
 
+/// The opcodes of points for the sake of their windows.
+const LENT: [u8; 12] = [PUSHJ, PUSHGO, POP, POP, SAVE, SAVE, UNSAVE, UNSAVE, LDO, LDB, STO, STB];
+
 /// Points in a turn.
-const TURN: u64 = 24;
+const TURN: u64 = 28;
 
 /// One point: what is done, from where, and what the Rust leaves.
 pub enum Point {
     Single { case: Case, answer: Answer, touched: Vec<u64> },
-    List { start: Case, calls: Vec<Call>, replies: Vec<u64>, state: State, window: Vec<u8> },
+    List { start: Case, calls: Vec<Call>, replies: Vec<u64>, state: State, windows: Windows },
     Context { case: Case, answer: Answer },
     Initial { state: State },
 }
@@ -104,7 +109,8 @@ impl Drawer {
         compare(&mut self.reference, &[], case).map_err(|e| format!("{e}\n{case}"))
     }
 
-    /// The point of a number: singles, added opcodes, limits, exceptions, lists and contexts in turn.
+    /// The point of a number: singles, added opcodes, limits, exceptions, lists, contexts and windows that lie in some way to
+    /// each other, in turn.
     fn point(&mut self, number: u64) -> Result<Point, String> {
         let (turn, place) = (number / TURN, number % TURN);
         let nth = |first: u64, n: u64| (turn * n + place - first) as usize;
@@ -115,27 +121,28 @@ impl Drawer {
             10..=13 => self.at_limit(nth(10, 4) % (SITUATIONS.len() - 1)),
             14 | 15 => self.raised(),
             16..=18 => self.list(),
-            19 => self.context(),
-            _ => self.single(added().nth(nth(20, 4) % added().count()).expect("an added opcode")),
+            19 | 20 => self.context(),
+            21 | 22 | 23 => self.lent(nth(21, 3) % (LENDINGS.len() - 1)),
+            _ => self.single(added().nth(nth(24, 4) % added().count()).expect("an added opcode")),
         }
     }
 
     fn initial(&mut self) -> Result<Point, String> {
-        let case = Case::new(Call::Initialize, states::admissible(&mut self.random), 0, Vec::new());
+        let case = Case::none(Call::Initialize, states::admissible(&mut self.random));
         Ok(Point::Initial { state: self.answer(&case)?.state })
     }
 
-    /// A step with a window that fits, its registers and octabytes straightened; marginal registers are zero or not.
+    /// A step with two windows that fit, its registers and octabytes straightened; marginal registers are zero or not.
     fn straight(&mut self, op: u8) -> Case {
         let random = &mut self.random;
         let reaches = is_transfer(op) || matches!(op, PUSHGO | PUSHGOI | PUSHJ | PUSHJB | POP | SAVE | UNSAVE);
         let most = if random.one_in(16) { LONGEST } else { 4 * SHORT };
-        let mut case = single(random, op);
-        while reaches && case.window.len() > most {
-            case = single(random, op);
+        let mut case = with_one(random, op);
+        while reaches && case.windows.b.bytes.len() > most {
+            case = with_one(random, op);
         }
         if !reaches {
-            case.window.truncate(SHORT);
+            case.windows.b.bytes.truncate(SHORT);
         }
         let (partly, rd) = (case.partly, case.state.special[RD]);
         let mut case = Start::of(&case, random).case();
@@ -150,21 +157,29 @@ impl Drawer {
                 *v = from.wrapping_add(by.wrapping_mul(k as u64));
             }
         }
-        case
+        self.doubled(case)
     }
 
-    /// One in twelve breaks a rule of the state, one in twelve a rule of the window.
+    /// Two windows of one, none too long to compute.
+    fn doubled(&mut self, case: Case) -> Case {
+        let mut drawn = case.clone();
+        windows::two(&mut self.random, &mut drawn);
+        while [&drawn.windows.a, &drawn.windows.b].iter().any(|w| w.bytes.len() > LONGEST) {
+            drawn = case.clone();
+            windows::two(&mut self.random, &mut drawn);
+        }
+        drawn
+    }
+
+    /// One in twelve breaks a rule of the state, one in twelve a rule of a window, in one of twelve the windows share.
     fn spoiled(&mut self, mut case: Case) -> Case {
         match self.random.below(12) {
             0 => states::spoil(&mut self.random, &mut case),
             1 => windows::spoil(&mut self.random, &mut case),
+            2 => windows::share(&mut self.random, &mut case),
             _ => {}
         }
-        case.image_len = IMAGE_LEN;
-        if case.window.len() > LONGEST {
-            case.window.truncate(SHORT + 1);
-        }
-        case
+        cut(case)
     }
 
     fn single(&mut self, op: u8) -> Result<Point, String> {
@@ -177,7 +192,7 @@ impl Drawer {
         let Call::Step(i) = case.call else { unreachable!("a step") };
         let answer = self.answer(&case)?;
         // What the Rust touched, as `compare` has checked; where 6 is given the Rust goes on, so only what 6 needs.
-        let touched = model::needs(case.base, i, &case.state, &case.window);
+        let touched = model::needs(i, &case.state, &case.windows);
         Ok(Point::Single { case, answer, touched })
     }
 
@@ -192,6 +207,40 @@ impl Drawer {
             situations::count(&case, &answer, &mut counts);
             if counts[situation] > 0 {
                 return self.answered(case);
+            }
+        }
+        self.single(SAVE)
+    }
+
+    /// A step or a read of a context in one of the situations of the windows, the last of which is too long to compute; any step
+    /// where it is not met.
+    fn lent(&mut self, situation: usize) -> Result<Point, String> {
+        for _ in 0..TRIES {
+            let case = match self.random.below(4) {
+                0 => self.read(),
+                _ => {
+                    let op = self.random.pick(&LENT);
+                    let mut case = self.straight(op);
+                    match self.random.below(8) {
+                        0 => windows::share(&mut self.random, &mut case),
+                        1 => windows::spoil(&mut self.random, &mut case),
+                        2 => {
+                            states::spoil(&mut self.random, &mut case);
+                            windows::share(&mut self.random, &mut case);
+                        }
+                        _ => {}
+                    }
+                    cut(case)
+                }
+            };
+            let answer = self.answer(&case)?;
+            let mut counts = [0; LENDINGS.len()];
+            lendings::count(&case, &answer, &mut counts);
+            if counts[situation] > 0 {
+                return match case.call {
+                    Call::Step(_) => self.answered(case),
+                    _ => Ok(Point::Context { case, answer }),
+                };
             }
         }
         self.single(SAVE)
@@ -222,15 +271,16 @@ impl Drawer {
             start.state.special[RG] = rg;
             start.state.special[RL] = start.state.special[RL].min(random.range(0, 6));
         }
-        start.base = if random.one_in(4) { states::stack_offset(random) & !7 } else { STACK_START };
-        start.window = vec![0; 8 * octabytes];
-        start.state.special[RO] = start.base.wrapping_add(8 * random.below(4));
+        let base = if random.one_in(4) { states::stack_offset(random) & !7 } else { STACK_START };
+        start.windows = Windows::one(base, vec![0; 8 * octabytes]);
+        start.state.special[RO] = base.wrapping_add(8 * random.below(4));
         start.state.special[RS] = start.state.special[RO];
         point(random, &mut start.state);
         let (mut parked, mut calls) = (255, Vec::new());
         for _ in 0..random.range(3, 8) {
             calls.push(link(random, &start.state, &mut parked));
         }
+        let start = self.doubled(start);
         self.followed(start, calls)
     }
 
@@ -240,20 +290,38 @@ impl Drawer {
             at.call = *call;
             let answer = self.answer(&at)?;
             replies.push(answer.reply);
-            (at.state, at.window) = (answer.state, answer.window);
+            (at.state, at.windows) = (answer.state, answer.windows);
         }
-        Ok(Point::List { start, calls, replies, state: at.state, window: at.window })
+        Ok(Point::List { start, calls, replies, state: at.state, windows: at.windows })
     }
 
-    fn context(&mut self) -> Result<Point, String> {
+    /// A read of a context; one in eight has windows that break a rule, one in eight windows that share.
+    fn read(&mut self) -> Case {
         let mut case = self.straight(UNSAVE);
         let Call::Step(i) = case.call else { unreachable!("a step") };
         case.call = Call::Context { address: case.state.general[i.z as usize] };
-        if self.random.one_in(8) {
-            windows::spoil(&mut self.random, &mut case);
-            case.window.truncate(LONGEST);
+        match self.random.below(8) {
+            0 => windows::spoil(&mut self.random, &mut case),
+            1 => windows::share(&mut self.random, &mut case),
+            _ => {}
         }
+        cut(case)
+    }
+
+    fn context(&mut self) -> Result<Point, String> {
+        let case = self.read();
         let answer = self.answer(&case)?;
         Ok(Point::Context { case, answer })
     }
+}
+
+/// An image of the right length, and no window too long to compute.
+fn cut(mut case: Case) -> Case {
+    case.image_len = IMAGE_LEN;
+    for window in [&mut case.windows.a, &mut case.windows.b] {
+        if window.bytes.len() > LONGEST {
+            window.bytes.truncate(SHORT + 1);
+        }
+    }
+    case
 }

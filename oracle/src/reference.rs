@@ -1,12 +1,14 @@
-//! The Rust's answer to a case. Numbers 1 and 2 are 01's rules, for the Rust judges neither; 3 is an opcode
+//! The Rust's answer to a case, both windows in its memory. Numbers 1 and 2 are 01's rules, for the Rust judges neither, and
+//! 22, an octabyte in both windows, is no word of the Rust's either; 3 is an opcode
 //! for which neither dispatch file has an arm (found by entering them), or RESUME; 4 is `from_u8`'s word; 5 is
-//! a Z that names no special register; 6 is a touch outside the window; 7 to 20 are read off the one
-//! diagnostic that the Rust sends.
+//! a Z that names no special register; 6 is a touch outside both windows; 7 to 20 are read off the one
+//! diagnostic that the Rust sends. 23 is given to the context reader where the Rust's UNSAVE is done and what it touched
+//! lies in both windows.
 //!
 //! A field is found by trial: the Rust takes the one candidate of each direction, as a jump or as a branch on 0, and goes to
 //! the address or does not; 21 is given where it goes there by neither.
 //!
-//! The Rust has no arm for an added opcode (`opcodes::is_added`): from 1 and 2 on, the answer there is the model's, and the
+//! The Rust has no arm for an added opcode (`opcodes::is_added`): from 22 on, the answer there is the model's, and the
 //! library is compared with the model alone.
 
 use std::cell::RefCell;
@@ -21,20 +23,22 @@ use taken::mmixal::Opcode;
 
 use crate::case::{Call, Case, Instruction, Kind};
 use crate::fields;
+use crate::lent::{Window, Windows};
 use crate::model::{self, Model};
 use crate::opcodes::{GET, RESUME, TRAP, is_added};
 use crate::state::{IMAGE_LEN, RG, RL, RO, State, WINDOW_MAX, octabyte};
 use crate::subject::Subject;
 
-/// What the Rust leaves, or the model at an added opcode. The window is as before where the reply is 1 to 6.
+/// What the Rust leaves, or the model at an added opcode. The windows are as before where the reply is 1 to 6 or 22.
 #[derive(Clone)]
 pub struct Answer {
     pub reply: u64,
     pub state: State,
-    pub window: Vec<u8>,
-    /// The octabytes touched, in ascending order, each once; for a reply of 1 to 5 none.
+    pub windows: Windows,
+    /// The octabytes touched, in ascending order, each once; for a reply of 1 to 5 or 22 none.
     pub touched: Vec<u64>,
-    /// The part of the window that a context has; empty where none was found.
+    /// The window that a context lies in, 0 for A and 1 for B, and the part of it that it has; 0 and empty where none was found.
+    pub which: u64,
     pub part: Range<usize>,
     /// Backward (1) or not, and the field; both 0 where none was found.
     pub aim: (u8, u32),
@@ -67,9 +71,8 @@ impl Host for Recorder {
 pub struct Reference {
     machine: MMix,
     diagnostics: Rc<RefCell<Vec<String>>>,
-    /// What the machine's memory holds: this window at this base, and nothing else.
-    base: u64,
-    window: Vec<u8>,
+    /// What the machine's memory holds: these windows, and nothing else.
+    windows: Windows,
     touches: Vec<Touch>,
 }
 
@@ -83,7 +86,7 @@ impl Reference {
     pub fn new() -> Self {
         let diagnostics = Rc::default();
         let machine = MMix::with_host(Recorder(Rc::clone(&diagnostics)));
-        Self { machine, diagnostics, base: 0, window: Vec::new(), touches: Vec::new() }
+        Self { machine, diagnostics, windows: Windows::default(), touches: Vec::new() }
     }
 
     /// The Rust's answer, or what is wrong with it: a panic, a diagnostic that no number has, a number beside
@@ -100,7 +103,7 @@ impl Reference {
         {
             return Ok(of_model(case, i));
         }
-        self.lend(case.base, &case.window);
+        self.lend(&case.windows);
         let State { general, special, pc, halt, .. } = &case.state;
         self.machine.place(general, special, *pc, *halt);
         self.machine.place_loaded(case.loaded());
@@ -115,15 +118,16 @@ impl Reference {
         let mut touched: Vec<u64> = self.touches.iter().map(|t| t.octabyte).collect();
         touched.sort_unstable();
         touched.dedup();
-        let len = self.window.len() as u64;
-        let outside = touched.iter().any(|a| a.wrapping_sub(case.base) >= len);
+        let outside = touched.iter().any(|a| !case.windows.holds(*a));
         let state = self.state();
         self.follow_writes();
         if outside {
             return Ok(Answer { touched, ..self.unchanged(case, 6) });
         }
-        let part = self.part(case, reply, &state);
-        Ok(Answer { reply, state, window: self.window.clone(), touched, part, aim: (0, 0) })
+        if let (Call::Context { .. }, 0) = (case.call, reply) {
+            return Ok(self.part(case, &state, touched));
+        }
+        Ok(Answer { state, windows: self.windows.clone(), touched, ..self.unchanged(case, reply) })
     }
 
     /// Fields that differ, modulo their number, lead to addresses that differ modulo 4 × that number: so one candidate of
@@ -144,47 +148,52 @@ impl Reference {
     }
 
     fn unchanged(&self, case: &Case, reply: u64) -> Answer {
-        let (state, window) = (case.state.clone(), case.window.clone());
-        Answer { reply, state, window, touched: Vec::new(), part: 0..0, aim: (0, 0) }
+        let (state, windows) = (case.state.clone(), case.windows.clone());
+        Answer { reply, state, windows, touched: Vec::new(), which: 0, part: 0..0, aim: (0, 0) }
     }
 
-    /// Make the machine's memory hold this window and nothing else.
-    fn lend(&mut self, base: u64, window: &[u8]) {
-        if base != self.base || window.len() != self.window.len() {
+    /// Make the machine's memory hold these windows and nothing else.
+    fn lend(&mut self, windows: &Windows) {
+        let as_before = |old: &Window, new: &Window| old.base == new.base && old.bytes.len() == new.bytes.len();
+        if !as_before(&self.windows.a, &windows.a) || !as_before(&self.windows.b, &windows.b) {
             self.machine.empty_memory();
-            self.base = base;
-            self.window.clear();
-            self.window.resize(window.len(), 0);
+            let empty = |w: &Window| Window { base: w.base, bytes: vec![0; w.bytes.len()] };
+            self.windows = Windows { a: empty(&windows.a), b: empty(&windows.b) };
         }
-        for (k, (old, new)) in self.window.chunks_exact_mut(8).zip(window.chunks_exact(8)).enumerate() {
-            if old != new {
-                old.copy_from_slice(new);
-                self.machine.write_octa(base.wrapping_add(8 * k as u64), octabyte(new));
+        for (held, lent) in [(&mut self.windows.a, &windows.a), (&mut self.windows.b, &windows.b)] {
+            for (k, (old, new)) in held.bytes.chunks_exact_mut(8).zip(lent.bytes.chunks_exact(8)).enumerate() {
+                if old != new {
+                    old.copy_from_slice(new);
+                    self.machine.write_octa(lent.base.wrapping_add(8 * k as u64), octabyte(new));
+                }
             }
         }
     }
 
-    /// Read back what was written: inside into the window; outside it is taken away again.
+    /// Read back what was written: inside into the windows; outside it is taken away again.
     fn follow_writes(&mut self) {
         for touch in self.touches.iter().filter(|t| t.written) {
-            let at = touch.octabyte.wrapping_sub(self.base) as usize;
-            if at < self.window.len() {
-                let value = self.machine.read_octa(touch.octabyte);
-                self.window[at..at + 8].copy_from_slice(&value.to_be_bytes());
-            } else {
-                self.machine.write_octa(touch.octabyte, 0);
+            match self.windows.holding_mut(touch.octabyte) {
+                Some(window) => {
+                    let (at, value) =
+                        (window.distance(touch.octabyte) as usize, self.machine.read_octa(touch.octabyte));
+                    window.bytes[at..at + 8].copy_from_slice(&value.to_be_bytes());
+                }
+                None => self.machine.write_octa(touch.octabyte, 0),
             }
         }
     }
 
-    /// All of memory is the window that `follow_writes` keeps: a check of this file itself.
+    /// All of memory is the windows that `follow_writes` keeps: a check of this file itself.
     pub fn memory_is_followed(&self) -> bool {
         let mut bytes = 0;
+        let Windows { a, b } = &self.windows;
         let same = self.machine.occupied().all(|(address, byte)| {
             bytes += 1;
-            self.window.get(address.wrapping_sub(self.base) as usize) == Some(&byte)
+            let here = |w: &Window| w.bytes.get(address.wrapping_sub(w.base) as usize) == Some(&byte);
+            here(a) || here(b)
         });
-        same && bytes == self.window.iter().filter(|b| **b != 0).count()
+        same && bytes == a.bytes.iter().chain(&b.bytes).filter(|b| **b != 0).count()
     }
 
     /// The state of the machine. The marks are read off the loaded addresses.
@@ -210,39 +219,51 @@ impl Reference {
         }
     }
 
-    /// The part of the window that a context takes, by the state that UNSAVE made of it.
-    fn part(&self, case: &Case, reply: u64, after: &State) -> Range<usize> {
-        if reply != 0 || !matches!(case.call, Call::Context { .. }) {
-            return 0..0;
+    /// What the reader says of a context that passed: its window and part, by the state that UNSAVE made of it; 23 where what
+    /// UNSAVE touched lies in both windows.
+    fn part(&self, case: &Case, after: &State, touched: Vec<u64>) -> Answer {
+        let Windows { a, b } = &case.windows;
+        let [in_a, in_b] = [a, b].map(|w| touched.iter().all(|address| w.holds(*address)));
+        if !in_a && !in_b {
+            return Answer { touched, ..self.unchanged(case, 23) };
         }
-        let start = (after.special[RO] & !7).wrapping_sub(case.base) as usize;
-        start..start + 8 * (after.special[RL] + 270 - after.special[RG]) as usize
+        let start = if in_b { b } else { a }.distance(after.special[RO]) as usize;
+        let part = start..start + 8 * (after.special[RL] + 270 - after.special[RG]) as usize;
+        Answer { touched, which: in_b as u64, part, ..self.unchanged(case, 0) }
     }
 }
 
 /// The model's answer to a step.
 fn of_model(case: &Case, i: Instruction) -> Answer {
-    let (mut state, mut window) = (case.state.clone(), case.window.clone());
-    let touched = model::needs(case.base, i, &state, &window);
-    let reply = Model.step_lent(case.base, i, &mut state, &mut window);
-    Answer { reply, state, window, touched, part: 0..0, aim: (0, 0) }
+    let (mut state, mut windows) = (case.state.clone(), case.windows.clone());
+    let touched = model::needs(i, &state, &windows);
+    let reply = Model.step_lent(i, &mut state, windows.lend());
+    Answer { reply, state, windows, touched, which: 0, part: 0..0, aim: (0, 0) }
 }
 
-/// Numbers 1 to 5.
+/// The rule of one window.
+fn obeys(window: &Window) -> bool {
+    window.size().is_multiple_of(8) && window.bytes.len() <= WINDOW_MAX && window.base.is_multiple_of(8)
+}
+
+/// Numbers 1 to 5 and 22.
 fn judged(case: &Case) -> Option<u64> {
     let bad_state = case.image_len != IMAGE_LEN || !case.state.admissible();
-    let len = case.window.len();
-    let bad_window = !len.is_multiple_of(8) || len > WINDOW_MAX || !case.base.is_multiple_of(8);
+    let Windows { a, b } = &case.windows;
+    let bad_window = !(obeys(a) && obeys(b));
     match case.call {
         Call::Initialize => (case.image_len != IMAGE_LEN).then_some(1),
         Call::Exceptions { .. } => bad_state.then_some(1),
-        Call::Context { .. } => bad_window.then_some(2),
+        Call::Context { .. } if bad_window => Some(2),
+        Call::Context { .. } => case.windows.share().then_some(22),
         Call::Field { .. } => None,
         Call::Step(Instruction { op, x, y, z }) => {
             if bad_state {
                 Some(1)
             } else if bad_window {
                 Some(2)
+            } else if case.windows.share() {
+                Some(22)
             } else if !has_arm(op) {
                 Some(3)
             } else if op == TRAP && x == 0 && TrapCode::from_u8(y).is_some() {

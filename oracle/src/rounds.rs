@@ -13,7 +13,8 @@ use crate::windows::{self, Saved};
 use crate::{fields, numbers, operands, states};
 
 /// Cases a round: refusals by state, by window and by opcode, single steps, exceptions, context reads, a chain. Beside them a
-/// round has two fields, which are not counted among these.
+/// round has two fields, windows that share octabytes, and frames and contexts in two windows, which are not counted among
+/// these.
 pub const ROUND: u64 = ILL_STATES + ILL_WINDOWS + NO_ARMS + SINGLES + EXCEPTIONS + CONTEXTS + CHAIN;
 const ILL_STATES: u64 = 11;
 const ILL_WINDOWS: u64 = 11;
@@ -21,6 +22,12 @@ const NO_ARMS: u64 = 6;
 const SINGLES: u64 = 42;
 const EXCEPTIONS: u64 = 2;
 const CONTEXTS: u64 = 2;
+const SHARED: u64 = 11;
+const LENT: u64 = 6;
+const READ: u64 = 2;
+
+/// The opcodes of frames and contexts, each as often as it has ways to lie in two windows.
+const FRAMES: [(u8, usize); 7] = [(PUSHJ, 2), (PUSHGO, 1), (PUSHJB, 1), (PUSHGOI, 1), (POP, 5), (SAVE, 4), (UNSAVE, 6)];
 
 /// The opcodes of single steps beside branches and those added, and how often each stands in a turn: the more ways to
 /// go, the more often.
@@ -47,14 +54,16 @@ const AIMS: [(u8, usize); 20] = [
     (TRIP, 3),
 ];
 
-/// The lists drawn from: opcodes of single steps, and those without an arm.
+/// The lists drawn from: opcodes of single steps, of frames and contexts, and those without an arm.
 struct Opcodes {
     aims: Vec<u8>,
+    frames: Vec<u8>,
     without: Vec<u8>,
 }
 
 static OPCODES: LazyLock<Opcodes> = LazyLock::new(|| Opcodes {
     aims: (BN..=PBEVB).chain(added()).chain(added().filter(|op| raises(*op))).chain(often(&AIMS)).collect(),
+    frames: often(&FRAMES),
     without: (0..=255).filter(|op| !has_arm(*op)).collect(),
 });
 
@@ -82,17 +91,22 @@ pub fn round(seed: u64, number: u64, run: &mut dyn FnMut(&Case) -> Option<Answer
     for j in 0..ILL_STATES {
         let mut case = single(random, place(j, ILL_STATES) as u8);
         states::spoil(random, &mut case);
-        if random.one_in(4) {
-            windows::spoil(random, &mut case);
+        match random.below(8) {
+            0 | 1 => windows::spoil(random, &mut case),
+            2 => windows::share(random, &mut case),
+            _ => {}
         }
         run(&case)?;
     }
     for j in 0..ILL_WINDOWS {
         let mut case = single(random, place(j, ILL_WINDOWS) as u8);
+        if random.one_in(3) {
+            windows::share(random, &mut case);
+        }
         windows::spoil(random, &mut case);
         run(&case)?;
     }
-    let Opcodes { aims, without, .. } = &*OPCODES;
+    let Opcodes { aims, frames, without } = &*OPCODES;
     for j in 0..NO_ARMS {
         let op = without[(place(j, NO_ARMS) % without.len() as u64) as usize];
         run(&single(random, op))?;
@@ -109,11 +123,34 @@ pub fn round(seed: u64, number: u64, run: &mut dyn FnMut(&Case) -> Option<Answer
     chain(random, run)?;
     run(&fields::single(random, Kind::Branch))?;
     run(&fields::single(random, Kind::Jump))?;
+    for j in 0..SHARED {
+        let mut case = single(random, place(j, SHARED) as u8);
+        windows::share(random, &mut case);
+        run(&case)?;
+    }
+    for j in 0..LENT {
+        let op = frames[(place(j, LENT) % frames.len() as u64) as usize];
+        run(&single(random, op))?;
+    }
+    for _ in 0..READ {
+        let mut case = context(random);
+        if random.one_in(8) {
+            windows::share(random, &mut case);
+        }
+        run(&case)?;
+    }
     Some(())
 }
 
-/// One step with a state and window made for it.
+/// One step with a state and two windows made for it.
 pub fn single(random: &mut Random, op: u8) -> Case {
+    let mut case = with_one(random, op);
+    windows::two(random, &mut case);
+    case
+}
+
+/// One step with a state and one window, B, made for it.
+pub fn with_one(random: &mut Random, op: u8) -> Case {
     if is_transfer(op) {
         return operands::single(random, op);
     }
@@ -175,7 +212,7 @@ fn stored(random: &mut Random, i: Instruction, mut state: State, octabytes: u64)
 fn windowed(random: &mut Random, i: Instruction, state: &State, first: u64, octabytes: u64) -> Case {
     let (base, mut window) = windows::around(random, first, octabytes);
     windows::fill(random, &mut window);
-    Case::new(Call::Step(i), state.clone(), base, window)
+    Case::one(Call::Step(i), state.clone(), base, window)
 }
 
 /// Operands at the limits that matter for an opcode; a register that it reads may be set for it.
@@ -259,7 +296,7 @@ pub fn exception(random: &mut Random) -> Case {
     };
     let of = Instruction { op: random.byte(), x: random.operand(), y: random.operand(), z: random.operand() };
     let call = Call::Exceptions { flags, of, y_val: random.value(), z_val: random.value() };
-    let mut case = Case::new(call, state, 0, Vec::new());
+    let mut case = Case::none(call, state);
     case.partly = states::partly(random);
     if random.one_in(16) {
         states::spoil(random, &mut case);
@@ -268,9 +305,16 @@ pub fn exception(random: &mut Random) -> Case {
 }
 
 pub fn context(random: &mut Random) -> Case {
-    let mut case = single(random, UNSAVE);
+    let mut case = with_one(random, UNSAVE);
     let Call::Step(i) = case.call else { unreachable!() };
-    case.call = Call::Context { address: case.state.general[i.z as usize] };
+    let address = case.state.general[i.z as usize];
+    case.call = Call::Context { address };
+    if random.one_in(3) {
+        let across = case.windows.b.wraps() && random.one_in(2);
+        windows::split_at(random, &mut case, if across { 0 } else { address });
+    } else {
+        windows::two(random, &mut case);
+    }
     if random.one_in(16) {
         windows::spoil(random, &mut case);
     }
@@ -279,7 +323,7 @@ pub fn context(random: &mut Random) -> Case {
 
 /// Any image, with no window.
 fn initialize(random: &mut Random) -> Case {
-    let mut case = Case::new(Call::Initialize, states::admissible(random), 0, Vec::new());
+    let mut case = Case::none(Call::Initialize, states::admissible(random));
     match random.below(3) {
         0 => states::spoil(random, &mut case),
         1 => case.image_len = random.pick(&states::WRONG_LENGTHS),

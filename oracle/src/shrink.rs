@@ -2,6 +2,7 @@
 
 use crate::case::{Call, Case};
 use crate::compare::compare;
+use crate::lent::Window;
 use crate::opcodes::is_transfer;
 use crate::reference::Reference;
 use crate::state::{RG, RO, RS, STACK_START};
@@ -32,7 +33,6 @@ type Change = Box<dyn Fn(&mut Case)>;
 fn changes(case: &Case) -> Vec<Change> {
     let mut list: Vec<Change> = vec![
         Box::new(|c| c.state.general.fill(0)),
-        Box::new(|c| c.window.fill(0)),
         Box::new(|c| c.partly = 0),
         Box::new(|c| c.state.pc = 0),
         Box::new(|c| c.state.halt = 0),
@@ -40,8 +40,9 @@ fn changes(case: &Case) -> Vec<Change> {
         Box::new(|c| c.state.special[RG] = 32),
         Box::new(|c| c.state.special[RS] = c.state.special[RO]),
         Box::new(|c| {
-            let by = c.base.wrapping_sub(STACK_START);
-            c.base = c.base.wrapping_sub(by);
+            let by = c.windows.b.base.wrapping_sub(STACK_START);
+            c.windows.a.base = c.windows.a.base.wrapping_sub(by);
+            c.windows.b.base = c.windows.b.base.wrapping_sub(by);
             c.state.special[RO] = c.state.special[RO].wrapping_sub(by);
             if let Call::Step(i) = c.call
                 && is_transfer(i.op)
@@ -58,25 +59,9 @@ fn changes(case: &Case) -> Vec<Change> {
     for k in 0..32 {
         list.push(Box::new(move |c| c.state.special[k] = 0));
     }
-    for part in [2, 4, 8] {
-        list.push(Box::new(move |c| {
-            let keep = c.window.len() - c.window.len() / 8 / part * 8;
-            c.window.truncate(keep);
-        }));
-        list.push(Box::new(move |c| {
-            let drop = c.window.len() / 8 / part * 8;
-            c.window.drain(..drop);
-            c.base = c.base.wrapping_add(drop as u64);
-        }));
-    }
-    list.push(Box::new(|c| c.window.truncate(c.window.len().saturating_sub(8))));
-    for k in (0..case.window.len() / 8).filter(|k| case.window[8 * k..8 * k + 8] != [0; 8]) {
-        list.push(Box::new(move |c| {
-            if let Some(bytes) = c.window.get_mut(8 * k..8 * k + 8) {
-                bytes.fill(0);
-            }
-        }));
-    }
+    of_window(&mut list, &case.windows.a, |c| &mut c.windows.a);
+    of_window(&mut list, &case.windows.b, |c| &mut c.windows.b);
+    list.push(Box::new(|c| c.windows.a = Window::default()));
     for zeroed in 0..3 {
         list.push(Box::new(move |c| match &mut c.call {
             Call::Step(i) | Call::Exceptions { of: i, .. } => match zeroed {
@@ -97,4 +82,33 @@ fn changes(case: &Case) -> Vec<Change> {
         }));
     }
     list
+}
+
+/// The changes of one window.
+fn of_window(list: &mut Vec<Change>, window: &Window, of: fn(&mut Case) -> &mut Window) {
+    list.push(Box::new(move |c| of(c).bytes.fill(0)));
+    for part in [2, 4, 8] {
+        list.push(Box::new(move |c| {
+            let bytes = &mut of(c).bytes;
+            let keep = bytes.len() - bytes.len() / 8 / part * 8;
+            bytes.truncate(keep);
+        }));
+        list.push(Box::new(move |c| {
+            let window = of(c);
+            let drop = window.bytes.len() / 8 / part * 8;
+            window.bytes.drain(..drop);
+            window.base = window.base.wrapping_add(drop as u64);
+        }));
+    }
+    list.push(Box::new(move |c| {
+        let keep = of(c).bytes.len().saturating_sub(8);
+        of(c).bytes.truncate(keep);
+    }));
+    for k in (0..window.bytes.len() / 8).filter(|k| window.bytes[8 * k..8 * k + 8] != [0; 8]) {
+        list.push(Box::new(move |c| {
+            if let Some(bytes) = of(c).bytes.get_mut(8 * k..8 * k + 8) {
+                bytes.fill(0);
+            }
+        }));
+    }
 }

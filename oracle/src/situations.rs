@@ -67,10 +67,10 @@ pub const SITUATIONS: [(&str, Test); 106] = [
         m.stores(0) && m.marginal(m.i.x) && m.case.state.general[m.i.x as usize] != 0
     }),
     ("load or store, A wraps past 2^64", |m| m.reached() && m.address() < m.case.state.general[m.i.y as usize]),
-    ("load or store, first octabyte", |m| m.reached() && m.distance() == 0),
-    ("load or store, last byte of the window", |m| m.reached() && m.distance() + 8 == m.size() && m.address() % 8 == 7),
-    ("load or store, one octabyte before the window", |m| m.outside() && m.distance() == 8u64.wrapping_neg()),
-    ("load or store, one octabyte after the window", |m| m.outside() && m.distance() == m.size() && m.size() > 0),
+    ("load or store, first octabyte", |m| m.reached() && m.is_first()),
+    ("load or store, last byte of the window", |m| m.reached() && m.is_last() && m.address() % 8 == 7),
+    ("load or store, one octabyte before the window", |m| m.outside() && m.is_before()),
+    ("load or store, one octabyte after the window", |m| m.outside() && m.is_after()),
     ("load or store at 2^63 and above", |m| m.reached() && m.address() >= 1 << 63),
     ("store, the largest that fits", |m| m.at_limit(0)),
     ("store, one more than fits", |m| m.at_limit(1)),
@@ -126,7 +126,9 @@ pub const SITUATIONS: [(&str, Test); 106] = [
     ("SR of a negative number by 64 and more", |m| m.works(&[SR]) && m.z() >= 64 && m.y() >> 63 == 1),
     ("SLU and SRU by 64", |m| m.works(&[SLU, SRU]) && m.z() == 64 && m.y() != 0),
     ("shift by 2^63 and more", |m| m.works(&[SL, SLU, SR, SRU]) && m.z() >= LEAST && m.y() != 0),
-    ("window of 65,536 bytes, done", |m| m.answer.reply == 0 && m.case.window.len() == WINDOW_MAX),
+    ("window of 65,536 bytes, done", |m| {
+        m.answer.reply == 0 && [&m.case.windows.a, &m.case.windows.b].iter().any(|w| w.bytes.len() == WINDOW_MAX)
+    }),
 ];
 
 /// Count the situations that a case is in.
@@ -135,7 +137,7 @@ pub fn count(case: &Case, answer: &Answer, counts: &mut [u64; SITUATIONS.len()])
         Call::Step(i) => i,
         _ => return,
     };
-    if answer.reply < 6 && answer.reply != 0 {
+    if matches!(answer.reply, 1..=5 | 22) {
         return;
     }
     let met = Met { case, answer, i };

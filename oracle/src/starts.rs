@@ -1,11 +1,11 @@
-//! Starts in few words: a case whose registers and octabytes are lines of numbers, but for those that the instruction is
-//! about. The fields are the first nineteen of a record of the replay list (bin/replay_list.rs says which).
+//! Starts in few words: a case with one window whose registers and octabytes are lines of numbers, but for those that the
+//! instruction is about. The fields are the first nineteen of a record of the replay list (bin/replay_list.rs says which).
 
 use crate::case::{Call, Case, Instruction};
 use crate::opcodes::{POP, UNSAVE, is_transfer};
 use crate::operands::address;
 use crate::random::Random;
-use crate::state::{MARKS_MAX, RA, RA_MAX, RG, RL, RO, RS, State, octabyte};
+use crate::state::{MARKS_MAX, RA, RA_MAX, RG, RL, RO, RS, State};
 
 pub const FIELDS: usize = 19;
 const WINDOW_PLACES: u64 = 4096;
@@ -34,13 +34,13 @@ impl Start {
         }
         (state.pc, state.halt, state.marks) = (pc, halt, marks);
         let window = (0..len as usize).flat_map(|j| line(w, v, j).to_be_bytes()).collect();
-        let mut case = Case::new(call, state, base, window);
+        let mut case = Case::one(call, state, base, window);
         for &(place, value) in &self.places {
             if place < WINDOW_PLACES {
                 case.state.general[place as usize] = value;
             } else {
                 let at = 8 * (place - WINDOW_PLACES) as usize;
-                case.window[at..at + 8].copy_from_slice(&value.to_be_bytes());
+                case.windows.b.bytes[at..at + 8].copy_from_slice(&value.to_be_bytes());
             }
         }
         case
@@ -76,17 +76,16 @@ impl Start {
             _ => unreachable!("the list has steps and exceptions"),
         };
         for address in about(case) {
-            let at = (address & !7).wrapping_sub(case.base) as usize;
-            if at < case.window.len() {
-                places.push((WINDOW_PLACES + at as u64 / 8, octabyte(&case.window[at..at + 8])));
+            if let Some(value) = case.windows.octabyte_at(address) {
+                places.push((WINDOW_PLACES + case.windows.b.distance(address) / 8, value));
             }
         }
         let fields = [
             u64::from_be_bytes(call),
             y,
             z,
-            case.base,
-            case.window.len() as u64 / 8,
+            case.windows.b.base,
+            case.windows.b.size() / 8,
             random.any(),
             random.any(),
             random.any(),
@@ -112,9 +111,8 @@ fn about(case: &Case) -> Vec<u64> {
         Call::Step(Instruction { op: POP, .. }) => vec![case.state.special[RO].wrapping_sub(8)],
         Call::Step(Instruction { op: UNSAVE, z, .. }) => {
             let packed = case.state.general[z as usize];
-            let at = (packed & !7).wrapping_sub(case.base) as usize;
-            let rg = case.window.get(at).copied().unwrap_or(0);
-            vec![packed, packed.wrapping_sub(8 * (269 - rg as u64))]
+            let rg = case.windows.octabyte_at(packed).unwrap_or(0) >> 56;
+            vec![packed, packed.wrapping_sub(8 * (269 - rg))]
         }
         Call::Step(i) if is_transfer(i.op) => vec![address(&case.state, i)],
         _ => Vec::new(),

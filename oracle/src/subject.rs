@@ -1,9 +1,10 @@
 //! The machine that is compared with the Rust: functions that equal those of include/mmix.h. 0 is done,
-//! 1 to 20 are 01's numbers; 21 is request 2's.
+//! 1 to 20 are 01's numbers; 21 is request 2's, 22 and 23 are request 5's.
 
 use crate::case::{Instruction, Kind};
 use crate::compared::Model;
 use crate::guards::{Guard, Guarded};
+use crate::lent::{Lent, Shown};
 #[cfg(feature = "library")]
 use crate::library::Library;
 use crate::state::State;
@@ -24,8 +25,9 @@ impl<'a> From<&'a mut State> for Parts<'a> {
     }
 }
 
-/// Where the context reader puts the part of the window that it found.
+/// Where the context reader puts the part that it found, and of which window: 0 is A, 1 is B.
 pub struct Found<'a> {
+    pub which: &'a mut u64,
     pub start: &'a mut usize,
     pub length: &'a mut usize,
 }
@@ -39,11 +41,11 @@ pub struct Aim<'a> {
 pub trait Subject {
     fn name(&self) -> &'static str;
     fn initialize(&self, image: &mut [u8]) -> u64;
-    fn step(&self, base: u64, i: Instruction, image: &mut [u8], window: &mut [u8]) -> u64;
+    fn step(&self, i: Instruction, image: &mut [u8], lent: Lent) -> u64;
     fn exceptions(&self, flags: u8, of: Instruction, y_val: u64, z_val: u64, image: &mut [u8]) -> u64;
-    fn context(&self, base: u64, address: u64, window: &[u8], found: Found) -> u64;
-    fn step_lent(&self, base: u64, i: Instruction, state: &mut State, window: &mut [u8]) -> u64;
-    fn step_parts(&self, base: u64, i: Instruction, parts: Parts, window: &mut [u8]) -> u64;
+    fn context(&self, address: u64, shown: Shown, found: Found) -> u64;
+    fn step_lent(&self, i: Instruction, state: &mut State, lent: Lent) -> u64;
+    fn step_parts(&self, i: Instruction, parts: Parts, lent: Lent) -> u64;
     fn exceptions_parts(&self, flags: u8, of: Instruction, y_val: u64, z_val: u64, parts: Parts) -> u64;
     fn decode(&self, image: &[u8], state: &mut State) -> u64;
     fn encode(&self, state: &State, image: &mut [u8]) -> u64;

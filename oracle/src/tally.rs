@@ -1,17 +1,18 @@
 //! How often each opcode met each reply, and how often each situation was met.
 
 use crate::case::{Call, Case, Kind};
+use crate::lendings::{self, LENDINGS};
 use crate::opcodes::*;
 use crate::reference::Answer;
 use crate::situations::{self, SITUATIONS};
 
-const REPLIES: usize = 22;
+const REPLIES: usize = 24;
 /// Met less often than this, a pair of opcode and reply, an opcode that is done, or a situation is met too seldom.
 const PAIR_LEAST: u64 = 100;
 const DONE_LEAST: u64 = 500;
 const SITUATION_LEAST: u64 = 50;
 
-/// The replies that each opcode can get, 1 and 2 apart, which each can.
+/// The replies that each opcode can get, 1, 2 and 22 apart, which each can.
 fn replies(op: u8) -> &'static [usize] {
     match op {
         BN..=PBEVB | GO | GOI | JMP | JMPB | GETA | GETAB | SWYM => &[0],
@@ -34,7 +35,7 @@ fn replies(op: u8) -> &'static [usize] {
 }
 
 const EXCEPTION_REPLIES: [usize; 3] = [0, 1, 19];
-const CONTEXT_REPLIES: [usize; 6] = [0, 2, 6, 14, 15, 16];
+const CONTEXT_REPLIES: [usize; 8] = [0, 2, 6, 14, 15, 16, 22, 23];
 const INITIALIZE_REPLIES: [usize; 2] = [0, 1];
 const FIELD_REPLIES: [usize; 2] = [0, 21];
 
@@ -47,12 +48,13 @@ pub struct Tally {
     branch_fields: [u64; REPLIES],
     jump_fields: [u64; REPLIES],
     situations: [u64; SITUATIONS.len()],
+    lendings: [u64; LENDINGS.len()],
 }
 
 impl Default for Tally {
     fn default() -> Self {
         let none = [0; REPLIES];
-        let situations = [0; SITUATIONS.len()];
+        let (situations, lendings) = ([0; SITUATIONS.len()], [0; LENDINGS.len()]);
         Self {
             steps: vec![none; 256],
             exceptions: none,
@@ -61,6 +63,7 @@ impl Default for Tally {
             branch_fields: none,
             jump_fields: none,
             situations,
+            lendings,
         }
     }
 }
@@ -77,6 +80,7 @@ impl Tally {
         };
         row[answer.reply as usize] += 1;
         situations::count(case, answer, &mut self.situations);
+        lendings::count(case, answer, &mut self.lendings);
     }
 
     fn rows(&self) -> impl Iterator<Item = &[u64; REPLIES]> {
@@ -91,6 +95,7 @@ impl Tally {
             row.iter_mut().zip(more).for_each(|(a, b)| *a += b);
         }
         self.situations.iter_mut().zip(&other.situations).for_each(|(a, b)| *a += b);
+        self.lendings.iter_mut().zip(&other.lendings).for_each(|(a, b)| *a += b);
     }
 
     pub fn cases(&self) -> u64 {
@@ -104,7 +109,7 @@ impl Tally {
 
     /// The rows by name, each with the replies that it can have.
     fn named(&self) -> Vec<(String, &[u64; REPLIES], Vec<usize>)> {
-        let step = |(op, row)| (format!("{op:02x}"), row, [&[1, 2], replies(op as u8)].concat());
+        let step = |(op, row)| (format!("{op:02x}"), row, [&[1, 2, 22], replies(op as u8)].concat());
         let mut rows: Vec<_> = self.steps.iter().enumerate().map(step).collect();
         rows.push(("exceptions".to_string(), &self.exceptions, EXCEPTION_REPLIES.to_vec()));
         rows.push(("context".to_string(), &self.contexts, CONTEXT_REPLIES.to_vec()));
@@ -112,6 +117,12 @@ impl Tally {
         rows.push(("branch_field".to_string(), &self.branch_fields, FIELD_REPLIES.to_vec()));
         rows.push(("jump_field".to_string(), &self.jump_fields, FIELD_REPLIES.to_vec()));
         rows
+    }
+
+    /// The situations by name, those of the windows among them.
+    fn met(&self) -> impl Iterator<Item = (&'static str, u64)> {
+        let names = SITUATIONS.iter().map(|(name, _)| *name).chain(LENDINGS.iter().map(|(name, _)| *name));
+        names.zip(self.situations.iter().chain(&self.lendings).copied())
     }
 
     /// One line an opcode, `reply:count`; the situations; the pairs met least.
@@ -123,7 +134,7 @@ impl Tally {
             println!("{name:<12} {}", counts.join(" "));
             pairs.extend(met.map(|(r, n)| (*n, format!("{name}/{r}:{n}"))));
         }
-        for ((name, _), n) in SITUATIONS.iter().zip(&self.situations) {
+        for (name, n) in self.met() {
             println!("{n:>9} {name}");
         }
         pairs.sort_unstable();
@@ -144,7 +155,7 @@ impl Tally {
                 }
             }
         }
-        for ((name, _), n) in SITUATIONS.iter().zip(&self.situations).filter(|(_, n)| **n < SITUATION_LEAST) {
+        for (name, n) in self.met().filter(|(_, n)| *n < SITUATION_LEAST) {
             list.push(format!("{name}, {n} times"));
         }
         list

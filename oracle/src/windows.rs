@@ -1,7 +1,8 @@
-//! Windows around the octabytes that a step is about, with an edge at them, one before, one after and far off;
-//! frames and saved contexts, whole and damaged.
+//! Windows around the octabytes that a step is about, with an edge at them, one before, one after and far off; a second
+//! window beside such a one, or the one made two; two that share octabytes; frames and saved contexts, whole and damaged.
 
 use crate::case::Case;
+use crate::lent::{Window, Windows};
 use crate::random::Random;
 use crate::state::{RA_MAX, RG, State, WINDOW_MAX};
 
@@ -52,9 +53,9 @@ pub fn fill(random: &mut Random, window: &mut [u8]) {
 
 /// Store an octabyte where it lies inside.
 pub fn store(case: &mut Case, address: u64, value: u64) {
-    let at = (address & !7).wrapping_sub(case.base) as usize;
-    if at < case.window.len() {
-        case.window[at..at + 8].copy_from_slice(&value.to_be_bytes());
+    if let Some(window) = case.windows.holding_mut(address) {
+        let at = window.distance(address) as usize;
+        window.bytes[at..at + 8].copy_from_slice(&value.to_be_bytes());
     }
 }
 
@@ -125,15 +126,143 @@ impl Saved {
     }
 }
 
-/// Break the rule of the window's length or base.
+/// Break the rule of one window's length or base, at times of both.
 pub fn spoil(random: &mut Random, case: &mut Case) {
+    let Windows { a, b } = &mut case.windows;
+    let (one, other) = if random.one_in(2) { (a, b) } else { (b, a) };
+    spoil_one(random, one);
+    if random.one_in(8) {
+        spoil_one(random, other);
+    }
+}
+
+/// Break the rule of a window's length or base.
+pub fn spoil_one(random: &mut Random, window: &mut Window) {
+    let off = random.range(1, 7);
     match random.below(4) {
-        0 => case.window.resize(random.pick(&[1, 4, 7, 9, 12, 15, 17, 2047, 2049, 65_535]), 0),
-        1 => case.window.resize(random.pick(&[65_537, 65_544, 65_536 + 2048]), 0),
-        2 => case.base = case.base.wrapping_add(random.range(1, 7)),
+        0 => window.bytes.resize(random.pick(&[1, 4, 7, 9, 12, 15, 17, 2047, 2049, 65_535]), 0),
+        1 => window.bytes.resize(random.pick(&[65_537, 65_544, 65_536 + 2048]), 0),
+        2 => window.base = window.base.wrapping_add(off),
         _ => {
-            case.window.clear();
-            case.base = case.base.wrapping_add(random.range(1, 7));
+            window.bytes.clear();
+            window.base = window.base.wrapping_add(off);
         }
     }
+}
+
+// ---- two windows
+
+/// Make two windows of a case that has one, B, or leave it. Every octabyte that it has keeps its address, but for those
+/// between two parts at times.
+pub fn two(random: &mut Random, case: &mut Case) {
+    let windows = &mut case.windows;
+    match random.below(16) {
+        0 => return,
+        1 | 2 => windows.a.base = place_of_empty(random, &windows.b),
+        3..=5 => apart(random, windows),
+        6 => beside(random, windows),
+        _ => split(random, windows),
+    }
+    if random.one_in(2) {
+        windows.exchange();
+    }
+}
+
+/// Where an empty window stands: anywhere, within the other too.
+fn place_of_empty(random: &mut Random, other: &Window) -> u64 {
+    let within = other.base.wrapping_add(8 * random.below(other.size() / 8 + 1));
+    let anywhere = 8 * random.below(1 << 61);
+    random.pick(&[0, within, within, anywhere, 8u64.wrapping_neg()])
+}
+
+/// Octabytes of a window of its own.
+fn octabytes(random: &mut Random) -> u64 {
+    match random.below(64) {
+        0 => WINDOW_MAX as u64 / 8,
+        1..=8 => 256,
+        9..=24 => random.range(1, 3),
+        _ => random.below(40),
+    }
+}
+
+/// A window A apart from B: low, across the end of memory, one octabyte off, anywhere. Where that is not apart, A is empty.
+fn apart(random: &mut Random, windows: &mut Windows) {
+    let size = 8 * octabytes(random);
+    let anywhere = 8 * random.below(1 << 61);
+    let across = (8 * random.below(size / 8 + 1)).wrapping_neg();
+    let (below, above) = (windows.b.base.wrapping_sub(size + 8), windows.b.end().wrapping_add(8));
+    let base = random.pick(&[0, 0, anywhere, across, below, above]);
+    windows.a = Window { base, bytes: vec![0; size as usize] };
+    if windows.share() {
+        windows.a.bytes.clear();
+    }
+    fill(random, &mut windows.a.bytes);
+}
+
+/// A window A that ends where B begins, or begins where B ends.
+fn beside(random: &mut Random, Windows { a, b }: &mut Windows) {
+    a.bytes = vec![0; 8 * random.range(1, 40) as usize];
+    a.base = if random.one_in(2) { b.base.wrapping_sub(a.size()) } else { b.end() };
+    fill(random, &mut a.bytes);
+}
+
+/// The one window as two that touch, A below; at the end of memory or anywhere. At times octabytes between them are taken away.
+fn split(random: &mut Random, Windows { a, b }: &mut Windows) {
+    let octabytes = b.size() / 8;
+    let to_the_end = b.base.wrapping_neg();
+    let at = match random.below(6) {
+        _ if to_the_end < b.size() && random.one_in(2) => to_the_end,
+        0 => 8 * random.pick(&[0, 1, octabytes.saturating_sub(1), octabytes]).min(octabytes),
+        _ => 8 * random.below(octabytes + 1),
+    };
+    *a = cut(b, at);
+    if random.one_in(8) {
+        let gap = random.range(1, 3).min(b.size() / 8);
+        cut(b, 8 * gap);
+    }
+}
+
+/// Cut so many bytes off a window's front.
+fn cut(window: &mut Window, bytes: u64) -> Window {
+    let lower = Window { base: window.base, bytes: window.bytes.drain(..bytes as usize).collect() };
+    window.base = window.base.wrapping_add(bytes);
+    lower
+}
+
+/// The one window as two that touch before an octabyte or after it, where it has it.
+pub fn split_at(random: &mut Random, case: &mut Case, address: u64) {
+    let Windows { a, b } = &mut case.windows;
+    if b.holds(address) {
+        let at = b.distance(address) + random.pick(&[0, 8]);
+        *a = cut(b, at);
+    }
+    if random.one_in(2) {
+        case.windows.exchange();
+    }
+}
+
+/// Make the two windows share octabytes: one at either end, all of one, or any. Neither is empty, and both keep their rule.
+pub fn share(random: &mut Random, case: &mut Case) {
+    let Windows { a, b } = &mut case.windows;
+    for window in [&mut *a, &mut *b] {
+        if window.bytes.is_empty() {
+            window.bytes = vec![0; 8 * random.range(1, 5) as usize];
+        }
+    }
+    if random.one_in(8) {
+        b.base = (8 * random.range(1, b.size() / 8)).wrapping_neg();
+    }
+    if random.one_in(8) {
+        a.bytes.resize(b.bytes.len(), 0x3C);
+    }
+    let (na, nb) = (a.size() / 8, b.size() / 8);
+    // By how many octabytes A's first comes after B's, na − 1 more so that it is not negative.
+    let shift = match random.below(8) {
+        0 | 1 => 0,
+        2 | 3 => na + nb - 2,
+        4 => na - 1,
+        5 => nb - 1,
+        _ => random.below(na + nb - 1),
+    };
+    a.base = b.base.wrapping_add(8 * shift).wrapping_sub(8 * (na - 1));
 }

@@ -6,8 +6,9 @@ use std::os::fd::AsRawFd;
 
 use oracle::case::{Instruction, Kind};
 use oracle::guards::{Guard, Guarded, WROTE_OUTSIDE};
+use oracle::lent::{Bases, Lent, Shown};
 use oracle::opcodes::STB;
-use oracle::state::{IMAGE_LEN, State};
+use oracle::state::{IMAGE_LEN, State, WINDOW_MAX};
 use oracle::subject::{Aim, Found, Parts, Subject};
 
 unsafe extern "C" {
@@ -54,20 +55,22 @@ impl Subject for Probe {
     fn initialize(&self, image: &mut [u8]) -> u64 {
         self.around(image)
     }
-    fn step(&self, _: u64, _: Instruction, _: &mut [u8], window: &mut [u8]) -> u64 {
-        self.around(window)
+    /// X says around which window.
+    fn step(&self, i: Instruction, _: &mut [u8], lent: Lent) -> u64 {
+        self.around(if i.x == 0 { lent.a } else { lent.b })
     }
     fn exceptions(&self, _: u8, _: Instruction, _: u64, _: u64, _: &mut [u8]) -> u64 {
         0
     }
-    fn context(&self, _: u64, _: u64, _: &[u8], _: Found) -> u64 {
-        0
+    /// Around the eight bytes that say which.
+    fn context(&self, _: u64, _: Shown, found: Found) -> u64 {
+        self.around(unsafe { std::slice::from_raw_parts_mut(std::ptr::from_mut(found.which).cast(), 8) })
     }
-    fn step_lent(&self, _: u64, _: Instruction, _: &mut State, _: &mut [u8]) -> u64 {
-        0
+    fn step_lent(&self, i: Instruction, _: &mut State, lent: Lent) -> u64 {
+        self.around(if i.x == 0 { lent.a } else { lent.b })
     }
-    fn step_parts(&self, _: u64, _: Instruction, _: Parts, _: &mut [u8]) -> u64 {
-        0
+    fn step_parts(&self, i: Instruction, _: Parts, lent: Lent) -> u64 {
+        self.around(if i.x == 0 { lent.a } else { lent.b })
     }
     fn exceptions_parts(&self, _: u8, _: Instruction, _: u64, _: u64, _: Parts) -> u64 {
         0
@@ -85,26 +88,39 @@ impl Subject for Probe {
 }
 
 /// Two calls in turn: flush against the page after the buffer, then against the one before it. The buffer is an image;
-/// a step's window, where loads and stores of its last bytes and its first go; the four bytes of a field.
-fn twice(probe: Probe) -> [[u64; 2]; 3] {
+/// window A or B of a step by each of its functions, where loads and stores of its last bytes and its first go, the other one
+/// as long as a window may be; the reader's word which window it is; the four bytes of a field.
+fn twice(probe: Probe) -> [[u64; 2]; 9] {
     let guarded = Guarded::new(Box::new(probe), Guard::Pages);
-    let (mut image, mut window) = (vec![0; IMAGE_LEN], vec![0; 64]);
-    let i = Instruction { op: STB, x: 1, y: 2, z: 3 };
+    let (mut image, mut state) = (vec![0; IMAGE_LEN], State::zero());
+    let at = Bases { a: 0, b: 1 << 32 };
+    let mut step = |x: u8, call: u8| {
+        let i = Instruction { op: STB, x, y: 2, z: 3 };
+        let (mut a, mut b) =
+            if x == 0 { (vec![0; 64], vec![0; WINDOW_MAX]) } else { (vec![0; WINDOW_MAX], vec![0; 64]) };
+        let lent = Lent { at, a: &mut a, b: &mut b };
+        match call {
+            0 => guarded.step(i, &mut image, lent),
+            1 => guarded.step_lent(i, &mut state, lent),
+            _ => guarded.step_parts(i, (&mut state).into(), lent),
+        }
+    };
+    let steps = [(0, 0), (1, 0), (0, 1), (1, 1), (0, 2), (1, 2)].map(|(x, call)| [step(x, call), step(x, call)]);
+    let shown = || Shown { at, a: &[0; 16], b: &[0; 24] };
+    let context = || guarded.context(0, shown(), Found { which: &mut 0, start: &mut 0, length: &mut 0 });
     let field = || guarded.field(Kind::Jump, 0, 4, Aim { backward: &mut 0, field: &mut 0 });
-    [
-        [guarded.initialize(&mut image), guarded.initialize(&mut image)],
-        [guarded.step(0, i, &mut image, &mut window), guarded.step(0, i, &mut image, &mut window)],
-        [field(), field()],
-    ]
+    let [s0, s1, s2, s3, s4, s5] = steps;
+    let first = [guarded.initialize(&mut image), guarded.initialize(&mut image)];
+    [first, s0, s1, s2, s3, s4, s5, [context(), context()], [field(), field()]]
 }
 
 #[test]
 fn pages_beside_a_buffer_cannot_be_touched() {
-    assert_eq!(twice(Probe::ReadAround), [[2, 1]; 3]);
+    assert_eq!(twice(Probe::ReadAround), [[2, 1]; 9]);
 }
 
 #[test]
 fn canaries_see_a_byte_written() {
-    assert_eq!(twice(Probe::WriteAfter), [[2, WROTE_OUTSIDE]; 3]);
-    assert_eq!(twice(Probe::WriteBefore), [[WROTE_OUTSIDE, 1]; 3]);
+    assert_eq!(twice(Probe::WriteAfter), [[2, WROTE_OUTSIDE]; 9]);
+    assert_eq!(twice(Probe::WriteBefore), [[WROTE_OUTSIDE, 1]; 9]);
 }

@@ -6,6 +6,7 @@ mod common;
 
 use common::{special, start, step};
 use oracle::case::Case;
+use oracle::lent::Windows;
 use oracle::opcodes::*;
 use oracle::state::*;
 
@@ -110,7 +111,7 @@ fn push_of_a_global_pushes_all_locals() {
     let mut other = case.clone();
     done(&mut case, PUSHJ, 255, 0, 5);
     done(&mut other, PUSHJ, 3, 0, 5);
-    assert_eq!((case.state, case.window), (other.state, other.window));
+    assert_eq!((case.state, case.windows), (other.state, other.windows));
 }
 
 /// "Registers": a marginal register that is set becomes local, and rL grows to include it; those that become local
@@ -135,7 +136,7 @@ fn pushed_registers_lie_below_ro() {
     let mut case = routine(&[10, 11, 12, 13]);
     done(&mut case, PUSHJ, 2, 0, 5);
     done(&mut case, PUSHJ, 0, 0, 5);
-    let stored: Vec<u64> = case.window.chunks_exact(8).take(4).map(octabyte).collect();
+    let stored: Vec<u64> = case.windows.b.bytes.chunks_exact(8).take(4).map(octabyte).collect();
     assert_eq!(stored, [10, 11, 2, 0]);
     assert_eq!(special(&case, RO), STACK_START + 32);
 }
@@ -161,7 +162,7 @@ fn save_stores_in_this_order() {
     expected.extend((250..256).map(|k| 1000 + k));
     expected.extend(order.map(|r| 2000 + r as u64));
     expected.push(250 << 56 | 0x2_1234);
-    let stored: Vec<u64> = case.window.chunks_exact(8).take(expected.len()).map(octabyte).collect();
+    let stored: Vec<u64> = case.windows.b.bytes.chunks_exact(8).take(expected.len()).map(octabyte).collect();
     assert_eq!(stored, expected);
     let top = STACK_START + 8 * (expected.len() as u64 - 1);
     assert_eq!((case.state.general[255], special(&case, RL)), (top, 0));
@@ -179,7 +180,7 @@ fn save_stores_in_this_order() {
 /// Fascicle 1, "Loading and storing": M8[1000] = #0123456789abcdef, $2 = 1000.
 fn memory(third: u64) -> Case {
     let mut case = routine(&[0, 0, 1000, third]);
-    (case.base, case.window) = (1000, 0x0123_4567_89AB_CDEF_u64.to_be_bytes().to_vec());
+    case.windows = Windows::one(1000, 0x0123_4567_89AB_CDEF_u64.to_be_bytes().to_vec());
     case
 }
 
@@ -188,9 +189,9 @@ fn memory(third: u64) -> Case {
 fn loads_extend_the_sign_or_zeros() {
     let loaded = |op: u8, third: u64| {
         let mut case = memory(third);
-        let kept = case.window.clone();
+        let kept = case.windows.clone();
         done(&mut case, op, 1, 2, 3);
-        assert_eq!((case.state.pc, &case.window), (0x1004, &kept));
+        assert_eq!((case.state.pc, &case.windows), (0x1004, &kept));
         case.state.general[1]
     };
     let signed = [LDB, LDW, LDT, LDO];
@@ -210,7 +211,7 @@ fn immediate_forms_take_z() {
     done(&mut case, LDB + 1, 1, 2, 5);
     assert_eq!(case.state.general[1], 0xFFFF_FFFF_FFFF_FFAB);
     done(&mut case, STOU + 1, 2, 2, 7);
-    assert_eq!(octabyte(&case.window), 1000);
+    assert_eq!(octabyte(&case.windows.b.bytes), 1000);
 }
 
 /// −65536, which a tetra holds and a wyde does not.
@@ -232,7 +233,7 @@ fn stores_overflow_where_the_value_does_not_fit() {
         let mut case = to_store(0x1_0001, 0);
         done(&mut case, op, 1, 2, 3);
         assert_eq!(case.state.pc, 0x1004);
-        (octabyte(&case.window), special(&case, RA))
+        (octabyte(&case.windows.b.bytes), special(&case, RA))
     };
     let (byte, wyde, tetra) = (0x0123_4567_8900_CDEF, 0x0123_4567_0000_CDEF, 0x0123_4567_FFFF_0000);
     assert_eq!([STB, STW].map(stored), [(byte, 0x1_0041), (wyde, 0x1_0041)]);
@@ -248,7 +249,7 @@ fn an_enabled_overflow_trips() {
         let mut case = to_store(0x4001, marks);
         let mut expected = case.state.clone();
         assert_eq!(step(&mut case, STB, 1, 2, 3).reply, reply);
-        assert_eq!(octabyte(&case.window), 0x0123_4567_8900_CDEF);
+        assert_eq!(octabyte(&case.windows.b.bytes), 0x0123_4567_8900_CDEF);
         (expected.special[RB], expected.general[255]) = (0x5555, 0x2222);
         (expected.special[RW], expected.special[RX]) = (0x1004, 0x8000_0000_A001_0203);
         (expected.special[RY], expected.special[RZ]) = (1005, WIDE);
@@ -262,7 +263,7 @@ fn an_enabled_overflow_trips() {
 fn a_trip_of_255_stores_it_first() {
     let mut case = to_store(0x4000, MARKS_MAX);
     done(&mut case, STB, 255, 2, 3);
-    assert_eq!(octabyte(&case.window), 0x0123_4567_8955_CDEF);
+    assert_eq!(octabyte(&case.windows.b.bytes), 0x0123_4567_8955_CDEF);
     assert_eq!([RB, RZ].map(|r| special(&case, r)), [0x5555; 2]);
     assert_eq!(case.state.general[255], 0x2222);
 }

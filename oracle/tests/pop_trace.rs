@@ -46,12 +46,12 @@ impl Pop {
     fn drawn(random: &mut Random, [rg, rl, x, hole]: [u64; 4]) -> Self {
         let mut case = start();
         case.state.general.fill_with(|| random.any() | 1);
-        case.window = (0..=hole).flat_map(|_| (random.any() | 1).to_be_bytes()).collect();
+        case.windows.b.bytes = (0..=hole).flat_map(|_| (random.any() | 1).to_be_bytes()).collect();
         let at = 8 * hole as usize;
-        case.window[at..].copy_from_slice(&(random.any() << 8 | hole).to_be_bytes());
+        case.windows.b.bytes[at..].copy_from_slice(&(random.any() << 8 | hole).to_be_bytes());
         (case.state.special[RG], case.state.special[RL]) = (rg, rl);
         case.state.special[RO] = STACK_START + 8 * (hole + 1);
-        let locals = case.window.chunks_exact(8).take(hole.min(rg) as usize).map(octabyte).collect();
+        let locals = case.windows.b.bytes.chunks_exact(8).take(hole.min(rg) as usize).map(octabyte).collect();
         let (popped, before) = (Popped { x, rl, rg, hole, locals }, case.state.general);
         assert_eq!(step(&mut case, POP, x as u8, 0, 0).reply, 0);
         Self { popped, before, last: case.state.general, new_rl: special(&case, RL) }
@@ -115,10 +115,10 @@ fn once<'a>(pop: &Pop, writes: impl Iterator<Item = &'a (u64, u64)>) -> Result<(
     Ok(())
 }
 
-/// rG and rL at their limits, X at its turns, every hole.
-fn every(mut run: impl FnMut(&Pop)) {
+/// rL at its limits, X at its turns, every hole.
+fn every(thresholds: &[u64], mut run: impl FnMut(&Pop)) {
     let mut random = Random::new(4, 0);
-    for rg in [32, 33, 100, 254, 255u64] {
+    for &rg in thresholds {
         for rl in [0, 1, 2, rg / 2, rg - 1, rg] {
             let mut turns =
                 vec![0, 1, 2, 3, rl.saturating_sub(1), rl, rl + 1, rl + 2, rg - 1, rg, rg + 1, 255, random.below(256)];
@@ -135,7 +135,7 @@ fn every(mut run: impl FnMut(&Pop)) {
 #[test]
 fn restored_first_and_cleared_after() {
     let mut met = [0; 6];
-    every(|pop| {
+    every(&[32, 33, 100, 254, 255], |pop| {
         let Popped { x, rl, rg, hole, .. } = pop.popped;
         assert_eq!((pop.popped.new_rl(), pop.judged(STAGES)), (pop.new_rl, Ok(())), "rG {rg} rL {rl} X {x} H {hole}");
         let kinds = [x == 0, x > rl, hole >= rg, hole + x > rg && x > 0, x > hole + 2 && x <= rl, pop.new_rl == rg];
@@ -147,7 +147,7 @@ fn restored_first_and_cleared_after() {
 /// How many POPs there are of those that `ill` names: these are refused, and no others.
 fn refused(stages: [Stage; 2], ill: fn(&Pop) -> bool) -> u64 {
     let mut found = 0;
-    every(|pop| {
+    every(&[40], |pop| {
         assert_eq!(pop.judged(stages).is_err(), ill(pop));
         found += ill(pop) as u64;
     });
@@ -169,7 +169,7 @@ fn clearing_all_first_is_refused() {
         (0..popped.rg).for_each(|k| registers.write(k, 0));
         restored_from(sources, popped, registers);
     }
-    assert!(refused([cleared_first, |_, _| {}], |_| true) > 50_000);
+    assert!(refused([cleared_first, |_, _| {}], |_| true) > 10_000);
 }
 
 /// The right registers to zero, but before the others are written.
@@ -180,7 +180,7 @@ fn clearing_the_range_first_is_refused() {
         popped.cleared_after(registers);
         restored_from(sources, popped, registers);
     }
-    assert!(refused([cleared_first, |_, _| {}], |pop| !pop.cleared().is_empty()) > 10_000);
+    assert!(refused([cleared_first, |_, _| {}], |pop| !pop.cleared().is_empty()) > 1000);
 }
 
 #[test]
@@ -192,7 +192,7 @@ fn a_hole_written_with_no_outputs_is_refused() {
         popped.restored_first(registers);
     }
     let ill = |pop: &Pop| pop.popped.x == 0 && pop.popped.hole < pop.popped.rg;
-    assert!(refused([with_hole, Popped::cleared_after], ill) > 1000);
+    assert!(refused([with_hole, Popped::cleared_after], ill) > 200);
 }
 
 /// Outputs moved up from the first on: where one lands on the source of another, which is read after it.
@@ -209,5 +209,5 @@ fn outputs_over_their_sources_are_refused() {
         others.iter().for_each(|(k, value)| registers.write(*k, *value));
     }
     let overlap = |pop: &Pop| pop.new_rl > 2 * (pop.popped.hole + 1);
-    assert!(refused([upward, Popped::cleared_after], overlap) > 1000);
+    assert!(refused([upward, Popped::cleared_after], overlap) > 200);
 }

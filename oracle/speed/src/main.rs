@@ -8,7 +8,8 @@
 //! the ratios, each with its target and whether it is met. The Rust has no arm for loads, stores and arithmetic: they are
 //! checked by the model, and set against a branch; a subject that has no such arm either has no times there. Arithmetic has
 //! in the Rust's column the operation alone, by Rust's own integers; a division there is one of 128 bits by 64, without
-//! the remainder. Finding a field has a line of its own.
+//! the remainder. The window is lent as B; A is empty, or, where the name says so, the bench program's. Finding a field has a
+//! line of its own.
 
 mod points;
 mod report;
@@ -17,6 +18,7 @@ use std::hint::black_box;
 use std::time::Instant;
 
 use oracle::case::{self, Instruction};
+use oracle::lent::{Lent, Window, Windows};
 use oracle::model::Model;
 use oracle::opcodes::{ADD, CMP, DIV, DIVU, MUL, MULU, PUT, PUTI, RESUME, SL, SRU, TRAP};
 use oracle::state::{RD, STACK_START, State};
@@ -118,24 +120,30 @@ fn rust_fetched(point: &Point) -> f64 {
     })
 }
 
-/// A point's steps, each by `step`, on a state and a window that stay from call to call.
-fn on_state(point: &Point, step: impl Fn(Instruction, &mut State, &mut [u8]) -> u64) -> f64 {
+/// A point's windows: A at 0, B in the stack.
+fn windows(point: &Point, byte: u8) -> Windows {
+    let window = |base: u64, len: usize| Window { base, bytes: vec![byte; len] };
+    Windows { a: window(0, point.a), b: window(STACK_START, WINDOW_LEN) }
+}
+
+/// A point's steps, each by `step`, on a state and windows that stay from call to call.
+fn on_state(point: &Point, step: impl Fn(Instruction, &mut State, Lent) -> u64) -> f64 {
     let Work::Steps(code) = &point.work else { return Row::NO_TIME };
-    let (mut state, mut window) = (point.state.clone(), vec![0; WINDOW_LEN]);
+    let (mut state, mut windows) = (point.state.clone(), windows(point, 0));
     least(|| {
         for i in code {
-            black_box(step(*i, &mut state, &mut window));
+            black_box(step(*i, &mut state, windows.lend()));
         }
     })
 }
 
 /// A point's steps, or its exception, on an image.
 fn on_image(subject: &impl Subject, point: &Point) -> f64 {
-    let (mut image, mut window) = (point.state.image(), vec![0; WINDOW_LEN]);
+    let (mut image, mut windows) = (point.state.image(), windows(point, 0));
     match &point.work {
         Work::Steps(code) => least(|| {
             for i in code {
-                black_box(subject.step(STACK_START, *i, &mut image, &mut window));
+                black_box(subject.step(*i, &mut image, windows.lend()));
             }
         }),
         Work::Exceptions(flags) => {
@@ -150,8 +158,8 @@ fn on_image(subject: &impl Subject, point: &Point) -> f64 {
 /// Whether the subject does a point's steps.
 fn does(subject: &impl Subject, point: &Point) -> bool {
     let Work::Steps(code) = &point.work else { return true };
-    let (mut state, mut window) = (point.state.clone(), vec![0; WINDOW_LEN]);
-    code.iter().all(|i| subject.step_lent(STACK_START, *i, &mut state, &mut window) == 0)
+    let (mut state, mut windows) = (point.state.clone(), windows(point, 0));
+    code.iter().all(|i| subject.step_lent(*i, &mut state, windows.lend()) == 0)
 }
 
 /// The same operation by Rust's own integers.
@@ -184,11 +192,10 @@ fn rust_operation(point: &Point) -> f64 {
 /// A load, store or operation that the subject does leaves what the model says.
 fn check_by_model(subject: &impl Subject, point: &Point) {
     let left = |subject: &dyn Subject| {
-        let (mut state, mut window) = (point.state.clone(), vec![0x9C; WINDOW_LEN]);
+        let (mut state, mut windows) = (point.state.clone(), windows(point, 0x9C));
         let Work::Steps(code) = &point.work else { unreachable!("a step") };
-        let replies: Vec<u64> =
-            code.iter().map(|i| subject.step_lent(STACK_START, *i, &mut state, &mut window)).collect();
-        (replies, state, window)
+        let replies: Vec<u64> = code.iter().map(|i| subject.step_lent(*i, &mut state, windows.lend())).collect();
+        (replies, state, windows)
     };
     assert!(!does(subject, point) || left(subject) == left(&Model), "{}: differs", point.name);
 }
@@ -199,11 +206,11 @@ fn check(subject: &impl Subject, point: &Point) {
         return check_by_model(subject, point);
     }
     let mut machine = machine(point);
-    let (mut state, mut window) = (point.state.clone(), vec![0; WINDOW_LEN]);
+    let (mut state, mut windows) = (point.state.clone(), windows(point, 0));
     let Work::Steps(code) = &point.work else { return };
     for i in code {
         let goes_on = enter(&mut machine, opcode(i), i);
-        let reply = subject.step_lent(STACK_START, *i, &mut state, &mut window);
+        let reply = subject.step_lent(*i, &mut state, windows.lend());
         assert!(goes_on && reply == 0, "{}: {i:?} is refused", point.name);
     }
     assert!(machine.general() == &state.general && machine.special() == &state.special, "{}: differs", point.name);
@@ -218,8 +225,8 @@ fn measured(subject: &impl Subject, point: &Point) -> Row {
     Row {
         arm: if in_rust { rust_arm(point) } else { rust_operation(point) },
         fetched: if in_rust { rust_fetched(point) } else { Row::NO_TIME },
-        parts: on_state(point, |i, state, window| subject.step_parts(STACK_START, i, state.into(), window)),
-        lent: on_state(point, |i, state, window| subject.step_lent(STACK_START, i, state, window)),
+        parts: on_state(point, |i, state, lent| subject.step_parts(i, state.into(), lent)),
+        lent: on_state(point, |i, state, lent| subject.step_lent(i, state, lent)),
         image: on_image(subject, point),
     }
 }

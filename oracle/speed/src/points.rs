@@ -40,6 +40,8 @@ pub struct Point {
     pub name: String,
     pub kind: Kind,
     pub state: State,
+    /// Bytes of window A, which is at 0.
+    pub a: usize,
     pub work: Work,
 }
 
@@ -67,7 +69,7 @@ fn start(rg: u64, rl: u64) -> State {
 
 fn steps(name: &str, state: State, code: &[[u8; 4]]) -> Point {
     let code = code.iter().map(|&[op, x, y, z]| Instruction { op, x, y, z }).collect();
-    Point { name: name.to_string(), kind: Kind::Simple, state, work: Work::Steps(code) }
+    Point { name: name.to_string(), kind: Kind::Simple, state, a: 0, work: Work::Steps(code) }
 }
 
 fn memory(name: &str, times: u64, state: State, code: &[[u8; 4]]) -> Point {
@@ -77,7 +79,7 @@ fn memory(name: &str, times: u64, state: State, code: &[[u8; 4]]) -> Point {
 fn exceptions(name: &str, enables: u64, flags: u8) -> Point {
     let mut state = start(32, 10);
     state.special[RA] = enables << 8;
-    Point { name: name.to_string(), kind: Kind::Exception, state, work: Work::Exceptions(flags) }
+    Point { name: name.to_string(), kind: Kind::Exception, state, a: 0, work: Work::Exceptions(flags) }
 }
 
 /// A load or store in place: A is $5 + $1, the last byte of an octabyte.
@@ -86,6 +88,23 @@ fn transfer(name: &str, op: u8) -> Point {
     (state.general[5], state.general[1]) = (STACK_START + 64, 7);
     Point { kind: Kind::Transfer, ..steps(name, state, &[[op, 3, 5, 1]]) }
 }
+
+/// The same with A lent too; its operand is in A, or in B.
+fn transfer_beside(name: &str, op: u8, in_a: bool) -> Point {
+    let mut point = transfer(name, op);
+    if in_a {
+        point.state.general[5] = 64;
+    }
+    beside(point)
+}
+
+/// A point with A of the bench program's size lent too.
+fn beside(point: Point) -> Point {
+    Point { name: point.name + ", A lent", a: LENT, ..point }
+}
+
+/// Bytes of A in the bench program.
+const LENT: usize = 2048;
 
 /// X, Y and Z of an operation in place.
 pub const OPERATION: [u8; 3] = [3, 5, 1];
@@ -154,6 +173,21 @@ pub fn points() -> Vec<Point> {
     for rg in [32, 255] {
         let name = format!("SAVE + UNSAVE, rG {rg}");
         points.push(memory(&name, 20, start(rg, 10), &[[SAVE, 255, 0, 0], [UNSAVE, 0, 0, 255]]));
+    }
+    points.extend([
+        beside(steps("branch taken", plain(), &[[BNZ, 1, 0, 5]])),
+        transfer_beside("LDO of B", LDO, false),
+        transfer_beside("LDO of A", LDO, true),
+        transfer_beside("STO of B", STO, false),
+        transfer_beside("STO of A", STO, true),
+    ]);
+    for (hole, rg) in [(0, 32), (8, 32), (31, 32), (200, 255)] {
+        let (name, times) = (format!("PUSHJ + POP, H {hole}, rG {rg}"), if hole == 0 { 4 } else { 20 });
+        points.push(beside(memory(&name, times, start(rg, hole as u64), &[[PUSHJ, hole, 0, 5], [POP, 0, 0, 0]])));
+    }
+    for rg in [32, 255] {
+        let name = format!("SAVE + UNSAVE, rG {rg}");
+        points.push(beside(memory(&name, 20, start(rg, 10), &[[SAVE, 255, 0, 0], [UNSAVE, 0, 0, 255]])));
     }
     points
 }

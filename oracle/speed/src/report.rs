@@ -73,10 +73,10 @@ fn targets(point: &Point, row: &Row, copy: f64, branch: f64) -> Vec<Target> {
 }
 
 pub fn print(points: &[Point], rows: &[Row], copy: f64) {
-    println!("{:<28}{:>10}{:>10}{:>10}{:>10}{:>10}", "point", "arm", "fetched", "parts", "lent", "image");
+    println!("{:<34}{:>10}{:>10}{:>10}{:>10}{:>10}", "point", "arm", "fetched", "parts", "lent", "image");
     for (row, point) in rows.iter().zip(points) {
         let columns = row.columns().map(|t| if t.is_finite() { format!("{t:>10.1}") } else { format!("{:>10}", "-") });
-        println!("{:<28}{}", point.name, columns.concat());
+        println!("{:<34}{}", point.name, columns.concat());
     }
     println!();
     let branch = points.iter().position(|point| point.name == BRANCH).map_or(f64::NAN, |k| rows[k].parts);
@@ -85,7 +85,7 @@ pub fn print(points: &[Point], rows: &[Row], copy: f64) {
             let Target { what, ratio, bound, at_most } = target;
             let (sense, verdict) = (if at_most { "at most" } else { "at least" }, target.met());
             let verdict = if verdict { "met" } else { "NOT MET" };
-            println!("{:<28}{what:<18}{ratio:>8.2}   {sense:<8} {bound:>3}   {verdict}", point.name);
+            println!("{:<34}{what:<18}{ratio:>8.2}   {sense:<8} {bound:>3}   {verdict}", point.name);
         }
     }
 }

@@ -12,6 +12,8 @@ use std::process::ExitCode;
 use std::{env, fs};
 
 use oracle::case::{Call, Instruction};
+use oracle::lendings::{self, LENDINGS};
+use oracle::lent::{Window, Windows};
 use oracle::opcodes::{is_arithmetic, is_transfer};
 use oracle::points::{Point, SHORT};
 use oracle::situations::{self, SITUATIONS};
@@ -53,11 +55,15 @@ fn state(s: &State) -> String {
     format!("(state {} {} {pc} {halt} {marks})", runs(&s.general), runs(&s.special))
 }
 
-fn window(base: u64, bytes: &[u8]) -> String {
+fn windows(Windows { a, b }: &Windows) -> String {
+    format!("(windows {} {})", window(a), window(b))
+}
+
+fn window(Window { base, bytes }: &Window) -> String {
     let mut whole = bytes.to_vec();
     whole.resize(bytes.len().next_multiple_of(8), 0);
     let octabytes: Vec<u64> = whole.chunks_exact(8).map(octabyte).collect();
-    format!("(window {} {} {})", number(base), bytes.len(), runs(&octabytes))
+    format!("(window {} {} {})", number(*base), bytes.len(), runs(&octabytes))
 }
 
 fn instruction(Instruction { op, x, y, z }: Instruction) -> String {
@@ -79,20 +85,20 @@ fn written(point: &Point) -> String {
         Point::Single { case, answer, touched } => {
             let Call::Step(i) = case.call else { unreachable!("a step") };
             let (before, after) = (state(&case.state), state(&answer.state));
-            let (lent, left) = (window(case.base, &case.window), window(case.base, &answer.window));
+            let (lent, left) = (windows(&case.windows), windows(&answer.windows));
             let (done, reply) = (instruction(i), answer.reply);
             format!("single {before}\n    {lent} {done} {reply}\n    {after}\n    {left} {}", runs(touched))
         }
-        Point::List { start, calls, replies, state: after, window: bytes } => {
+        Point::List { start, calls, replies, state: after, windows: last } => {
             let (before, after) = (state(&start.state), state(after));
-            let (lent, left) = (window(start.base, &start.window), window(start.base, bytes));
+            let (lent, left) = (windows(&start.windows), windows(last));
             let (items, replies) = (list(calls.iter().map(item)), list(replies.iter().map(u64::to_string)));
             format!("list {before}\n    {lent} {items} {replies}\n    {after}\n    {left}")
         }
         Point::Context { case, answer } => {
             let Call::Context { address } = case.call else { unreachable!("a context") };
-            let (lent, part) = (window(case.base, &case.window), &answer.part);
-            format!("context {lent} {} {} {} {}", number(address), answer.reply, part.start, part.len())
+            let (lent, part, which) = (windows(&case.windows), &answer.part, answer.which);
+            format!("context {lent} {} {} {which} {} {}", number(address), answer.reply, part.start, part.len())
         }
         Point::Initial { state: after } => format!("initial {}", state(after)),
     }
@@ -157,7 +163,7 @@ fn proof(models: &[(String, String)], part: usize, cases: &[String]) -> String {
 fn spec(part: usize, points: &[Point], cases: &[String]) -> String {
     let mut text = format!("-- Part {part} of the answers.\n");
     text += "use mathlib.Core.List.{List, [], _∷_}\nuse Rattle.model.specs.Step.{step, exception}\n";
-    text += "use Rattle.definitions.specs.Cases.{Case, single, list, context, initial, run, state, window}\n";
+    text += "use Rattle.definitions.specs.Cases.{Case, single, list, context, initial, run, state, window, windows}\n";
     for (case, point) in cases.iter().zip(points) {
         text += &format!("\nunfoldable pub {case} : Case\n{case} =\n    {}\n", written(point));
     }
@@ -188,23 +194,26 @@ fn write(folder: &str, points: &[Point]) -> std::io::Result<()> {
 }
 
 fn summary(points: &mut [Point]) -> String {
-    let (mut kinds, mut items, mut replies, mut long) = ([0; 4], 0, [0; 21], 0);
+    let (mut kinds, mut items, mut replies, mut long) = ([0; 4], 0, [0; 24], 0);
     let (mut transfers, mut operations) = (0, 0);
-    let mut counts = [0; SITUATIONS.len()];
+    let (mut counts, mut lent) = ([0; SITUATIONS.len()], [0; LENDINGS.len()]);
     for point in points {
         if let Point::Single { case, answer, .. } = point {
             situations::count(case, answer, &mut counts);
             transfers += matches!(case.call, Call::Step(i) if is_transfer(i.op)) as u64;
             operations += matches!(case.call, Call::Step(i) if is_arithmetic(i.op)) as u64;
         }
-        let (kind, bytes) = match point {
-            Point::Single { case, .. } => (0, case.window.len()),
-            Point::List { start, .. } => (1, start.window.len()),
-            Point::Context { case, .. } => (2, case.window.len()),
-            Point::Initial { .. } => (3, 0),
+        if let Point::Single { case, answer, .. } | Point::Context { case, answer } = point {
+            lendings::count(case, answer, &mut lent);
+        }
+        let (kind, lent) = match point {
+            Point::Single { case, .. } => (0, Some(&case.windows)),
+            Point::List { start, .. } => (1, Some(&start.windows)),
+            Point::Context { case, .. } => (2, Some(&case.windows)),
+            Point::Initial { .. } => (3, None),
         };
         kinds[kind] += 1;
-        long += (bytes > 4 * SHORT) as u64;
+        long += lent.is_some_and(|w| w.a.bytes.len().max(w.b.bytes.len()) > 4 * SHORT) as u64;
         for reply in point.replies() {
             items += (kind == 1) as u64;
             replies[*reply as usize] += 1;
@@ -212,9 +221,10 @@ fn summary(points: &mut [Point]) -> String {
     }
     let [singles, lists, contexts, initials] = kinds;
     let (met, all) = (counts.iter().filter(|n| **n > 0).count(), SITUATIONS.len());
+    let (lent, lendings) = (lent.iter().filter(|n| **n > 0).count(), LENDINGS.len());
     format!(
         "{singles} single steps with their needs, {transfers} loads and stores and {operations} of arithmetic among them, in \
-         {met} of {all} situations at limits; {items} steps and exceptions in {lists} lists; {contexts} contexts; {initials} initial state; {long} windows above {} bytes; replies 0 to 20: \
+         {met} of {all} situations at limits and {lent} of {lendings} of the windows; {items} steps and exceptions in {lists} lists; {contexts} contexts; {initials} initial state; {long} with a window above {} bytes; replies 0 to 23: \
          {replies:?}",
         4 * SHORT
     )

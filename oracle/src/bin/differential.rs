@@ -123,6 +123,8 @@ impl Runner<'_> {
             fields::sweep(&mut |case| self.run(case))?;
             sweep::results(&mut |case| self.run(case))?;
             sweep::raised(&mut |case| self.run(case))?;
+            sweep::distances(&mut |case| self.run(case))?;
+            sweep::cuts(&mut |case| self.run(case))?;
         }
         Some(())
     }

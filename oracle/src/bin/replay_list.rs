@@ -6,7 +6,7 @@
 //! The file is octabytes, high byte first: the number of records, then the records. A record is
 //!  1      the call as bytes: kind (0 step, 1 exceptions), flags, op, X, Y, Z, 0, 0
 //!  2, 3   the two operands of an exception; 0 for a step
-//!  4, 5   the window's base; its length in octabytes, at most 512
+//!  4, 5   the window's base; its length in octabytes, at most 512. It is lent as B; A is empty at 0
 //!  6, 7   g, h: $k is g + k × h for k below rL and for k from rG to 255, the others are 0
 //!  8, 9   s, t: special k is s + k × t, the five below apart
 //! 10, 11  w, v: octabyte j of the window is w + j × v
@@ -25,7 +25,7 @@ use oracle::case::{Call, Case};
 use oracle::opcodes::*;
 use oracle::random::Random;
 use oracle::reference::Reference;
-use oracle::rounds::{exception, single};
+use oracle::rounds::{exception, with_one};
 use oracle::starts::{FIELDS, Start};
 use oracle::state::{IMAGE_LEN, RG, RL, RO, State, octabyte};
 use oracle::subject::{Subject, chosen};
@@ -59,10 +59,10 @@ fn results(reply: u64, state: &State, window: &[u8]) -> [u64; RESULTS] {
 fn drawn(random: &mut Random, number: u64) -> Option<Case> {
     let turn = (number % (OPCODES.len() as u64 + 2)) as usize;
     let case = match OPCODES.get(turn) {
-        Some(op) => single(random, *op),
+        Some(op) => with_one(random, *op),
         None => exception(random),
     };
-    let fits = case.state.admissible() && case.image_len == IMAGE_LEN && case.window.len() <= 8 * WINDOW_MOST;
+    let fits = case.state.admissible() && case.image_len == IMAGE_LEN && case.windows.b.bytes.len() <= 8 * WINDOW_MOST;
     fits.then_some(case)
 }
 
@@ -78,7 +78,7 @@ fn write(file: &str, records: u64, seed: u64) -> Result<(), String> {
         list.extend(start.fields);
         list.push(start.places.len() as u64);
         list.extend(start.places.iter().flat_map(|(place, value)| [*place, *value]));
-        list.extend(results(answer.reply, &answer.state, &answer.window));
+        list.extend(results(answer.reply, &answer.state, &answer.windows.b.bytes));
         written += 1;
     }
     let bytes: Vec<u8> = list.iter().flat_map(|v| v.to_be_bytes()).collect();
@@ -88,13 +88,13 @@ fn write(file: &str, records: u64, seed: u64) -> Result<(), String> {
 
 /// What the subject leaves of a case.
 fn replayed(subject: &impl Subject, case: &Case) -> [u64; RESULTS] {
-    let (mut image, mut window) = (case.state.image(), case.window.clone());
+    let (mut image, mut windows) = (case.state.image(), case.windows.clone());
     let reply = match case.call {
-        Call::Step(i) => subject.step(case.base, i, &mut image, &mut window),
+        Call::Step(i) => subject.step(i, &mut image, windows.lend()),
         Call::Exceptions { flags, of, y_val, z_val } => subject.exceptions(flags, of, y_val, z_val, &mut image),
         _ => unreachable!("the list has steps and exceptions"),
     };
-    results(reply, &State::of_image(&image), &window)
+    results(reply, &State::of_image(&image), &windows.b.bytes)
 }
 
 fn check(file: &str) -> Result<(), String> {

@@ -11,6 +11,7 @@ use std::process::ExitCode;
 use std::{env, ptr};
 
 use oracle::case::{Call, Case, Instruction, Kind};
+use oracle::lent::{Lent, Shown, Windows};
 use oracle::reference::Reference;
 use oracle::rounds::{ROUND, round};
 use oracle::state::State;
@@ -63,20 +64,20 @@ impl Painted {
 /// One entry on many cases, each with its buffers.
 struct Work<'a> {
     subject: &'a dyn Subject,
-    entry: fn(&dyn Subject, &mut Lent),
-    cases: &'a mut [Lent],
+    entry: fn(&dyn Subject, &mut Buffers),
+    cases: &'a mut [Buffers],
 }
 
-struct Lent {
+struct Buffers {
     case: Case,
     image: Vec<u8>,
     state: State,
-    window: Vec<u8>,
+    windows: Windows,
 }
 
-impl Lent {
+impl Buffers {
     fn of(case: &Case) -> Self {
-        Self { image: case.image(), state: case.state.clone(), window: case.window.clone(), case: case.clone() }
+        Self { image: case.image(), state: case.state.clone(), windows: case.windows.clone(), case: case.clone() }
     }
 }
 
@@ -99,19 +100,19 @@ impl Subject for Nothing {
     fn initialize(&self, _: &mut [u8]) -> u64 {
         0
     }
-    fn step(&self, _: u64, _: Instruction, _: &mut [u8], _: &mut [u8]) -> u64 {
+    fn step(&self, _: Instruction, _: &mut [u8], _: Lent) -> u64 {
         0
     }
     fn exceptions(&self, _: u8, _: Instruction, _: u64, _: u64, _: &mut [u8]) -> u64 {
         0
     }
-    fn context(&self, _: u64, _: u64, _: &[u8], _: Found) -> u64 {
+    fn context(&self, _: u64, _: Shown, _: Found) -> u64 {
         0
     }
-    fn step_lent(&self, _: u64, _: Instruction, _: &mut State, _: &mut [u8]) -> u64 {
+    fn step_lent(&self, _: Instruction, _: &mut State, _: Lent) -> u64 {
         0
     }
-    fn step_parts(&self, _: u64, _: Instruction, _: Parts, _: &mut [u8]) -> u64 {
+    fn step_parts(&self, _: Instruction, _: Parts, _: Lent) -> u64 {
         0
     }
     fn exceptions_parts(&self, _: u8, _: Instruction, _: u64, _: u64, _: Parts) -> u64 {
@@ -128,7 +129,7 @@ impl Subject for Nothing {
     }
 }
 
-type Entry = fn(&dyn Subject, &mut Lent);
+type Entry = fn(&dyn Subject, &mut Buffers);
 
 /// The entries by name; each takes the cases that are its own.
 const ENTRIES: [(&str, Entry); 11] = [
@@ -139,7 +140,7 @@ const ENTRIES: [(&str, Entry); 11] = [
     }),
     ("mmix_step", |subject, lent| {
         if let Call::Step(i) = lent.case.call {
-            subject.step(lent.case.base, i, &mut lent.image, &mut lent.window);
+            subject.step(i, &mut lent.image, lent.windows.lend());
         }
     }),
     ("mmix_exceptions", |subject, lent| {
@@ -149,19 +150,19 @@ const ENTRIES: [(&str, Entry); 11] = [
     }),
     ("mmix_context", |subject, lent| {
         if let Call::Context { address } = lent.case.call {
-            let (mut start, mut length) = (0, 0);
-            let found = Found { start: &mut start, length: &mut length };
-            subject.context(lent.case.base, address, &lent.window, found);
+            let (mut which, mut start, mut length) = (0, 0, 0);
+            let found = Found { which: &mut which, start: &mut start, length: &mut length };
+            subject.context(address, lent.windows.show(), found);
         }
     }),
     ("mmix_step_lent", |subject, lent| {
         if let Call::Step(i) = lent.case.call {
-            subject.step_lent(lent.case.base, i, &mut lent.state, &mut lent.window);
+            subject.step_lent(i, &mut lent.state, lent.windows.lend());
         }
     }),
     ("mmix_step_parts", |subject, lent| {
         if let Call::Step(i) = lent.case.call {
-            subject.step_parts(lent.case.base, i, (&mut lent.state).into(), &mut lent.window);
+            subject.step_parts(i, (&mut lent.state).into(), lent.windows.lend());
         }
     }),
     ("mmix_exceptions_parts", |subject, lent| {
@@ -179,7 +180,7 @@ const ENTRIES: [(&str, Entry); 11] = [
     ("mmix_jump_field", |subject, lent| field(subject, lent, Kind::Jump)),
 ];
 
-fn field(subject: &dyn Subject, lent: &Lent, of: Kind) {
+fn field(subject: &dyn Subject, lent: &Buffers, of: Kind) {
     if let Call::Field { kind, from, to } = lent.case.call
         && kind == of
     {
@@ -198,7 +199,7 @@ fn depths(painted: &mut Painted, reference: &mut Reference, seed: u64, batch: u6
         });
     }
     let mut deep = |subject: &dyn Subject, entry| {
-        let mut cases: Vec<Lent> = cases.iter().map(Lent::of).collect();
+        let mut cases: Vec<Buffers> = cases.iter().map(Buffers::of).collect();
         painted.depth(&mut Work { subject, entry, cases: &mut cases })
     };
     ENTRIES.map(|(_, entry)| deep(&chosen(), entry).saturating_sub(deep(&Nothing, entry)))

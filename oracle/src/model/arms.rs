@@ -1,6 +1,6 @@
 //! The steps apart from the stack, and exceptions.
 
-use super::memory::Window;
+use super::memory::Memory;
 use super::{Changes, Outcome, arithmetic, loads, stack};
 use crate::case::Instruction;
 use crate::opcodes::*;
@@ -37,8 +37,8 @@ fn holds(condition: u8, value: u64) -> bool {
     }
 }
 
-/// From 3 on: the state is admissible and the window keeps its rule.
-pub fn step(state: &State, i: Instruction, window: &Window) -> Outcome {
+/// From 3 on: the state is admissible, both windows keep their rule and share no octabyte.
+pub fn step(state: &State, i: Instruction, memory: &Memory) -> Outcome {
     let Instruction { op, x, y, z } = i;
     let register = |r: u8| state.general[r as usize];
     let yz = 256 * y as u64 + z as u64;
@@ -53,25 +53,25 @@ pub fn step(state: &State, i: Instruction, window: &Window) -> Outcome {
             let pc = if taken { target(state, yz, 16, backward) } else { state.pc.wrapping_add(4) };
             Outcome::done(state.clone().go_to(pc))
         }
-        LDB..=LDOUI => loads::load(state, i, window),
-        STB..=STOUI => loads::store(state, i, window),
+        LDB..=LDOUI => loads::load(state, i, memory),
+        STB..=STOUI => loads::store(state, i, memory),
         GO | GOI => {
             let mut after = state.clone();
             after.write_register(x, state.pc.wrapping_add(4));
             Outcome::done(after.go_to(register(y).wrapping_add(second)))
         }
-        PUSHGO | PUSHGOI => stack::push(state, x, register(y).wrapping_add(second), window),
+        PUSHGO | PUSHGOI => stack::push(state, x, register(y).wrapping_add(second), memory),
         JMP | JMPB => Outcome::done(state.clone().go_to(target(state, xyz, 24, backward))),
-        PUSHJ | PUSHJB => stack::push(state, x, target(state, yz, 16, backward), window),
+        PUSHJ | PUSHJB => stack::push(state, x, target(state, yz, 16, backward), memory),
         GETA | GETAB => {
             let mut after = state.clone();
             after.write_register(x, target(state, yz, 16, backward));
             Outcome::done(after.go_on())
         }
         PUT | PUTI => put(state, x as usize, second),
-        POP => stack::pop(state, x, yz, window),
-        SAVE => stack::save(state, x, window),
-        UNSAVE => stack::unsave(state, register(z), window),
+        POP => stack::pop(state, x, yz, memory),
+        SAVE => stack::save(state, x, memory),
+        UNSAVE => stack::unsave(state, register(z), memory),
         SYNC => match xyz {
             0..=3 => Outcome::done(state.clone().go_on()),
             4..=7 => Outcome::refused(17, state),

@@ -2,7 +2,7 @@
 
 use std::ops::Range;
 
-use super::memory::{Window, octabyte_of};
+use super::memory::{Memory, octabyte_of};
 use super::{Changes, Outcome, arms};
 use crate::case::Instruction;
 use crate::state::State;
@@ -45,12 +45,12 @@ impl Operand {
 }
 
 /// $X becomes the operand, with copies of its sign to the left, or zeros where it is unsigned.
-pub fn load(state: &State, i: Instruction, window: &Window) -> Outcome {
+pub fn load(state: &State, i: Instruction, memory: &Memory) -> Outcome {
     let operand = Operand::of(state, i);
-    if !window.holds(operand.address) {
+    if !memory.holds(operand.address) {
         return Outcome::missing(state, operand.needs());
     }
-    let bytes = &window.read(operand.address).to_be_bytes()[operand.places()];
+    let bytes = &memory.read(operand.address).to_be_bytes()[operand.places()];
     let left = if operand.signed && bytes[0] >= 0x80 { u64::MAX } else { 0 };
     let mut after = state.clone();
     after.write_register(i.x, bytes.iter().fold(left, |value, byte| value << 8 | *byte as u64));
@@ -59,13 +59,13 @@ pub fn load(state: &State, i: Instruction, window: &Window) -> Outcome {
 
 /// The operand becomes the low bytes of $X; a signed one that can't hold $X raises V, with A and $X as the operands of
 /// the exception. Whatever comes of that, the store stays made.
-pub fn store(state: &State, i: Instruction, window: &Window) -> Outcome {
+pub fn store(state: &State, i: Instruction, memory: &Memory) -> Outcome {
     let operand = Operand::of(state, i);
-    if !window.holds(operand.address) {
+    if !memory.holds(operand.address) {
         return Outcome::missing(state, operand.needs());
     }
     let value = state.general[i.x as usize];
-    let mut bytes = window.read(operand.address).to_be_bytes();
+    let mut bytes = memory.read(operand.address).to_be_bytes();
     bytes[operand.places()].copy_from_slice(&value.to_be_bytes()[8 - operand.size..]);
     let flags = if operand.signed && !operand.holds(value) { V } else { 0 };
     let raised = arms::exceptions(state, flags, i, operand.address, value);

@@ -1,5 +1,5 @@
 //! Document 01 as a program, written from its sentences and not from the Rust. This file has the entries and
-//! what they judge; `memory` the window, `stack` frames and contexts, `loads` loads and stores and `arithmetic` whole-number
+//! what they judge; `memory` the two windows, `stack` frames and contexts, `loads` loads and stores and `arithmetic` whole-number
 //! arithmetic (Fascicle 1), `arms` the other steps; `fields` which field reaches an address.
 
 mod arithmetic;
@@ -10,9 +10,10 @@ mod memory;
 mod stack;
 
 use crate::case::{Instruction, Kind};
-use crate::state::{IMAGE_LEN, RG, RK, RL, RN, RO, RS, RT, RTT, RV, STACK_START, State, WINDOW_MAX};
+use crate::lent::{Bases, Lent, Shown, Windows};
+use crate::state::{IMAGE_LEN, RG, RK, RL, RN, RO, RS, RT, RTT, RV, STACK_START, State};
 use crate::subject::{Aim, Found, Parts, Subject};
-use memory::Window;
+use memory::Memory;
 pub use stack::{Popped, Registers};
 
 /// What a step leaves: the reply, the state, the octabytes stored (address and value) and those needed.
@@ -29,10 +30,10 @@ impl Outcome {
         Self { reply: 0, state, stores: Vec::new(), needs: Vec::new() }
     }
 
-    /// Numbers 1 to 6 change nothing, 7 to 18 set the halt code to 1.
+    /// Numbers 1 to 6 and 22 change nothing, 7 to 18 set the halt code to 1.
     fn refused(reply: u64, state: &State) -> Self {
         let mut state = state.clone();
-        if reply > 6 {
+        if (7..=18).contains(&reply) {
             state.halt = 1;
         }
         Self { reply, state, stores: Vec::new(), needs: Vec::new() }
@@ -44,7 +45,7 @@ impl Outcome {
         Self { reply, state, stores: Vec::new(), needs: Vec::new() }
     }
 
-    /// A needed octabyte lies outside the window: 6.
+    /// A needed octabyte lies in neither window: 6.
     fn missing(state: &State, needs: Vec<u64>) -> Self {
         Self { needs, ..Self::refused(6, state) }
     }
@@ -99,27 +100,23 @@ fn fresh() -> State {
     state
 }
 
-/// The window's length is a multiple of 8 up to 65,536, its base a multiple of 8.
-fn window_rule(base: u64, len: usize) -> bool {
-    len.is_multiple_of(8) && len <= WINDOW_MAX && base.is_multiple_of(8)
+/// What is wrong with the windows: 2, one of them breaks its rule; 22, they share an octabyte.
+fn judged(memory: &Memory) -> Option<u64> {
+    if !memory.obeys() {
+        return Some(2);
+    }
+    memory.shares().then_some(22)
 }
 
-/// Judge 1 and 2, then do the step.
-fn step(base: u64, i: Instruction, state: &State, bytes: &[u8]) -> Outcome {
+/// Judge 1, 2 and 22, then do the step.
+fn step(at: Bases, i: Instruction, state: &State, a: &[u8], b: &[u8]) -> Outcome {
+    let memory = Memory::of(at, a, b);
     if !state.admissible() {
         return Outcome::refused(1, state);
     }
-    if !window_rule(base, bytes.len()) {
-        return Outcome::refused(2, state);
-    }
-    arms::step(state, i, &Window { base, bytes })
-}
-
-/// Put the stores of a step into the window.
-fn apply(base: u64, stores: &[(u64, u64)], bytes: &mut [u8]) {
-    for &(address, value) in stores {
-        let at = memory::offset(base, address) as usize;
-        bytes[at..at + 8].copy_from_slice(&value.to_be_bytes());
+    match judged(&memory) {
+        Some(reply) => Outcome::refused(reply, state),
+        None => arms::step(state, i, &memory),
     }
 }
 
@@ -138,12 +135,12 @@ impl Subject for Model {
         0
     }
 
-    fn step(&self, base: u64, i: Instruction, image: &mut [u8], window: &mut [u8]) -> u64 {
+    fn step(&self, i: Instruction, image: &mut [u8], lent: Lent) -> u64 {
         if image.len() != IMAGE_LEN {
             return 1;
         }
         let mut state = State::of_image(image);
-        let reply = self.step_lent(base, i, &mut state, window);
+        let reply = self.step_lent(i, &mut state, lent);
         image.copy_from_slice(&state.image());
         reply
     }
@@ -158,32 +155,36 @@ impl Subject for Model {
         reply
     }
 
-    fn context(&self, base: u64, address: u64, window: &[u8], found: Found) -> u64 {
-        (*found.start, *found.length) = (0, 0);
-        if !window_rule(base, window.len()) {
-            return 2;
+    fn context(&self, address: u64, shown: Shown, found: Found) -> u64 {
+        (*found.which, *found.start, *found.length) = (0, 0, 0);
+        let memory = Memory::of(shown.at, shown.a, shown.b);
+        if let Some(reply) = judged(&memory) {
+            return reply;
         }
-        match stack::find_context(&Window { base, bytes: window }, address) {
+        match stack::find_context(&memory, address) {
             Err((reply, _)) => reply,
-            Ok(context) => {
-                *found.start = memory::offset(base, context.first()) as usize;
-                *found.length = 8 * context.octabytes() as usize;
-                0
-            }
+            Ok(context) => match context.part(&memory) {
+                None => 23,
+                Some((which, part)) => {
+                    *found.which = (which == memory::Which::B) as u64;
+                    (*found.start, *found.length) = (part.start, part.len());
+                    0
+                }
+            },
         }
     }
 
-    fn step_lent(&self, base: u64, i: Instruction, state: &mut State, window: &mut [u8]) -> u64 {
-        let outcome = step(base, i, state, window);
+    fn step_lent(&self, i: Instruction, state: &mut State, lent: Lent) -> u64 {
+        let outcome = step(lent.at, i, state, lent.a, lent.b);
         *state = outcome.state;
-        apply(base, &outcome.stores, window);
+        memory::apply(&outcome.stores, lent);
         outcome.reply
     }
 
-    fn step_parts(&self, base: u64, i: Instruction, parts: Parts, window: &mut [u8]) -> u64 {
+    fn step_parts(&self, i: Instruction, parts: Parts, lent: Lent) -> u64 {
         let Parts { general, special, pc, halt, marks } = parts;
         let mut state = State { general: *general, special: *special, pc: *pc, halt: *halt, marks };
-        let reply = self.step_lent(base, i, &mut state, window);
+        let reply = self.step_lent(i, &mut state, lent);
         (*general, *special, *pc, *halt) = (state.general, state.special, state.pc, state.halt);
         reply
     }
@@ -223,6 +224,6 @@ impl Subject for Model {
 }
 
 /// The octabytes that a step needs: in any order, each once.
-pub fn needs(base: u64, i: Instruction, state: &State, window: &[u8]) -> Vec<u64> {
-    step(base, i, state, window).needs
+pub fn needs(i: Instruction, state: &State, windows: &Windows) -> Vec<u64> {
+    step(windows.at(), i, state, &windows.a.bytes, &windows.b.bytes).needs
 }

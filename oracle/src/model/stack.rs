@@ -1,6 +1,8 @@
 //! Frames and saved contexts: PUSH, POP, SAVE, UNSAVE and what the context reader finds.
 
-use super::memory::{Window, octabyte_of, run};
+use std::ops::Range;
+
+use super::memory::{Memory, Which, octabyte_of, run};
 use super::{Changes, Outcome};
 use crate::state::*;
 
@@ -8,12 +10,12 @@ use crate::state::*;
 const SAVED: [usize; 12] = [RB, RD, RE, RH, RJ, RM, RR, RP, RW, RX, RY, RZ];
 
 /// PUSH and go to `target`.
-pub fn push(state: &State, x: u8, target: u64, window: &Window) -> Outcome {
+pub fn push(state: &State, x: u8, target: u64, memory: &Memory) -> Outcome {
     let (rg, rl, ro) = (state.special[RG], state.special[RL], state.special[RO]);
     let hole = if x as u64 >= rg { rl } else { x as u64 };
 
     let frame = run(ro, hole + 1);
-    let missing = window.missing(&frame);
+    let missing = memory.missing(&frame);
     if !missing.is_empty() {
         return Outcome::missing(state, missing);
     }
@@ -92,7 +94,7 @@ impl Popped {
     }
 }
 
-pub fn pop(state: &State, x: u8, yz: u64, window: &Window) -> Outcome {
+pub fn pop(state: &State, x: u8, yz: u64, memory: &Memory) -> Outcome {
     let (rg, rl, ro) = (state.special[RG], state.special[RL], state.special[RO]);
     let target = state.special[RJ].wrapping_add(4 * yz);
     if ro <= STACK_START {
@@ -103,19 +105,19 @@ pub fn pop(state: &State, x: u8, yz: u64, window: &Window) -> Outcome {
     }
 
     let below = ro - 8;
-    if !window.holds(below) {
+    if !memory.holds(below) {
         return Outcome::missing(state, vec![below]);
     }
-    let hole = window.read(below) % 256;
+    let hole = memory.read(below) % 256;
     let first = ro.wrapping_sub(8 * (hole + 1));
     let locals = run(first, hole.min(rg));
-    let mut missing = window.missing(&locals);
+    let mut missing = memory.missing(&locals);
     if !missing.is_empty() {
         missing.push(below);
         return Outcome::missing(state, missing);
     }
 
-    let popped = Popped { x: x as u64, rl, rg, hole, locals: locals.iter().map(|a| window.read(*a)).collect() };
+    let popped = Popped { x: x as u64, rl, rg, hole, locals: locals.iter().map(|a| memory.read(*a)).collect() };
     let mut after = state.clone();
     popped.restored_first(&mut after.general);
     popped.cleared_after(&mut after.general);
@@ -127,7 +129,7 @@ pub fn pop(state: &State, x: u8, yz: u64, window: &Window) -> Outcome {
     Outcome::done(after.go_to(target)).with_needs(needs)
 }
 
-pub fn save(state: &State, x: u8, window: &Window) -> Outcome {
+pub fn save(state: &State, x: u8, memory: &Memory) -> Outcome {
     let (rg, rl, ro) = (state.special[RG], state.special[RL], state.special[RO]);
     if (x as u64) < rg {
         return Outcome::refused(13, state);
@@ -141,7 +143,7 @@ pub fn save(state: &State, x: u8, window: &Window) -> Outcome {
     let n = rl + 270 - rg;
     assert_eq!(n, values.len() as u64);
     let context = run(ro, n);
-    let missing = window.missing(&context);
+    let missing = memory.missing(&context);
     if !missing.is_empty() {
         return Outcome::missing(state, missing);
     }
@@ -180,15 +182,23 @@ impl Context {
     pub fn first(&self) -> u64 {
         self.at(0)
     }
+
+    /// The window that has all of it, and which part of that it is; none where it lies across both.
+    pub fn part(&self, memory: &Memory) -> Option<(Which, Range<usize>)> {
+        let which = memory.which(self.first())?;
+        let start = memory.place(which, self.first());
+        let whole = (0..self.octabytes()).all(|k| memory.which(self.at(k)) == Some(which));
+        whole.then_some((which, start..start + 8 * self.octabytes() as usize))
+    }
 }
 
 /// The checks in their order: 6, 14, 15, 6, 16, 6. A refusal has its number and the octabytes needed for it.
-pub fn find_context(window: &Window, packed: u64) -> Result<Context, (u64, Vec<u64>)> {
-    if !window.holds(packed) {
+pub fn find_context(memory: &Memory, packed: u64) -> Result<Context, (u64, Vec<u64>)> {
+    if !memory.holds(packed) {
         return Err((6, vec![octabyte_of(packed)]));
     }
     let mut needs = vec![octabyte_of(packed)];
-    let octabyte = window.read(packed);
+    let octabyte = memory.read(packed);
     let (rg, ra) = (octabyte / (1 << 56), octabyte % (1 << 56));
     if !(32..=255).contains(&rg) {
         return Err((14, needs));
@@ -198,15 +208,15 @@ pub fn find_context(window: &Window, packed: u64) -> Result<Context, (u64, Vec<u
     }
     let marker = packed.wrapping_sub(8 * (12 + (256 - rg) + 1));
     needs.push(octabyte_of(marker));
-    if !window.holds(marker) {
+    if !memory.holds(marker) {
         return Err((6, needs));
     }
-    let rl = window.read(marker);
+    let rl = memory.read(marker);
     if rl > rg {
         return Err((16, needs));
     }
     let context = Context { packed, rg, ra, rl };
-    let missing = window.missing(&run(context.first(), context.octabytes()));
+    let missing = memory.missing(&run(context.first(), context.octabytes()));
     if !missing.is_empty() {
         needs.extend(missing);
         return Err((6, needs));
@@ -214,12 +224,12 @@ pub fn find_context(window: &Window, packed: u64) -> Result<Context, (u64, Vec<u
     Ok(context)
 }
 
-pub fn unsave(state: &State, packed: u64, window: &Window) -> Outcome {
-    let context = match find_context(window, packed) {
+pub fn unsave(state: &State, packed: u64, memory: &Memory) -> Outcome {
+    let context = match find_context(memory, packed) {
         Err((reply, needs)) => return Outcome::refused(reply, state).with_needs(needs),
         Ok(context) => context,
     };
-    let values: Vec<u64> = (0..context.octabytes()).map(|k| window.read(context.at(k))).collect();
+    let values: Vec<u64> = (0..context.octabytes()).map(|k| memory.read(context.at(k))).collect();
     let (locals, rest) = values.split_at(context.rl as usize);
     let (globals, specials) = rest[1..].split_at(256 - context.rg as usize);
 
