@@ -160,15 +160,16 @@ impl Drawer {
         self.doubled(case)
     }
 
-    /// Two windows of one, none too long to compute.
+    /// Two windows of one; a second one is short.
     fn doubled(&mut self, case: Case) -> Case {
-        let mut drawn = case.clone();
-        windows::two(&mut self.random, &mut drawn);
-        while [&drawn.windows.a, &drawn.windows.b].iter().any(|w| w.bytes.len() > LONGEST) {
-            drawn = case.clone();
+        let most = case.windows.b.bytes.len().max(4 * SHORT);
+        loop {
+            let mut drawn = case.clone();
             windows::two(&mut self.random, &mut drawn);
+            if [&drawn.windows.a, &drawn.windows.b].iter().all(|w| w.bytes.len() <= most) {
+                return drawn;
+            }
         }
-        drawn
     }
 
     /// One in twelve breaks a rule of the state, one in twelve a rule of a window, in one of twelve the windows share.
