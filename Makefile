@@ -138,7 +138,7 @@ RUN = @if command -v cargo >/dev/null 2>&1 && [ -f '$(MMIX_RUST_SRC)/src/mmix.rs
 oracle: need-rt lib
 	$(call HARNESS,build)
 
-# Bench points, figures of Knuth's texts, tests of the guards.
+# Bench points, figures of Knuth's texts, tests of the guards, POP's order of work.
 oracle-test: oracle
 	$(call HARNESS,test)
 

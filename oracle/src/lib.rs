@@ -1,7 +1,7 @@
 //! Differential harness: the Rust register machine, unchanged, beside another one that must equal it.
 //!
-//! - `state`, `lent`, `opcodes`, `case`: a machine state with its image of bytes; the two windows; opcodes by name; one call with all that it
-//!   is given, and its one-line text.
+//! - `state`, `lent`, `opcodes`, `case`: a machine state with its image of bytes; the two windows; opcodes by name; one call
+//!   with all that it is given, and its one-line text.
 //! - `reference`: the Rust's answer to a case, the model's at an added opcode, with the octabytes that it touched.
 //! - `subject`: the functions that are compared; `model` (01 as a program) and `library` (C) offer them, and
 //!   `guards` lends each of their buffers in a guarded place.
