@@ -4,7 +4,7 @@ use mathlib.Core.Path.{_≡_, refl, sym, ap, _∙_}
 use mathlib.Core.Logic.{_≢_}
 use mathlib.Core.Bool.{Bool, true, false, cond}
 use mathlib.Core.List.{List, [], _∷_, _++_}
-use Prim.Native.Nat.{ℕ, zero, suc, _+_, _-_, _*_, _%_, _^_, _≤_, _<_, min}
+use Prim.Native.Nat.{ℕ, zero, suc, _+_, _-_, _*_, _%_, _^_, _≤_, _<_}
 use native.Mathlib.Numerals.{add-one}
 use native.Mathlib.Omega.{arith}
 use lib.ListN.{length, getD}
@@ -17,14 +17,15 @@ use Rattle.model.specs.Step.{refusing}
 use Rattle.model.specs.Parts.{lent}
 use Rattle.model.specs.declared.Bases.{Bases}
 use Rattle.model.proofs.Memory.{Lawful, write-shape, has-octa, one-lawful, both-lawful}
+use Rattle.model.proofs.Octa.{length-written}
 use Rattle.model.proofs.Plan.{puts-shape, puts-more}
 use Rattle.model.proofs.Entry.{judged-inside}
 use Rattle.model.proofs.SaveUnsave.{further}
 use Rattle.model.proofs.Runs.{octa-mod, worst-of, length-tab, look-mod}
-use Rattle.machine.specs.Octas.{readBy, writtenBy, writtenRunBy, writtenRangeBy, readOcta, writtenOcta, writtenRun, lentOne, roomIn}
+use Rattle.machine.specs.Octas.{readBy, writtenBy, writtenRunBy, readOcta, writtenOcta, writtenRun, lentOne, roomIn}
 use Rattle.machine.specs.Pieces.{PieceIs}
 use Rattle.machine.proofs.RegisterRanges.{over-alike}
-use Rattle.machine.proofs.RunTest.{has-room, no-room, has-b, has-a, has-none}
+use Rattle.machine.proofs.RunTest.{has-room, no-room, room-has, room-offset, has-b, has-a, has-none}
 
 -- ---- any memory
 
@@ -133,6 +134,37 @@ module _ (base : ℕ) (l : List ℕ) (a : ℕ) where
 
   pub none-written : (v : ℕ) → room ≡ 0 → lentOne base l ≡ writtenBy one (lentOne base l) a v
   none-written v h = sym (outside-written one (lentOne base l) a v (unfold one in (no-room (shapeOf (lentOne base l)) a h)))
+
+-- octabyte j of those from x up that a window has room for, as code has it
+module _ (base : ℕ) (l : List ℕ) (x j : ℕ) (short : length l < 2 ^ 64) (h : j < roomIn (shapeOf (lentOne base l)) x) where
+  there : has (shapeOf (lentOne base l)) (x + 8 * j) ≡ true
+  there = room-has (shapeOf (lentOne base l)) x (unfold shapeOf in short) j h
+
+  at-is : offset base (x + 8 * j) ≡ offset base x + 8 * j
+  at-is = unfold shapeOf in (room-offset (shapeOf (lentOne base l)) x (unfold shapeOf in short) j h)
+
+  pub run-look : (d : ℕ) → d ≡ offset base x + 8 * j → valueOf 0 (part l d 8) ≡ readBy one (lentOne base l) (x + 8 * j)
+  run-look d e =
+      sym (inside-read one (lentOne base l) (x + 8 * j) (unfold one in there) ∙ look-is (lentOne base l) (x + 8 * j) ∙ ap (λ (n : ℕ). valueOf 0 (part l n 8)) (at-is ∙ sym e))
+
+  pub run-put : (d v : ℕ) (m : List ℕ) → d ≡ offset base x + 8 * j → m ≡ written l d (bytesOf v) → lentOne base m ≡ writtenBy one (lentOne base l) (x + 8 * j) v
+  run-put d v m e f =
+      ap (lentOne base) (f ∙ ap (λ (n : ℕ). written l n (bytesOf v)) (e ∙ sym at-is))
+      ∙ sym (inside-written one (lentOne base l) (x + 8 * j) v (unfold one in there) ∙ (unfold one writeOcta in refl))
+
+-- the room of a window whose bytes alone have changed
+pub room-same : (base x : ℕ) (l m : List ℕ) → length m ≡ length l → roomIn (shapeOf (lentOne base m)) x ≡ roomIn (shapeOf (lentOne base l)) x
+unfolding roomIn shapeOf
+room-same base x l m e = rw e
+
+-- a turn of the loop that stores a run in one window
+pub run-grown : (w u t : Window) (a from i v : ℕ) (f : ℕ → ℕ) → from ≤ i → u ≡ writtenRunBy one w a (i - from) f → v ≡ f (i - from)
+    → t ≡ writtenBy one u (a + 8 * (i - from)) v → t ≡ writtenRunBy one w a (i + 1 - from) f
+unfolding writtenRunBy
+run-grown w u t a from i v f l eu ev et = let count : i + 1 - from ≡ suc (i - from) = omega arith in et ∙ rw (eu, ev, count)
+
+pub written-size : (l m : List ℕ) (d v : ℕ) → m ≡ written l d (bytesOf v) → length m ≡ length l
+written-size l m d v e = ap length e ∙ length-written l d (bytesOf v)
 
 same-size : (base : ℕ) (l m : List ℕ) (u : Window) → lentOne base m ≡ u → shapeOf u ≡ shapeOf (lentOne base l) → length m ≡ length l
 unfolding shapeOf
@@ -262,16 +294,19 @@ module _ (m : Windows) (x from end h octas : ℕ) (g : List ℕ) (piece : PieceI
   held-run : (i : ℕ) → i < end - from → holder (shapesOf m) (x + 8 * i) ≡ h
   held-run i l = piece .held i (omega arith)
 
-  module _ (most : end ≤ 256) where
-    one-range : (w u : Window) → u ≡ writtenRangeBy one w x from end g → u ≡ writtenRunBy one w x (end - from) stores
-    unfolding writtenRangeBy
-    one-range w u e = let n : min end 256 ≡ end = omega arith in rw n at e
+  pub store-b : h ≡ 1 → (w : Window) → w ≡ writtenRunBy one (m .b) x (end - from) stores → record { a = m .a; b = w } ≡ writtenRun m x (end - from) stores
+  store-b e w z = ap (λ (u : Window). record { a = m .a; b = u }) z ∙ run-b m x stores (end - from) (λ i l. held-run i l ∙ e)
 
-    pub store-b : h ≡ 1 → (w : Window) → w ≡ writtenRangeBy one (m .b) x from end g → record { a = m .a; b = w } ≡ writtenRun m x (end - from) stores
-    store-b e w z = ap (λ (u : Window). record { a = m .a; b = u }) (one-range (m .b) w z) ∙ run-b m x stores (end - from) (λ i l. held-run i l ∙ e)
+  pub store-a : h ≡ 0 → (w : Window) → w ≡ writtenRunBy one (m .a) x (end - from) stores → record { a = w; b = m .b } ≡ writtenRun m x (end - from) stores
+  store-a e w z = ap (λ (u : Window). record { a = u; b = m .b }) z ∙ run-a m x stores (end - from) (λ i l. held-run i l ∙ e)
 
-    pub store-a : h ≡ 0 → (w : Window) → w ≡ writtenRangeBy one (m .a) x from end g → record { a = w; b = m .b } ≡ writtenRun m x (end - from) stores
-    store-a e w z = ap (λ (u : Window). record { a = u; b = m .b }) (one-range (m .a) w z) ∙ run-a m x stores (end - from) (λ i l. held-run i l ∙ e)
+  pub room-b : h ≡ 1 → end ≤ from + roomIn (shapeOf (m .b)) x
+  unfolding shapesOf
+  room-b e = omega (arith, piece .in-b e)
+
+  pub room-a : h ≡ 0 → end ≤ from + roomIn (shapeOf (m .a)) x
+  unfolding shapesOf
+  room-a e = omega (arith, piece .in-a e)
 
   pub store-lost : h ≢ 1 → h ≢ 0 → m ≡ writtenRun m x (end - from) stores
   store-lost p q = run-lost m x stores (end - from) h p q held-run

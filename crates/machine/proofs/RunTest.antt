@@ -72,6 +72,10 @@ module _ (w : Shape) (x : ℕ) where
     unfolding roomIn has
     room-has i l = le-leb (offset (w .from) (x + 8 * i) + 8) (w .size) (omega (arith, offset-run i (w .from) x (omega arith)))
 
+    pub room-offset : (i : ℕ) → i < roomIn w x → offset (w .from) (x + 8 * i) ≡ offset (w .from) x + 8 * i
+    unfolding roomIn
+    room-offset i l = offset-run i (w .from) x (omega arith)
+
     -- the first octabyte past it lies outside
     pub room-ends : 0 < roomIn w x → has w (x + 8 * roomIn w x) ≡ false
     unfolding roomIn has
@@ -160,10 +164,18 @@ module _ (w : Shapes) (x : ℕ) where
 
 module _ (w : Shapes) (x k : ℕ) where
   pub piece-b : w .b .size < 2 ^ 64 → (k ≡ 0 → ⊥) → k ≡ roomIn (w .b) x → 8 * k < 2 ^ 64 → PieceIs w x 1 k
-  piece-b s n e h = record { held = λ i l. held-b w (x + 8 * i) (room-has (w .b) x s i (omega arith)); some = omega arith; short = h }
+  piece-b s n e h = record {
+    in-b = λ one. omega arith;
+    in-a = λ none. absurd (omega arith);
+    held = λ i l. held-b w (x + 8 * i) (room-has (w .b) x s i (omega arith));
+    some = omega arith;
+    short = h;
+  }
 
   pub piece-a : w .a .size < 2 ^ 64 → roomIn (w .b) x ≡ 0 → 0 < k → k ≤ roomIn (w .a) x → k ≤ (2 ^ 64 - 1 - offset (w .b .from) x) / 8 + 1 → 8 * k < 2 ^ 64 → PieceIs w x 0 k
   piece-a s n p e b h = record {
+    in-b = λ one. absurd (omega arith);
+    in-a = λ none. e;
     held = λ i l. held-a w (x + 8 * i) (stays-out (w .b) x i (no-room (w .b) x n) (omega arith)) (room-has (w .a) x s i (omega arith));
     some = p;
     short = h;
@@ -171,6 +183,8 @@ module _ (w : Shapes) (x k : ℕ) where
 
 pub piece-none : (w : Shapes) (x : ℕ) → roomIn (w .b) x ≡ 0 → roomIn (w .a) x ≡ 0 → PieceIs w x 2 1
 piece-none w x n m = record {
+  in-b = λ one. absurd (omega arith);
+  in-a = λ none. absurd (omega arith);
   held = λ i l. let z : x + 8 * i ≡ x = omega arith in rw z (held-none w x (no-room (w .b) x n) (no-room (w .a) x m));
   some = omega arith;
   short = omega arith;
@@ -223,6 +237,26 @@ module _ (w : Shapes) (x : ℕ) where
       rw c at (passes i k (n - i) p h e q z m (omega arith))
 
 -- ---- 2 and 22
+
+aligned-octa : (a : ℕ) → a < 2 ^ 64 → a % 8 ≡ 0 → octa a ≡ a
+unfolding octa
+aligned-octa a h e = omega arith
+
+-- how far one base lies above another
+module _ (base other d : ℕ) (b : base < 2 ^ 64) (o : other < 2 ^ 64) (p : base % 8 ≡ 0) (q : other % 8 ≡ 0) (e : d ≡ (other + (2 ^ 64 - base)) % 2 ^ 64) where
+  apart-by : offset base other ≡ d
+  unfolding offset
+  apart-by =
+      let whole : base % 2 ^ 64 ≡ base = mod-eq-of-lt b in
+      rw (aligned-octa other o q, whole) (sym e)
+
+  pub reached : (len : ℕ) → len % 8 ≡ 0 → d < len → has (record { from = base; size = len }) other ≡ true
+  unfolding has
+  reached len m l = rw apart-by (le-leb (d + 8) len (omega arith))
+
+  pub unreached : (len : ℕ) → len ≤ d → has (record { from = base; size = len }) other ≡ false
+  unfolding has
+  unreached len l = rw apart-by (lt-leb (d + 8) len (omega arith))
 
 module _ (w : Shapes) where
   pub first-unruled : ruledOne (w .a) ≡ false → ruled w ≡ false

@@ -1,16 +1,16 @@
 // The octabytes of the two lent windows, A and B, as one memory: an octabyte is B's where B holds it, else A's. A run of octabytes goes
 // piece by piece, each in one window.
 ghost use mathlib.Core.Path.{_≡_};
-ghost use Prim.Native.Nat.{ℕ, _+_, _-_, _*_, _<_, _≤_};
+ghost use Prim.Native.Nat.{ℕ, _+_, _-_, _*_, _%_, _<_, _≤_};
 ghost use mathlib.Core.Bool.{_&&_};
 ghost use lib.Dec.{ltb};
-ghost use lib.ListN.{length, getD};
+ghost use lib.ListN.{getD};
 ghost use Rattle.model.specs.Fill.{over};
-ghost use Rattle.model.specs.Memory.{shapeOf, has, shapesOf, holder, shares};
+ghost use Rattle.model.specs.Memory.{has, shapesOf, holder};
 ghost use Rattle.model.specs.Plan.{worst};
 ghost use Rattle.model.specs.Step.{unruledBy, refusing};
 ghost use Rattle.model.specs.Parts.{lent};
-ghost use Rattle.machine.specs.Octas.{lentOne, readOcta, writtenOcta, writtenRun, writtenRange};
+ghost use Rattle.machine.specs.Octas.{readOcta, writtenOcta, writtenRun, writtenRange};
 ghost use Rattle.machine.specs.Pieces.{PieceIs};
 use model::Bases;
 use model::Octabyte;
@@ -21,27 +21,19 @@ struct Piece {
     octas: u64,
 }
 
-/// Whether the first octabyte of the window `other`, which starts at `from`, lies in a window. An empty one has none.
-fn starts_in(window: &[u8], base: u64, other: &[u8], from: u64) -> bool
-    ensures { λ r. ⌜ r ≡ (ltb 0 (length (now (other .entry))) && has (shapeOf (lentOne base (now (window .entry)))) from) ⌝ }
+/// Whether a window of `len` bytes reaches from its base to another one, which has `other_len`; both obey their rules. An empty one reaches nothing and
+/// is not reached.
+fn reaches(len: u64, base: u64, other_len: u64, other: u64) -> bool
+    requires { ⌜ (base % 8 ≡ 0) × (other % 8 ≡ 0) × (len % 8 ≡ 0) ⌝ }
+    ensures { λ r. ⌜ r ≡ (ltb 0 «other_len» && has (record { from = base; size = len }) other) ⌝ }
 {
-    if other.len() == 0 {
+    if other_len == 0 {
         return false;
     }
-    if super::window::room(window, base, from) == 0 {
-        return false;
-    }
-    true
-}
-
-/// Whether the two windows share an octabyte.
-fn is_shared(a: &[u8], b: &[u8], at: Bases) -> bool
-    ensures { λ r. ⌜ r ≡ shares (shapesOf (lent at (now (a .entry)) (now (b .entry)))) ⌝ }
-{
-    if starts_in(a, at.a, b, at.b) {
+    if super::number::wrapping_sub(other, base) < len {
         return true;
     }
-    starts_in(b, at.b, a, at.a)
+    false
 }
 
 /// The number that refuses the windows: 2 where one breaks its rule, 22 where they share an octabyte, else 0.
@@ -54,7 +46,12 @@ pub fn windows_refusal(a: &[u8], b: &[u8], at: Bases) -> u64
     if !super::window::is_ruled(b, at.b) {
         return 2;
     }
-    if is_shared(a, b, at) {
+    let a_len = a.len() as u64;
+    let b_len = b.len() as u64;
+    if reaches(a_len, at.a, b_len, at.b) {
+        return 22;
+    }
+    if reaches(b_len, at.b, a_len, at.a) {
         return 22;
     }
     0

@@ -1,9 +1,10 @@
 // The octabytes of one lent window (memory.rs). Distances from the base wrap at 2^64, so a window may cross the end of memory.
 ghost use mathlib.Core.Path.{_≡_};
-ghost use Prim.Native.Nat.{ℕ, _+_, _-_, _*_, _^_, _<_};
+ghost use Prim.Native.Nat.{ℕ, _+_, _-_, _*_, _^_, _<_, _≤_};
+ghost use lib.ListN.{getD};
 ghost use Rattle.model.specs.Fill.{over};
 ghost use Rattle.model.specs.Memory.{shapeOf, ruledOne, offset, one};
-ghost use Rattle.machine.specs.Octas.{lentOne, roomIn, readBy, writtenBy, writtenRangeBy};
+ghost use Rattle.machine.specs.Octas.{lentOne, roomIn, readBy, writtenBy, writtenRunBy};
 
 /// The longest window, in bytes.
 pub const WINDOW_MAX: usize = 65536;
@@ -66,7 +67,7 @@ pub fn write_octa(window: &mut [u8], base: u64, addr: u64, v: u64)
     super::octabytes::store(window, at, v);
 }
 
-/// The general registers from `from` up to, not including, `to` become the octabytes from `addr` up; there are 256, whatever `to` says.
+/// The general registers from `from` up to, not including, `to` become the octabytes from `addr` up, which the window holds.
 pub(crate) fn load_range(
     general: &mut [u64; 256],
     window: &[u8],
@@ -75,21 +76,21 @@ pub(crate) fn load_range(
     from: u64,
     to: u64,
 )
+    requires { ⌜ (from < to) × (to ≤ 256) × (to ≤ from + roomIn (shapeOf (lentOne base (now window))) addr) ⌝ }
     ensures { λ _. ⌜ now (general .exit)
         ≡ over (λ (k : ℕ). readBy one (lentOne base (now (window .entry))) (addr + 8 * (k - from))) from to (now (general .entry)) ⌝ }
 {
-    super::registers::of_256(*general);
-    let end = super::number::least(to, 256);
+    let mut at = distance(base, addr) as usize;
     let mut i = from;
-    while i < end {
-        let place = super::number::wrapping_add(addr, 8 * (i - from));
-        let v = read_octa(window, base, place);
+    while i < to {
+        let v = super::octabytes::load(window, at);
         general[i as usize] = v;
+        at += 8;
         i += 1;
     }
 }
 
-/// They go to the octabytes from `addr` up; those outside the window go nowhere.
+/// They go to the octabytes from `addr` up, which the window holds.
 pub(crate) fn store_range(
     general: &[u64; 256],
     window: &mut [u8],
@@ -98,16 +99,16 @@ pub(crate) fn store_range(
     from: u64,
     to: u64,
 )
+    requires { ⌜ (from < to) × (to ≤ 256) × (to ≤ from + roomIn (shapeOf (lentOne base (now window))) addr) ⌝ }
     ensures { λ _. ⌜ lentOne base (now (window .exit))
-        ≡ writtenRangeBy one (lentOne base (now (window .entry))) addr from to (now (general .entry)) ⌝ }
+        ≡ writtenRunBy one (lentOne base (now (window .entry))) addr (to - from) (λ (i : ℕ). getD (now (general .entry)) (from + i) 0) ⌝ }
 {
-    super::registers::of_256(*general);
-    let end = super::number::least(to, 256);
+    let mut at = distance(base, addr) as usize;
     let mut i = from;
-    while i < end {
-        let place = super::number::wrapping_add(addr, 8 * (i - from));
+    while i < to {
         let v = general[i as usize];
-        write_octa(window, base, place, v);
+        super::octabytes::store(window, at, v);
+        at += 8;
         i += 1;
     }
 }

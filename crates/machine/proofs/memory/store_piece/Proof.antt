@@ -1,7 +1,7 @@
 -- `store_piece` meets its contract: each octabyte of a piece is the one window's, or neither's.
 use native.Mathlib.Omega.{arith}
 use Rattle.model.specs.Parts.{lent}
-use Rattle.machine.proofs.Octas.{store-a, store-b, store-lost}
+use Rattle.machine.proofs.Octas.{room-a, room-b, store-a, store-b, store-lost}
 use borrow.Author.Needs.{needs}
 use Rattle.machine.proofs.memory.store_piece.Statement.{statement}
 use Rattle.machine.proofs.memory.store_piece.Tie as tie
@@ -13,7 +13,16 @@ end-of-requires : tie.Need-end-of-requires
 end-of-requires c κs = search needs
 
 store-range-requires : tie.Need-store-range-requires
-store-range-requires c κs = search needs
+store-range-requires c κs =
+    let taken = c .before in
+    let ends = taken .before .before in
+    let piece = ends .before in
+    let start = piece .before .before .before .before .before in
+    let a = start .args in (
+      ends .end-of .ensures .1,
+      omega (arith, ends .end-of .ensures .2, start .pre .1),
+      room-b (lent (a .at) (a .a .now) (a .b .now)) (a .addr) (a .from) _ _ _ (a .general .now) (piece .next-piece .ensures) (ends .end-of .ensures .0) (taken .if1 .taken),
+    )
 
 same-length : tie.Need-same-length
 same-length c = search needs
@@ -28,10 +37,19 @@ returns c =
     let piece = ends .before in
     let start = piece .before .before .before .before .before in
     let a = start .args in
-    (store-b (lent (a .at) (a .a .now) (a .b .now)) (a .addr) (a .from) _ _ _ (a .general .now) (piece .next-piece .ensures) (ends .end-of .ensures .0) (omega (arith, ends .end-of .ensures .2, start .pre .1)) (taken .if1 .taken) _ (c .before .before .store-range .ensures), ends .end-of .ensures .1, ends .end-of .ensures .2)
+    (store-b (lent (a .at) (a .a .now) (a .b .now)) (a .addr) (a .from) _ _ _ (a .general .now) (piece .next-piece .ensures) (ends .end-of .ensures .0) (taken .if1 .taken) _ (c .before .before .store-range .ensures), ends .end-of .ensures .1, ends .end-of .ensures .2)
 
 store-range-requires-2 : tie.Need-store-range-requires-2
-store-range-requires-2 c κs = search needs
+store-range-requires-2 c κs =
+    let taken = c .before in
+    let ends = taken .before .before .before .before in
+    let piece = ends .before in
+    let start = piece .before .before .before .before .before in
+    let a = start .args in (
+      ends .end-of .ensures .1,
+      omega (arith, ends .end-of .ensures .2, start .pre .1),
+      room-a (lent (a .at) (a .a .now) (a .b .now)) (a .addr) (a .from) _ _ _ (a .general .now) (piece .next-piece .ensures) (ends .end-of .ensures .0) (taken .if2 .taken),
+    )
 
 same-length-3 : tie.Need-same-length-3
 same-length-3 c = search needs
@@ -46,7 +64,7 @@ returns-2 c =
     let piece = ends .before in
     let start = piece .before .before .before .before .before in
     let a = start .args in
-    (store-a (lent (a .at) (a .a .now) (a .b .now)) (a .addr) (a .from) _ _ _ (a .general .now) (piece .next-piece .ensures) (ends .end-of .ensures .0) (omega (arith, ends .end-of .ensures .2, start .pre .1)) (taken .if2 .taken) _ (c .before .before .store-range2 .ensures), ends .end-of .ensures .1, ends .end-of .ensures .2)
+    (store-a (lent (a .at) (a .a .now) (a .b .now)) (a .addr) (a .from) _ _ _ (a .general .now) (piece .next-piece .ensures) (ends .end-of .ensures .0) (taken .if2 .taken) _ (c .before .before .store-range2 .ensures), ends .end-of .ensures .1, ends .end-of .ensures .2)
 
 same-length-5 : tie.Need-same-length-5
 same-length-5 c = search needs

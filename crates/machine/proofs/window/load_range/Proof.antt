@@ -1,51 +1,50 @@
--- `load_range` meets its contract. The loop's invariant: the registers below i are loaded; those past the 256th are none.
-use mathlib.Core.Path.{_≡_, ap, sym, _∙_}
-use Prim.Native.Nat.{ℕ, _+_, _-_, _*_, _≤_, max}
+-- `load_range` meets its contract. The loop's invariant: the registers below i are loaded, and `at` is the next octabyte's index.
+use mathlib.Core.Path.{_≡_, sym, _∙_}
+use Prim.Native.Nat.{ℕ, _+_, _-_, _*_, _≤_}
 use native.Mathlib.Omega.{arith}
-use borrow.Author.Needs.{needs}
 use Rattle.model.specs.Fill.{over}
-use Rattle.model.specs.Memory.{one}
-use Rattle.model.proofs.Fill.{over-none, over-end}
-use Rattle.model.proofs.Memory.{one-lawful}
+use Rattle.model.specs.Memory.{shapeOf, offset, one}
+use Rattle.model.proofs.Fill.{over-none}
 use Rattle.machine.specs.Octas.{readBy, lentOne}
-use Rattle.machine.proofs.Octas.{read-wraps}
-use Rattle.machine.proofs.RegisterRanges.{over-next, over-cut}
+use Rattle.machine.proofs.Octas.{run-look}
+use Rattle.machine.proofs.RunTest.{run-end}
+use Rattle.machine.proofs.RegisterRanges.{over-next}
+use borrow.Author.Needs.{needs}
 use Rattle.machine.proofs.window.load_range.Statement.{statement}
 use Rattle.machine.proofs.window.load_range.Tie as tie
 
 abbrev Inv-loop : tie.InvT-loop
-Inv-loop general₀ window base addr from to end i₀ general i =
-    (general ≡ over (λ (k : ℕ). readBy one (lentOne base window) (addr + 8 * (k - from))) from i general₀) × (from ≤ i) × (i ≤ max from end)
+Inv-loop general₀ window base addr from to at₀ i₀ general at i =
+    (general ≡ over (λ (k : ℕ). readBy one (lentOne base window) (addr + 8 * (k - from))) from i general₀) × (from ≤ i) × (i ≤ to) × (at ≡ offset base addr + 8 * (i - from))
 
 abbrev μ-loop : tie.MeasureT-loop
-μ-loop general₀ window base addr from to end i₀ general i = end - i
+μ-loop general₀ window base addr from to at₀ i₀ general at i = to - i
 
-of-256-requires : tie.Need-of-256-requires Inv-loop μ-loop
-of-256-requires c κs = search needs
-
-least-requires : tie.Need-least-requires Inv-loop μ-loop
-least-requires c κs = search needs
+distance-requires : tie.Need-distance-requires Inv-loop μ-loop
+distance-requires c κs = search needs
 
 loop-holds : tie.Need-loop-holds Inv-loop μ-loop
-loop-holds c = (sym (over-none _ _ _ _ (omega arith)), omega arith, omega arith)
+loop-holds c = (sym (over-none _ _ _ _ (omega arith)), omega arith, omega (arith, c .before .before .pre .0), omega (arith, c .distance .ensures))
 
-sub-wrapping-add : tie.Need-sub-wrapping-add Inv-loop μ-loop
-sub-wrapping-add c = omega arith
-
-mul-wrapping-add : tie.Need-mul-wrapping-add Inv-loop μ-loop
-mul-wrapping-add c = omega arith
-
-wrapping-add-requires : tie.Need-wrapping-add-requires Inv-loop μ-loop
-wrapping-add-requires c κs = search needs
-
-read-octa-requires : tie.Need-read-octa-requires Inv-loop μ-loop
-read-octa-requires c κs = search needs
+load-requires : tie.Need-load-requires Inv-loop μ-loop
+unfolding shapeOf
+load-requires c κs =
+    let at-loop = c .before in
+    let start = at-loop .before .before .before in
+    omega (arith, at-loop .loop .inv .3, run-end (shapeOf (lentOne (start .args .base) (start .args .window .now))) (start .args .addr) (omega arith) (start .args .to - start .args .from) (omega arith) (omega (arith, start .pre .2)))
 
 mul-general : tie.Need-mul-general Inv-loop μ-loop
 mul-general c = omega arith
 
 element-write-general : tie.Need-element-write-general Inv-loop μ-loop
-element-write-general c = omega arith
+element-write-general c = omega (arith, c .before .before .before .before .before .pre .1)
+
+add-at : tie.Need-add-at Inv-loop μ-loop
+unfolding shapeOf
+add-at c =
+    let at-loop = c .before .before in
+    let start = at-loop .before .before .before in
+    omega (arith, at-loop .loop .inv .3, run-end (shapeOf (lentOne (start .args .base) (start .args .window .now))) (start .args .addr) (omega arith) (start .args .to - start .args .from) (omega arith) (omega (arith, start .pre .2)))
 
 add-i : tie.Need-add-i Inv-loop μ-loop
 add-i c = omega arith
@@ -55,21 +54,19 @@ loop-less c = omega arith
 
 loop-again : tie.Need-loop-again Inv-loop μ-loop
 loop-again c =
-    let at-loop = c .before .before .before in
-    let a = at-loop .before .before .before .before .before .args in
-    let w = lentOne (a .base) (a .window .now) in
-    let f : ℕ → ℕ = λ k. readBy one w (a .addr + 8 * (k - a .from)) in
-    let value : c .read-octa .result ≡ f (at-loop .loop .i) = c .read-octa .ensures ∙ ap (readBy one w) (c .before .wrapping-add .ensures) ∙ read-wraps one one-lawful w _ in
-    (rw (at-loop .loop .inv .0) (over-next f _ _ _ _ (omega arith) value), omega arith, omega arith)
+    let at-loop = c .before .before in
+    let start = at-loop .before .before .before in
+    let a = start .args in
+    let i = at-loop .loop .i in
+    let f : ℕ → ℕ = λ k. readBy one (lentOne (a .base) (a .window .now)) (a .addr + 8 * (k - a .from)) in
+    let value : c .load .result ≡ f i = c .load .ensures ∙ run-look (a .base) (a .window .now) (a .addr) (i - a .from) (omega arith) (omega (arith, start .pre .2)) _ (at-loop .loop .inv .3) in
+    (rw (at-loop .loop .inv .0) (over-next f _ _ _ _ (omega arith) value), omega arith, omega arith, omega (arith, at-loop .loop .inv .3))
 
 returns : tie.Need-returns Inv-loop μ-loop
 returns c =
-    let a = c .before .before .before .before .before .before .args in
-    let f : ℕ → ℕ = λ k. readBy one (lentOne (a .base) (a .window .now)) (a .addr + 8 * (k - a .from)) in
-    c .before .loop .inv .0
-    ∙ over-end _ _ _ _ _ (omega arith) (omega arith) (omega arith)
-    ∙ ap (λ (n : ℕ). over f (a .from) n (a .general .now)) (c .before .before .least .ensures)
-    ∙ over-cut f (a .from) (a .to) 256 (a .general .now) (omega arith)
+    let a = c .before .before .before .before .args in
+    let e : c .before .loop .i ≡ a .to = omega arith in
+    rw e at (c .before .loop .inv .0)
 
 pub load-range-spec : {M : Type 1} → statement M
 load-range-spec =
@@ -77,15 +74,12 @@ load-range-spec =
     (tie.spec
     Inv-loop
     μ-loop
-    of-256-requires
-    least-requires
+    distance-requires
     loop-holds
-    sub-wrapping-add
-    mul-wrapping-add
-    wrapping-add-requires
-    read-octa-requires
+    load-requires
     mul-general
     element-write-general
+    add-at
     add-i
     loop-less
     loop-again

@@ -1,50 +1,49 @@
--- `store_range` meets its contract. The loop's invariant: the registers below i are written; those past the 256th are none.
+-- `store_range` meets its contract. The loop's invariant: the registers below i are written, and `at` is the next octabyte's index.
 use mathlib.Core.Path.{_≡_, refl, ap, _∙_}
-use Prim.Native.Nat.{ℕ, _+_, _-_, _≤_, max}
+use Prim.Native.Nat.{ℕ, _+_, _-_, _*_, _≤_, _<_}
 use native.Mathlib.Omega.{arith}
-use borrow.Author.Needs.{needs}
 use lib.ListN.{length, getD}
-use Rattle.model.specs.Memory.{one}
-use Rattle.model.proofs.Memory.{one-lawful}
-use Rattle.machine.specs.Octas.{writtenRunBy, writtenRangeBy, lentOne}
-use Rattle.machine.proofs.Octas.{one-length, write-octa, run-none, run-turn}
+use Rattle.model.specs.Memory.{shapeOf, offset, one}
+use Rattle.machine.specs.Octas.{writtenRunBy, lentOne, roomIn}
+use Rattle.machine.proofs.Octas.{run-none, run-grown, run-put, room-same, written-size}
+use Rattle.machine.proofs.RunTest.{run-end}
+use borrow.Author.Needs.{needs}
 use Rattle.machine.proofs.window.store_range.Statement.{statement}
 use Rattle.machine.proofs.window.store_range.Tie as tie
 
 abbrev Inv-loop : tie.InvT-loop
-Inv-loop general window₀ base addr from to end i₀ window i =
-    (lentOne base window ≡ writtenRunBy one (lentOne base window₀) addr (i - from) (λ (k : ℕ). getD general (from + k) 0)) × (from ≤ i) × (i ≤ max from end)
-    × (length window ≡ length window₀)
+Inv-loop general window₀ base addr from to at₀ i₀ window at i =
+    (lentOne base window ≡ writtenRunBy one (lentOne base window₀) addr (i - from) (λ (k : ℕ). getD general (from + k) 0)) × (from ≤ i) × (i ≤ to)
+    × (at ≡ offset base addr + 8 * (i - from)) × (length window ≡ length window₀)
 
 abbrev μ-loop : tie.MeasureT-loop
-μ-loop general window₀ base addr from to end i₀ window i = end - i
+μ-loop general window₀ base addr from to at₀ i₀ window at i = to - i
 
-of-256-requires : tie.Need-of-256-requires Inv-loop μ-loop
-of-256-requires c κs = search needs
-
-least-requires : tie.Need-least-requires Inv-loop μ-loop
-least-requires c κs = search needs
+distance-requires : tie.Need-distance-requires Inv-loop μ-loop
+distance-requires c κs = search needs
 
 loop-holds : tie.Need-loop-holds Inv-loop μ-loop
-loop-holds c = (run-none one _ _ _ _ (omega arith), omega arith, omega arith, refl)
-
-sub-wrapping-add : tie.Need-sub-wrapping-add Inv-loop μ-loop
-sub-wrapping-add c = omega arith
-
-mul-wrapping-add : tie.Need-mul-wrapping-add Inv-loop μ-loop
-mul-wrapping-add c = omega arith
-
-wrapping-add-requires : tie.Need-wrapping-add-requires Inv-loop μ-loop
-wrapping-add-requires c κs = search needs
+loop-holds c = (run-none one _ _ _ _ (omega arith), omega arith, omega (arith, c .before .before .pre .0), omega (arith, c .distance .ensures), refl)
 
 mul-v : tie.Need-mul-v Inv-loop μ-loop
 mul-v c = omega arith
 
 element-copy-out-v : tie.Need-element-copy-out-v Inv-loop μ-loop
-element-copy-out-v c = omega arith
+element-copy-out-v c = omega (arith, c .before .before .before .before .pre .1)
 
-write-octa-requires : tie.Need-write-octa-requires Inv-loop μ-loop
-write-octa-requires c κs = search needs
+store-requires : tie.Need-store-requires Inv-loop μ-loop
+unfolding shapeOf
+store-requires c κs =
+    let at-loop = c .before .before .before in
+    let start = at-loop .before .before .before in
+    omega (arith, at-loop .loop .inv .3, at-loop .loop .inv .4, run-end (shapeOf (lentOne (start .args .base) (start .args .window .now))) (start .args .addr) (omega arith) (start .args .to - start .args .from) (omega arith) (omega (arith, start .pre .2)))
+
+add-at : tie.Need-add-at Inv-loop μ-loop
+unfolding shapeOf
+add-at c =
+    let at-loop = c .before .before .before .before .before .before in
+    let start = at-loop .before .before .before in
+    omega (arith, at-loop .loop .inv .3, run-end (shapeOf (lentOne (start .args .base) (start .args .window .now))) (start .args .addr) (omega arith) (start .args .to - start .args .from) (omega arith) (omega (arith, start .pre .2)))
 
 add-i : tie.Need-add-i Inv-loop μ-loop
 add-i c = omega arith
@@ -54,27 +53,29 @@ loop-less c = omega arith
 
 loop-again : tie.Need-loop-again Inv-loop μ-loop
 loop-again c =
-    let at-loop = c .before .before .before .before .before .before .before in
-    let sum = c .before .before .before .before .before .wrapping-add in
-    let call = c .before .before .write-octa in
-    let start = at-loop .before .before .before .before .before in
-    let value : getD (start .args .general .now) (at-loop .loop .i) 0 ≡ getD (start .args .general .now) (start .args .from + (at-loop .loop .i - start .args .from)) 0
-    = ap (λ (k : ℕ). getD (start .args .general .now) k 0) (omega arith) in (
-      run-turn one one-lawful write-octa _ _ _ _ _ _ _ _ _ (at-loop .loop .inv .1) (at-loop .loop .inv .0) (sum .ensures) value (call .ensures),
+    let call = c .before .before .store in
+    let at-loop = c .before .before .before .before .before .before in
+    let start = at-loop .before .before .before in
+    let a = start .args in
+    let l = at-loop .loop in
+    let here : l .i - a .from < roomIn (shapeOf (lentOne (a .base) (l .window))) (a .addr) = omega (arith, start .pre .2, room-same (a .base) (a .addr) (a .window .now) (l .window) (l .inv .4)) in
+    let value : getD (a .general .now) (l .i) 0 ≡ getD (a .general .now) (a .from + (l .i - a .from)) 0 = ap (λ (k : ℕ). getD (a .general .now) k 0) (omega arith) in (
+      run-grown _ _ _ (a .addr) (a .from) (l .i) _ _ (l .inv .1) (l .inv .0) value
+          (run-put (a .base) (l .window) (a .addr) (l .i - a .from) (omega (arith, l .inv .4)) here _ _ _ (l .inv .3) (call .ensures)),
       omega arith,
       omega arith,
-      one-length _ _ _ _ _ (call .ensures) ∙ at-loop .loop .inv .3,
+      omega (arith, l .inv .3),
+      written-size _ _ _ _ (call .ensures) ∙ l .inv .4,
     )
 
 same-length : tie.Need-same-length Inv-loop μ-loop
-same-length c = c .before .loop .inv .3
+same-length c = c .before .loop .inv .4
 
 returns : tie.Need-returns Inv-loop μ-loop
-unfolding writtenRangeBy
 returns c =
-    let a = c .before .before .before .before .before .before .args in
-    c .before .loop .inv .0
-    ∙ ap (λ (n : ℕ). writtenRunBy one (lentOne (a .base) (a .window .now)) (a .addr) n (λ (k : ℕ). getD (a .general .now) (a .from + k) 0)) (omega (arith, c .before .before .least .ensures))
+    let a = c .before .before .before .before .args in
+    let e : c .before .loop .i ≡ a .to = omega arith in
+    rw e at (c .before .loop .inv .0)
 
 pub store-range-spec : {M : Type 1} → statement M
 store-range-spec =
@@ -82,15 +83,12 @@ store-range-spec =
     (tie.spec
     Inv-loop
     μ-loop
-    of-256-requires
-    least-requires
+    distance-requires
     loop-holds
-    sub-wrapping-add
-    mul-wrapping-add
-    wrapping-add-requires
     mul-v
     element-copy-out-v
-    write-octa-requires
+    store-requires
+    add-at
     add-i
     loop-less
     loop-again
