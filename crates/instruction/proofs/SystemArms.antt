@@ -27,7 +27,7 @@ use Rattle.instruction.specs.StepAnswer.{Whole}
 use Rattle.instruction.specs.Arms.{unsaveAt}
 use Rattle.instruction.proofs.ArmSteps.{told-step, stack-step}
 
--- what is said, with the window as it was
+-- what is said, with the windows as they were
 abbrev telling : Windows → Said → Outcome State Windows
 telling w d = record { reply = d .reply; state = d .state; memory = w }
 

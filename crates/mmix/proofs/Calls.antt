@@ -168,7 +168,7 @@ step-made g w e op x y z r k v h b a f c =
       bytes = t .bytes;
     }
 
--- a POP on what is held and a window that are those of r
+-- a POP on what is held and windows that are those of r
 returns : (h : ℕ) (s : State) (g : Held) (v : Windows) (r : Ran State Windows) → Intact g → Bytes v → heldState g ≡ r .state → v ≡ r .memory
     → ((x y z : ℕ) → GivesBack h s (popAfter r x y z)) → Returns h s g v
 returns h s g v r i b es ev back e x y z q k u a f c =
