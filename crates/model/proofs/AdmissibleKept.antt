@@ -10,7 +10,7 @@ use lib.Seq.{getD-set-same, getD-set-other}
 use lib.Bits.{bitAnd, bitOr, or-lt, and-le-r}
 use borrow.Author.Tests.{leb-true, ltb-true, eqb-false, le-leb, lt-ltb}
 use Rattle.model.specs.Fill.{over}
-use Rattle.model.specs.Registers.{rJ, rO, rS, rG, rL, rA, sp, following, Sized, admissible, goes, halted, withSpecial, cleared, claimLocal, stored, setRegister, putLocals, putGlobals, spilled}
+use Rattle.model.specs.Registers.{withParts, rJ, rO, rS, rG, rL, rA, sp, following, Sized, admissible, goes, halted, withSpecial, cleared, claimLocal, stored, setRegister, putLocals, putGlobals, spilled}
 use Rattle.model.specs.Frames.{slid, slide, pushedRule, pushed, countOf, restored, unslide, popped}
 use Rattle.model.specs.Contexts.{savedUnspilled, savedState, unsavedSpecial, unsavedGeneral, unsavedUnspilled, unsaved}
 use Rattle.model.specs.Trips.{interrupted, tripped, trapped, enables, added, withAdded}
@@ -119,6 +119,13 @@ claim-good s x h = go (leb (sp s rL) x && ltb x (sp s rG)) refl
     go : (b : Bool) → (leb (sp s rL) x && ltb x (sp s rG)) ≡ b → Good (cond b (withSpecial (cleared s (sp s rL) (x + 1)) rL (x + 1)) s)
     go true e = let l : x < sp s rG = ltb-true _ _ (and-right (leb (sp s rL) x) _ e) in withLocal-good (cleared s (sp s rL) (x + 1)) (x + 1) (omega arith) (cleared-good s (sp s rL) (x + 1) h)
     go false e = h
+
+-- t with the registers of s
+pub back-good : (s t : State) → Good s → Good t → Good (withParts t (s .general) (s .special))
+back-good s t h g = record {
+  size = record { generals = h .size .generals; specials = h .size .specials };
+  admits = record { g-low = h .admits .g-low; g-high = h .admits .g-high; l-g = h .admits .l-g; a-high = h .admits .a-high; marks-high = g .admits .marks-high };
+}
 
 pub set-good : (s : State) (x v : ℕ) → Good s → Good (setRegister s x v)
 unfolding setRegister

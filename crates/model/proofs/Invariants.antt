@@ -1,4 +1,4 @@
--- Theorem 2: what every step and every exception keeps.
+-- Theorem 2: what every step, every exception and every fetched instruction keeps.
 use mathlib.Core.Path.{_≡_, refl}
 use mathlib.Core.Bool.{true}
 use Prim.Native.Nat.{ℕ}
@@ -13,12 +13,14 @@ use Rattle.model.proofs.Bools.{on}
 use Rattle.model.proofs.ItemInvariant.{Keeps, item-keeps, item-always}
 use Rattle.model.proofs.MarginalKept.{Calm, calm-keeps}
 use Rattle.model.proofs.WordsKept.{item-words, item-bytes}
-use Rattle.model.proofs.AdmissibleKept.{Good, adm, adm-of, goes-good, halted-good, set-good, putLocals-good, putGlobals-good, withStatus-good, withSpecial-good, pushed-good, popped-good, saved-good, unsaved-good, tripped-good, trapped-good, added-good}
+use Rattle.model.proofs.AdmissibleKept.{Good, adm, adm-of, goes-good, halted-good, claim-good, back-good, set-good, putLocals-good, putGlobals-good, withStatus-good, withSpecial-good, pushed-good, popped-good, saved-good, unsaved-good, tripped-good, trapped-good, added-good}
 
 pub good-keeps : Keeps Good
 good-keeps = record {
   at-pc = goes-good;
   at-halt = halted-good;
+  claim = claim-good;
+  back = back-good;
   write = set-good;
   locals = putLocals-good;
   globals = putGlobals-good;
@@ -39,6 +41,8 @@ unfolding goes halted setRegister stored claimLocal putLocals putGlobals withSpe
 marks-keep m = record {
   at-pc = λ s a e. e;
   at-halt = λ s e. e;
+  claim = λ s x e. on (λ (t : State). t .marks ≡ m) (isMarginal s x) (λ f. e) (λ f. e);
+  back = λ s t e f. f;
   write = λ s x v e. on (λ (t : State). t .marks ≡ m) (isMarginal s x) (λ f. e) (λ f. e);
   locals = λ s v e. e;
   globals = λ s v a b c e. e;

@@ -1,10 +1,11 @@
--- A property of states that every state builder keeps is kept by every step and every exception.
+-- A property of states that every state builder keeps is kept by every step, every exception and every fetched instruction.
 use mathlib.Core.Path.{_≡_, refl}
-use mathlib.Core.Bool.{true, false}
+use mathlib.Core.Bool.{true, false, _||_}
 use mathlib.Core.List.{List}
 use Prim.Native.Nat.{ℕ, _≤_}
 use lib.Dec.{eqb}
-use Rattle.model.specs.Registers.{rH, rR, rG, rL, rA, sp, admissible, goes, halted, withSpecial, setRegister, putLocals, putGlobals}
+use lib.ListN.{getD}
+use Rattle.model.specs.Registers.{withParts, rH, rR, rG, rL, rA, sp, admissible, goes, halted, withSpecial, claimLocal, setRegister, putLocals, putGlobals}
 use Rattle.model.specs.Memory.{Windows, Shapes, both}
 use Rattle.model.specs.Plan.{Plan, answer, read}
 use Rattle.model.specs.Opcodes.{Arm, armOf}
@@ -16,16 +17,19 @@ use Rattle.model.specs.LoadStore.{flagV}
 use Rattle.model.specs.Control.{operandOf}
 use Rattle.model.specs.ArithmeticStep.{resultsIn, withResults}
 use Rattle.model.specs.Lists.{stepOn}
-use Rattle.model.specs.Step.{planOf, stepPlan, Item, step, exception, itemPlan, mmix}
+use Rattle.model.specs.Step.{refusalOf, unruledBy, planOf, guarded, fromThree, stepPlan, claims, opcodeIn, xIn, yIn, zIn, tetraAt, settledBy, takenBack, instructionPlan, tetraPlan, fetchedPlan, Item, step, exception, fetched, itemPlan, mmix}
 use Rattle.model.specs.declared.State.{State}
 use Rattle.model.specs.declared.Results.{Results}
+use Rattle.model.proofs.Bools.{on}
 use Rattle.model.proofs.Memory.{both-lawful}
-use Rattle.model.proofs.Plan.{Always, perform-always}
+use Rattle.model.proofs.Plan.{Always, Always-map, perform-always}
 use Rattle.model.proofs.ArmAnswers.{Answers, Meets, MeetsTrip, MeetsRaise, MeetsInterrupt, plan-meets, step-meets, exception-meets}
 
 pub record Keeps (P : State → Type 0) : Type 0 where
   pub at-pc : (s : State) (a : ℕ) → P s → P (goes s a)
   pub at-halt : (s : State) → P s → P (halted s)
+  pub claim : (s : State) (x : ℕ) → P s → P (claimLocal s x)
+  pub back : (s t : State) → P s → P t → P (withParts t (s .general) (s .special))
   pub write : (s : State) (x v : ℕ) → P s → P (setRegister s x v)
   pub locals : (s : State) (v : ℕ) → P s → P (putLocals s v)
   pub globals : (s : State) (v : ℕ) → 32 ≤ v → v ≤ 255 → sp s rL ≤ v → P s → P (putGlobals s v)
@@ -92,18 +96,44 @@ module _ (P : State → Type 0) (k : Keeps P) where
     computes = λ f p q e. meets-raise (withResults s x (resultsIn s f (operandOf s p y) (operandOf s q z))) _ _ _ _ (results-kept s x (resultsIn s f (operandOf s p y) (operandOf s q z)) h);
   }
 
+  three-kept : (s : State) (op x y z : ℕ) → P s → Always P (fromThree s (armOf op) op x y z)
+  unfolding fromThree
+  three-kept s op x y z h =
+      on (Always P) (eqb (refusalOf (armOf op) x y z) 0)
+      (λ e. answers-always P (planOf s (armOf op) op x y z)
+      (plan-meets s Any Any (λ r t vs. P t) (meets s h) (armOf op) op x y z tt tt (meets-interrupt s (armOf op) op x y z h)))
+      (λ e. unfold tell Always in h)
+
+  back-kept : (s : State) → P s → (p : Plan State) → Always P p → Always P (takenBack s p)
+  unfolding Always takenBack settledBy
+  back-kept s h (answer r t a vs) q = on P (eqb r 0 || eqb r 19) (λ e. q) (λ e. k .back s t h q)
+  back-kept s h (read q a n f) g = λ vs. back-kept s h (f vs) (g vs)
+
+  instruction-kept : (s : State) (op x y z : ℕ) → P s → Always P (instructionPlan s op x y z)
+  unfolding instructionPlan
+  instruction-kept s op x y z h =
+      on (Always P) (claims op) (λ e. back-kept s h _ (three-kept (claimLocal s x) op x y z (k .claim s x h))) (λ e. three-kept s op x y z h)
+
+  tetra-kept : (s : State) (t : ℕ) → P s → Always P (tetraPlan s t)
+  unfolding tetraPlan
+  tetra-kept s t h = instruction-kept s (opcodeIn t) (xIn t) (yIn t) (zIn t) h
+
 raise-map : (P Q : State → Type 0) → ((t : State) → Q t → P t) → (s : State) (f n u v : ℕ) → MeetsRaise s Any (λ r t. Q t) f n u v → MeetsRaise s Any (λ r t. P t) f n u v
 raise-map P Q g s f n u v m = record { adds = λ a w. g _ (m .adds a w); takes = record { trips = λ a w. g _ (m .takes .trips a w); trips-not = g _ (m .takes .trips-not) } }
 
 -- what Q gives, where Q is kept and an admissible state has it, every state keeps: one that is not admissible is refused by 1
 pub item-keeps : (P Q : State → Type 0) → Keeps Q → ((t : State) → Q t → P t)
     → (s : State) (w : Shapes) (i : Item) → (admissible s ≡ true → Q s) → P s → Always P (itemPlan s w i)
-unfolding itemPlan tell Always
+unfolding itemPlan tell Always fetchedPlan guarded
 item-keeps P Q k f s w (step op x y z) q h =
     answers-always P (stepPlan s w op x y z) (step-meets s w Any (λ r t vs. P t) (λ n a. h) op x y z (λ e. answers-map P Q f (planOf s (armOf op) op x y z)
     (plan-meets s Any Any (λ r t vs. Q t) (meets Q k s (q e)) (armOf op) op x y z tt tt (meets-interrupt Q k s (armOf op) op x y z (q e)))))
 item-keeps P Q k f s w (exception g op x y z u v) q h =
     exception-meets s Any (λ r t. P t) g op x y z u v (λ n b. tt) h (λ e. raise-map P Q f s g _ u v (meets-raise Q k s g _ u v (q e)))
+item-keeps P Q k f s w fetched q h =
+    on (Always P) (admissible s)
+    (λ e. on (Always P) (eqb (unruledBy w) 0) (λ r vs. Always-map Q P f (tetraPlan s (tetraAt s (getD vs 0 0))) (tetra-kept Q k s (tetraAt s (getD vs 0 0)) (q e))) (λ r. h))
+    (λ e. h)
 
 pub item-always : (P : State → Type 0) (w : Windows) (s : State) (i : Item) → P s → Always P (itemPlan s (both .shape w) i) → P (stepOn both mmix s w i .state)
 unfolding stepOn mmix

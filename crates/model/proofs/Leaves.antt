@@ -19,7 +19,7 @@ use Rattle.model.specs.Control.{operandOf, sumOf}
 use Rattle.model.specs.Trips.{interrupted, tripped, trapped, wordOf, withAdded}
 use Rattle.model.specs.LoadStore.{merged, fits, flagV, storeSays, storeTo}
 use Rattle.model.specs.ArithmeticStep.{resultsIn, withResults}
-use Rattle.model.specs.Step.{refusalOf, unruledBy, judged, refusing, planOf, guarded, fromThree, stepPlan, stepOf, exceptionOf}
+use Rattle.model.specs.Step.{unruledBy, judged, refusing, planOf, guarded, fromThree, stepPlan, stepOf, exceptionOf}
 use Rattle.model.specs.Leaves.{Interrupted, Tripped, Trapped, StoreLeaves, Sharing, StepLeaves, ExceptionLeaves, FieldLeaves, RepliesLeave}
 use Rattle.model.specs.Numbers.{Early, Lost, Halting, numberOf}
 use Rattle.model.specs.Field.{answerOf, fieldOf}
@@ -32,7 +32,7 @@ use Rattle.model.specs.Fill.{over}
 use Rattle.model.proofs.Bools.{on}
 use Rattle.model.proofs.Fill.{length-over}
 use Rattle.model.proofs.ItemInvariant.{Any}
-use Rattle.model.proofs.ArmAnswers.{Answers, Meets, MeetsTrip, MeetsRaise, MeetsInterrupt, plan-meets, refusal-most, judged-early, step-judged, step-meets, raised-meets, exception-meets, worst-six, perform-meets}
+use Rattle.model.proofs.ArmAnswers.{Answers, Meets, MeetsTrip, MeetsRaise, MeetsInterrupt, plan-meets, three-replies, judged-early, step-judged, step-meets, raised-meets, exception-meets, worst-six, perform-meets}
 use Rattle.model.proofs.Entry.{performOn, said-reply, shared-only}
 use Rattle.model.proofs.LoadStore.{store-made}
 use Rattle.model.proofs.ReaderLeaves.{reader-leaves}
@@ -321,40 +321,8 @@ store-leaves w s op x y z n k p =
 
 -- ---- 22
 
-arm-most : (s : State) → Meets s Any Any (λ r t vs. r ≤ 20)
-arm-most s = record {
-  word = λ n b. tt;
-  general-is = λ i. tt;
-  special-is = λ k. tt;
-  refuses = omega arith;
-  halts = λ n a. omega arith;
-  moves = λ a w. omega arith;
-  writes = λ x v a w u. omega arith;
-  locals = λ v a w u. omega arith;
-  globals = λ v a b c d w. omega arith;
-  status = λ v a b w. omega arith;
-  other = λ k v a b c d w u. omega arith;
-  pushes = λ h t w. omega arith;
-  pops = λ x t h ls w r. omega arith;
-  saves = λ x t b w. omega arith;
-  unsaves = λ o g a l vs t u w b c d f r. omega arith;
-  stores = λ v a w. omega arith;
-  computes = λ f x u v a wu wv w. omega arith;
-}
-
 three-most : (s : State) (op x y z : ℕ) → Answers Any (λ r t vs. r ≤ 20) (fromThree s (armOf op) op x y z)
-unfolding fromThree
-three-most s op x y z =
-    on (Answers Any (λ r t vs. r ≤ 20)) (eqb (refusalOf (armOf op) x y z) 0)
-    (λ e. plan-meets s Any Any (λ r t vs. r ≤ 20) (arm-most s) (armOf op) op x y z tt tt
-    (record { trips = λ m. trip-most; traps = λ m. omega arith; stores = λ d o m v. raise-most; computes = λ f p q m. raise-most }))
-    (λ e. unfold tell Answers in (omega (arith, refusal-most (armOf op) x y z)))
-  where
-    trip-most : {t : State} {n u v : ℕ} → MeetsTrip t Any (λ r t. r ≤ 20) n u v
-    trip-most = record { trips = λ a w. omega arith; trips-not = omega arith }
-
-    raise-most : {t : State} {f n u v : ℕ} → MeetsRaise t Any (λ r t. r ≤ 20) f n u v
-    raise-most = record { adds = λ a w. omega arith; takes = trip-most }
+three-most s op x y z = three-replies (λ r. r ≤ 20) (omega arith) (λ n a b. omega arith) (λ n a. omega arith) (omega arith) s (armOf op) op x y z (λ m. omega arith)
 
 step-shared : (w : Windows) (s : State) (op x y z : ℕ) → stepOf w s op x y z .reply ≡ 22 → (admissible s ≡ true) × Sharing (shapesOf w)
 unfolding stepOf stepPlan guarded

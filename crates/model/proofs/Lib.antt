@@ -16,10 +16,11 @@ pub mod Arithmetic
 pub mod ArithmeticWords
 pub mod ArmAnswers
 pub mod ItemInvariant
+pub mod Entry
+pub mod Fetched
 pub mod MarginalKept
 pub mod WordsKept
 pub mod Invariants
-pub mod Entry
 pub mod PushPop
 pub mod Demand
 pub mod ReaderLeaves

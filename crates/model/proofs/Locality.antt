@@ -21,7 +21,7 @@ use Rattle.model.proofs.Bools.{and-left, and-right, on-both}
 use Rattle.model.proofs.ItemInvariant.{Any}
 use Rattle.model.proofs.Memory.{raw-octa, both-lawful}
 use Rattle.model.proofs.Plan.{All-map, Same, worst-head, worst-tail, touches, touches-off, perform-agree, needs-agree, perform-kept, perform-shape}
-use Rattle.model.proofs.ArmAnswers.{Answers, Meets, MeetsTrip, MeetsRaise, worst-six, plan-meets, step-meets}
+use Rattle.model.proofs.ArmAnswers.{Answers, worst-six, plan-replies, step-meets}
 use Rattle.model.proofs.Entry.{sound-at, judged-inside, inside-judged}
 
 -- ---- octabytes among the needs
@@ -94,37 +94,10 @@ octa-kept w s op x y z a h =
 
 -- ---- 6
 
-never-six : (s : State) → Meets s Any Any (λ r t vs. r ≢ 6)
-never-six s = record {
-  word = λ n b. tt;
-  general-is = λ i. tt;
-  special-is = λ k. tt;
-  refuses = λ e. omega arith;
-  halts = λ n a e. omega arith;
-  moves = λ a w e. omega arith;
-  writes = λ x v a w u e. omega arith;
-  locals = λ v a w u e. omega arith;
-  globals = λ v a b c d w e. omega arith;
-  status = λ v a b w e. omega arith;
-  other = λ k v a b c d w u e. omega arith;
-  pushes = λ h t w e. omega arith;
-  pops = λ x t h ls w r e. omega arith;
-  saves = λ x t b w e. omega arith;
-  unsaves = λ o g a l vs t u w b c d f r e. omega arith;
-  stores = λ v a w e. omega arith;
-  computes = λ f x u v a wu wv w e. omega arith;
-}
-
 step-never-six : (s : State) (w : Shapes) (op x y z : ℕ) → Answers Any (λ r t vs. r ≢ 6) (stepPlan s w op x y z)
 step-never-six s w op x y z =
     step-meets s w Any (λ r t vs. r ≢ 6) (λ n a e. ⊎-elim (λ l. omega arith) (λ q. let z : n ≡ 22 = q in omega arith) a) op x y z
-    (λ e. plan-meets s Any Any (λ r t vs. r ≢ 6) (never-six s) (armOf op) op x y z tt tt (record { trips = λ m. never; traps = λ m e. omega arith; stores = λ d o m v. raised; computes = λ f p q m. raised }))
-  where
-    never : {t : State} {n u v : ℕ} → MeetsTrip t Any (λ r t. r ≢ 6) n u v
-    never = record { trips = λ a w e. omega arith; trips-not = λ e. omega arith }
-
-    raised : {t : State} {f n u v : ℕ} → MeetsRaise t Any (λ r t. r ≢ 6) f n u v
-    raised = record { adds = λ a w e. omega arith; takes = never }
+    (λ e. plan-replies (λ r. r ≢ 6) (λ e. omega arith) (λ e. omega arith) (λ n a e. omega arith) (λ e. omega arith) s (armOf op) op x y z (λ m e. omega arith))
 
 inside-front : (w : Shapes) (xs ys : List ℕ) → allInside w xs ≡ true → allInside w (xs ++ ys) ≡ allInside w ys
 unfolding allInside

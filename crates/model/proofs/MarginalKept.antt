@@ -16,8 +16,8 @@ use Rattle.model.specs.Contexts.{contextAddress, savedUnspilled, savedSt
 use Rattle.model.specs.Trips.{interrupted, withAdded}
 use Rattle.model.specs.declared.State.{State}
 use Rattle.model.proofs.Fill.{over-in, over-below, over-above, lt-or-le}
-use Rattle.model.proofs.AdmissibleKept.{Good, spec-other, spec-same, goes-good, halted-good, stored-good, cleared-good, withLocal-good, putLocals-good, putGlobals-good, withStatus-good, withSpecial-good, slide-good, unslide-good, savedUnspilled-good, unsavedUnspilled-good, unsaved-special, tripped-good, trapped-good, added-good}
-use Rattle.model.proofs.Bools.{on, on-both}
+use Rattle.model.proofs.AdmissibleKept.{Good, spec-other, spec-same, goes-good, halted-good, back-good, stored-good, cleared-good, withLocal-good, putLocals-good, putGlobals-good, withStatus-good, withSpecial-good, slide-good, unslide-good, savedUnspilled-good, unsavedUnspilled-good, unsaved-special, tripped-good, trapped-good, added-good}
+use Rattle.model.proofs.Bools.{and-left, and-right, on, on-both}
 use Rattle.model.proofs.ItemInvariant.{Keeps}
 
 -- good, and all marginal registers zero
@@ -55,6 +55,12 @@ claimed-calm s x a b h =
     calm-by (withSpecial (cleared s (sp s rL) (x + 1)) rL (x + 1)) (withLocal-good (cleared s (sp s rL) (x + 1)) (x + 1) (omega arith) (cleared-good s (sp s rL) (x + 1) (h .good))) (x + 1) (sp s rG)
     (simp (spec-same, n)) (simp spec-other)
     (λ i p q. over-above (λ k. 0) (sp s rL) (x + 1) (s .general) i p (omega arith) ∙ h .zero-at i (omega arith) q)
+
+claim-calm : (s : State) (x : ℕ) → Calm s → Calm (claimLocal s x)
+unfolding claimLocal
+claim-calm s x h =
+    on Calm (leb (sp s rL) x && ltb x (sp s rG))
+    (λ e. claimed-calm s x (leb-true _ _ (and-left (leb (sp s rL) x) _ e)) (ltb-true _ _ (and-right (leb (sp s rL) x) _ e)) h) (λ e. h)
 
 claimed-rL : (s : State) (x : ℕ) → length (s .special) ≡ 32 → sp (withSpecial (cleared s (sp s rL) (x + 1)) rL (x + 1)) rL ≡ x + 1
 unfolding withSpecial cleared
@@ -180,6 +186,8 @@ pub calm-keeps : Keeps Calm
 calm-keeps = record {
   at-pc = goes-calm;
   at-halt = halted-calm;
+  claim = claim-calm;
+  back = λ s t h g. record { good = back-good s t (h .good) (g .good); zero-at = h .zero-at };
   write = set-calm;
   locals = locals-calm;
   globals = globals-calm;

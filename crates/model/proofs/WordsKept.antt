@@ -1,7 +1,7 @@
 -- Words stay words, and bytes bytes: each state builder keeps a state's numbers below 2^64 where what it writes is below 2^64.
-use mathlib.Core.Path.{_≡_, sym, ap, _∙_, subst}
+use mathlib.Core.Path.{_≡_, refl, sym, ap, _∙_, subst}
 use mathlib.Core.Logic.{_⊎_, inl, inr}
-use mathlib.Core.Bool.{_&&_}
+use mathlib.Core.Bool.{Bool, true, false, _&&_, _||_}
 use mathlib.Core.List.{List, [], _∷_}
 use Prim.Native.Nat.{ℕ, zero, suc, _+_, _-_, _*_, _%_, _^_, _≤_, _<_, min, max}
 use native.Mathlib.Omega.{arith}
@@ -26,7 +26,8 @@ use Rattle.model.specs.Trips.{wordOf, interrupted, added, withAdded}
 use Rattle.model.specs.LoadStore.{flagV}
 use Rattle.model.specs.ArithmeticStep.{operandsOf, resultsIn, withResults}
 use Rattle.model.specs.Lists.{stepOn}
-use Rattle.model.specs.Step.{stepPlan, exceptionOf, Item, step, exception, itemPlan, mmix}
+use Rattle.model.specs.Step.{refusalOf, planOf, fromThree, stepPlan, exceptionOf, claims, opcodeIn, xIn, yIn, zIn, settledBy, tetraPlan, instructionPlan, fetchedOf, Item, step, exception, fetched, itemPlan, mmix}
+use Rattle.model.specs.Fetched.{tetraOf}
 use Rattle.model.specs.Invariants.{InstructionFits, Fits, Bytes}
 use Rattle.model.specs.declared.State.{State}
 use Rattle.model.specs.declared.Operation.{Operation}
@@ -36,6 +37,8 @@ use Rattle.model.proofs.Bools.{on, and-right}
 use Rattle.model.proofs.Fill.{length-over, over-in, over-below, over-above, lt-or-le}
 use Rattle.model.proofs.AdmissibleKept.{added-byte}
 use Rattle.model.proofs.ArmAnswers.{Answers, Meets, MeetsTrip, MeetsRaise, MeetsInterrupt, plan-meets, step-meets, exception-meets, perform-meets}
+use Rattle.model.proofs.Entry.{performOn, said}
+use Rattle.model.proofs.Fetched.{tetra-fits, instruction-claims, instruction-free, fetched-by}
 
 -- ---- lists of numbers below a bound
 
@@ -112,14 +115,18 @@ cleared-words s a b h =
     words-by (cleared s a b) (over-bound (2 ^ 64) (λ k. 0) a b (s .general) (omega arith) (generals s h) (λ k. omega arith)) (specials s h) (h .pc-word) (h .halt-word) (h .marks-word)
 
 -- rL after a claim is at most rG
-set-words : (s : State) (x v : ℕ) → Word v → Words s → Words (setRegister s x v)
-unfolding setRegister claimLocal
-set-words s x v b h =
-    stored-words _ x v b (on Words (isMarginal s x)
+pub claim-words : (s : State) (x : ℕ) → Words s → Words (claimLocal s x)
+unfolding claimLocal
+claim-words s x h =
+    on Words (isMarginal s x)
     (λ e. let l : x < sp s rG = ltb-true _ _ (and-right (leb (sp s rL) x) _ e) in
     let g : sp s rG < 2 ^ 64 = h .special-word rG in
     special-words (cleared s (sp s rL) (x + 1)) rL (x + 1) (omega arith) (cleared-words s (sp s rL) (x + 1) h))
-    (λ e. h))
+    (λ e. h)
+
+set-words : (s : State) (x v : ℕ) → Word v → Words s → Words (setRegister s x v)
+unfolding setRegister
+set-words s x v b h = stored-words _ x v b (claim-words s x h)
 
 locals-words : (s : State) (v : ℕ) → Words s → Words (putLocals s v)
 unfolding putLocals
@@ -253,7 +260,7 @@ unfolding perform
 perform-bytes {S} j s (answer r t a vs) w h = on {A = Outcome S Windows} (λ o. Bytes (o .memory)) (clear j a (length vs)) (λ e. puts-bytes vs w a h) (λ e. h)
 perform-bytes {S} j s (read q a n k) w h = on {A = Outcome S Windows} (λ o. Bytes (o .memory)) (clear j a n) (λ e. perform-bytes j s (k (looks both w a n)) w h) (λ e. h)
 
--- ---- every step and every exception
+-- ---- every step, every exception and every fetched instruction
 
 pub item-bytes : (w : Windows) (s : State) (i : Item) → Bytes w → Bytes (stepOn both mmix s w i .memory)
 unfolding stepOn mmix
@@ -318,6 +325,33 @@ meets-interrupt s m op x y z f h =
     operand-word register k b = h .general-word k
     operand-word immediate k b = omega arith
 
+three-words : (w : Windows) (s : State) (op x y z : ℕ) → InstructionFits op x y z → Bytes w → Words s → Words (performOn w s (fromThree s (armOf op) op x y z) .state)
+unfolding fromThree
+three-words w s op x y z f b h =
+    on (λ (p : Plan State). Words (performOn w s p .state)) (eqb (refusalOf (armOf op) x y z) 0)
+    (λ e. let y-word : Word y = let c : y < 256 = f .y-byte in omega arith in
+    let z-word : Word z = let c : z < 256 = f .z-byte in omega arith in
+    perform-meets w s (Below (2 ^ 64)) (λ r t vs. Words t) (λ o. Words (o .state)) h (λ r t a vs k. k) (λ a n. looks-words n w a b) (planOf s (armOf op) op x y z)
+    (plan-meets s Word (Below (2 ^ 64)) (λ r t vs. Words t) (meets-words s h) (armOf op) op x y z y-word z-word (meets-interrupt s (armOf op) op x y z f h)))
+    (λ e. unfold tell in (rw (said w s s (refusalOf (armOf op) x y z)) h))
+
+instruction-words : (w : Windows) (s : State) (op x y z : ℕ) → InstructionFits op x y z → Bytes w → Words s → Words (performOn w s (instructionPlan s op x y z) .state)
+instruction-words w s op x y z f b h = go (claims op) refl
+  where
+    back : (r : ℕ) (t : State) → Words t → Words (settledBy s r t)
+    back r t k = unfold settledBy in
+        (on Words (eqb r 0 || eqb r 19) (λ e. k)
+        (λ e. record { general-word = h .general-word; special-word = h .special-word; pc-word = k .pc-word; halt-word = k .halt-word; marks-word = k .marks-word }))
+
+    go : (c : Bool) → claims op ≡ c → Words (performOn w s (instructionPlan s op x y z) .state)
+    go true e = rw (instruction-claims w s op x y z e) (back _ _ (three-words w (claimLocal s x) op x y z f b (claim-words s x h)))
+    go false e = rw (instruction-free w s op x y z e) (three-words w s op x y z f b h)
+
+fetched-words : (w : Windows) (s : State) → Bytes w → Words s → Words (fetchedOf w s .state)
+fetched-words w s b h =
+    fetched-by (λ o. Words (o .state)) w s (λ a. h) (λ a n. h) (λ a r i. h)
+    (λ a r i. unfold tetraPlan in (instruction-words w s _ _ _ _ (tetra-fits s _) b h))
+
 pub item-words : (w : Windows) (s : State) (i : Item) → Fits i → Bytes w → Words s → Words (stepOn both mmix s w i .state)
 unfolding stepOn mmix itemPlan Fits both
 item-words w s (step op x y z) f b h =
@@ -330,3 +364,4 @@ item-words w s (exception g op x y z u v) f b h =
     perform-meets w s (Below (2 ^ 64)) (λ r t vs. Words t) (λ o. Words (o .state)) h (λ r t a vs k. k) (λ a n. looks-words n w a b) (tell (exceptionOf s g op x y z u v))
     (unfold tell Answers in (exception-meets s Word (λ r t. Words t) g op x y z u v (λ n c. c) h
     (λ e. meets-raise s g (wordOf op x y z) u v (word-small op x y z (f .0)) (f .1) (f .2) h)))
+item-words w s fetched f b h = unfold fetchedOf in (fetched-words w s b h)

@@ -1,4 +1,4 @@
--- Theorem 2. What every step and every exception keeps.
+-- Theorem 2. What every step, every exception and every fetched instruction keeps.
 use Prim.Native.Nat.{ℕ, _<_, _^_}
 use mathlib.Core.Path.{_≡_}
 use mathlib.Core.Bool.{true}
@@ -6,7 +6,7 @@ use lib.ListN.{getD}
 use Rattle.model.specs.Memory.{Windows, both}
 use Rattle.model.specs.Lists.{stepOn}
 use Rattle.model.specs.Registers.{Sized, Words, admissible, MarginalZero}
-use Rattle.model.specs.Step.{Item, step, exception, mmix}
+use Rattle.model.specs.Step.{Item, step, exception, fetched, mmix}
 use Rattle.model.specs.declared.State.{State}
 
 -- the item's own numbers are in range: opcode, X, Y, Z are bytes, operands are octabytes (flags are taken modulo 256)
@@ -19,6 +19,7 @@ pub record InstructionFits (op x y z : ℕ) : Type 0 where
 unfoldable pub Fits : Item → Type 0
 Fits (step op x y z) = InstructionFits op x y z
 Fits (exception f op x y z u v) = InstructionFits op x y z × (u < 2 ^ 64) × (v < 2 ^ 64)
+Fits fetched = Unit {0}
 
 -- each byte of the windows is one
 pub record Bytes (w : Windows) : Type 0 where

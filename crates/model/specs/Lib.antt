@@ -17,6 +17,7 @@ pub mod Arithmetic
 pub mod ArithmeticStep
 pub mod Lists
 pub mod Step
+pub mod Run
 pub mod Reader
 pub mod Numbers
 pub mod Field
@@ -41,6 +42,7 @@ pub mod Roundtrip
 pub mod Departures
 pub mod DepartureExamples
 pub mod Order
+pub mod Fetched
 pub mod Reaches
 pub mod PopOrder
 pub mod FieldPoints

@@ -5,15 +5,20 @@ use mathlib.Core.Logic.{_⊎_}
 use mathlib.Core.List.{[], _∷_}
 use lib.ListN.{getD}
 use Rattle.model.specs.declared.Reply.{Reply}
-use Rattle.model.specs.declared.Reply.the-variants.{Done, NotAdmissible, WindowRule, NoArm, NamedTrap, NoSpecial, Missing, PutUnknown, PutPrivileged, PutIllegal, PutThreshold, PutStatus, Misplaced, SaveLocal, SavedThreshold, SavedStatus, SavedCount, SyncPrivileged, SyncIllegal, NotLoaded, Trapped, OutOfReach, Shared, Across}
+use Rattle.model.specs.declared.Reply.the-variants.{Done, NotAdmissible, WindowRule, NoArm, NamedTrap, NoSpecial, Missing, PutUnknown, PutPrivileged, PutIllegal, PutThreshold, PutStatus, Misplaced, SaveLocal, SavedThreshold, SavedStatus, SavedCount, SyncPrivileged, SyncIllegal, NotLoaded, Trapped, OutOfReach, Shared, Across, NotFetched, GrantTooLarge}
 
 -- what the numbers leave, by kind: judged before an octabyte is asked for, nothing changes; a needed octabyte that is not there, nothing
--- changes; "halt code 1 only". 19 and 20 have kinds of their own; 21 and 23 are no step's, and there is no state that they could change
+-- changes; "halt code 1 only". 19 and 20 have kinds of their own; 21 and 23 are no step's, and there is no state that they could change;
+-- 25 is a run's, which it refuses whole
 abbrev pub Early : ℕ → Type 0
 Early n = ((1 ≤ n) × (n ≤ 5)) ⊎ (n ≡ 22)
 
 abbrev pub Lost : ℕ → Type 0
 Lost n = n ≡ 6
+
+-- of a fetched instruction: 24 too, the tetra at PC is not there
+abbrev pub Missed : ℕ → Type 0
+Missed n = Lost n ⊎ (n ≡ 24)
 
 abbrev pub Halting : ℕ → Type 0
 Halting n = (7 ≤ n) × (n ≤ 18)
@@ -43,14 +48,16 @@ numberOf Trapped = 20
 numberOf OutOfReach = 21
 numberOf Shared = 22
 numberOf Across = 23
+numberOf NotFetched = 24
+numberOf GrantTooLarge = 25
 
 unfoldable pub replyOf : ℕ → Reply
 replyOf n = getD (Done ∷ NotAdmissible ∷ WindowRule ∷ NoArm ∷ NamedTrap ∷ NoSpecial ∷ Missing
     ∷ PutUnknown ∷ PutPrivileged ∷ PutIllegal ∷ PutThreshold ∷ PutStatus ∷ Misplaced
     ∷ SaveLocal ∷ SavedThreshold ∷ SavedStatus ∷ SavedCount ∷ SyncPrivileged ∷ SyncIllegal ∷ NotLoaded ∷ Trapped
-    ∷ OutOfReach ∷ Shared ∷ Across ∷ []) n Done
+    ∷ OutOfReach ∷ Shared ∷ Across ∷ NotFetched ∷ GrantTooLarge ∷ []) n Done
 
--- the two are inverse on 0 to 23
+-- the two are inverse on 0 to 25
 pub record Numbered : Type 0 where
   pub reply-number : (r : Reply) → replyOf (numberOf r) ≡ r
-  pub number-reply : (n : ℕ) → n ≤ 23 → numberOf (replyOf n) ≡ n
+  pub number-reply : (n : ℕ) → n ≤ 25 → numberOf (replyOf n) ≡ n

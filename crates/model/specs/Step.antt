@@ -1,20 +1,21 @@
--- The entries' own definitions, `stepOf` and `exceptionOf`: 01's steps under 01's order of judging; and lists of them.
-use Prim.Native.Nat.{ℕ, _+_, _*_, _%_, _^_}
+-- The entries' own definitions, `stepOf`, `exceptionOf` and `fetchedOf`: 01's steps under 01's order of judging, and one that is fetched; and lists of them.
+use Prim.Native.Nat.{ℕ, _+_, _*_, _/_, _%_, _^_}
 use mathlib.Core.Bool.{Bool, cond, _&&_, _||_}
 use mathlib.Core.List.{List, []}
 use lib.Dec.{leb, ltb, eqb}
+use lib.ListN.{getD}
 use Rattle.model.specs.Memory.{Windows, Shapes, shapesOf, ruled, shares, inside, both}
-use Rattle.model.specs.Plan.{Plan, answer, Outcome, perform, needs}
+use Rattle.model.specs.Plan.{Plan, answer, read, Outcome, perform, needs}
 use Rattle.model.specs.Lists.{Machine}
-use Rattle.model.specs.Registers.{rJ, sp, reg, admissible, goes, following, next, setRegister}
-use Rattle.model.specs.Opcodes.{Arm, branch, jump, getAddress, go, pushJump, pushGo, pop, put, get, save, unsave, sync, swym, trip, trap, load, store, arithmetic, none, armOf}
+use Rattle.model.specs.Registers.{rJ, sp, reg, admissible, goes, following, next, withParts, claimLocal, setRegister}
+use Rattle.model.specs.Opcodes.{tetra, Arm, branch, jump, getAddress, go, pushJump, pushGo, pop, put, get, save, unsave, sync, swym, trip, trap, load, store, arithmetic, none, among, armOf}
 use Rattle.model.specs.NoMemory.{Said, say, tell}
 use Rattle.model.specs.Control.{near, far, yzOf, xyzOf, sumOf, operandOf, holds}
 use Rattle.model.specs.Frames.{hole, pushFrame, popFrame}
 use Rattle.model.specs.Contexts.{saveContext, unsaveContext}
 use Rattle.model.specs.System.{putSpecial, got, syncOf}
 use Rattle.model.specs.Trips.{wordOf, tripTo, trapOf, raised}
-use Rattle.model.specs.LoadStore.{loadFrom, storeTo}
+use Rattle.model.specs.LoadStore.{operandIn, loadFrom, storeTo}
 use Rattle.model.specs.ArithmeticStep.{arithmeticSays}
 use Rattle.model.specs.declared.State.{State}
 
@@ -108,6 +109,62 @@ stepOf w s op x y z = perform both (refusing (shapesOf w)) s (stepPlan s (shapes
 unfoldable pub stepNeeds : Windows → State → ℕ → ℕ → ℕ → ℕ → List ℕ
 stepNeeds w s op x y z = needs both (refusing (shapesOf w)) (stepPlan s (shapesOf w) op x y z) w
 
+-- ---- one fetched instruction
+
+-- "The byte ranges in `writes_general_register_x` name the opcodes whose $X is claimed before the arm"
+unfoldable pub claims : ℕ → Bool
+claims op =
+    among 0x01 0x3F op || (among 0x60 0x99 op || (among 0x9E 0x9F op || (among 0xBE 0xEF op || (among 0xF2 0xF5 op || (eqb op 0xFA || eqb op 0xFE)))))
+
+-- opcode, X, Y and Z of a tetra
+abbrev pub opcodeIn : ℕ → ℕ
+opcodeIn t = t / 2 ^ 24
+
+abbrev pub xIn : ℕ → ℕ
+xIn t = t / 2 ^ 16 % 256
+
+abbrev pub yIn : ℕ → ℕ
+yIn t = t / 2 ^ 8 % 256
+
+abbrev pub zIn : ℕ → ℕ
+zIn t = t % 256
+
+-- the tetra at PC, of the octabyte v that PC names: "PC's low two bits are dropped for the fetch alone; @ is PC"
+unfoldable pub tetraAt : State → ℕ → ℕ
+tetraAt s v = operandIn tetra (s .pc) v
+
+-- "An instruction refused by any number but 19 takes its claim back": of the state t that reply r leaves, the registers are those of s
+unfoldable pub settledBy : State → ℕ → State → State
+settledBy s r t = cond (eqb r 0 || eqb r 19) t (withParts t (s .general) (s .special))
+
+unfoldable pub takenBack : State → Plan State → Plan State
+takenBack s (answer r t a vs) = answer r (settledBy s r t) a vs
+takenBack s (read q a n k) = read q a n (λ vs. takenBack s (k vs))
+
+-- the state that the arm works on
+unfoldable pub claimedBy : State → ℕ → ℕ → State
+claimedBy s op x = cond (claims op) (claimLocal s x) s
+
+-- from 3 on, with $X claimed first where the opcode claims it
+unfoldable pub instructionPlan : State → ℕ → ℕ → ℕ → ℕ → Plan State
+instructionPlan s op x y z =
+    cond (claims op) (takenBack s (fromThree (claimLocal s x) (armOf op) op x y z)) (fromThree s (armOf op) op x y z)
+
+unfoldable pub tetraPlan : State → ℕ → Plan State
+tetraPlan s t = instructionPlan s (opcodeIn t) (xIn t) (yIn t) (zIn t)
+
+-- 24: "the tetra at PC is in no window, judged for each instruction after 22 and before 3"
+unfoldable pub fetchedPlan : State → Shapes → Plan State
+fetchedPlan s w = guarded s s w (read 24 (s .pc) 1 (λ v. tetraPlan s (tetraAt s (getD v 0 0))))
+
+-- THE fetched instruction: reply, state and windows after it
+unfoldable pub fetchedOf : Windows → State → Outcome State Windows
+fetchedOf w s = perform both (refusing (shapesOf w)) s (fetchedPlan s (shapesOf w)) w
+
+-- the octabytes that it needs: "Fetching counts as a need"
+unfoldable pub fetchedNeeds : Windows → State → List ℕ
+fetchedNeeds w s = needs both (refusing (shapesOf w)) (fetchedPlan s (shapesOf w)) w
+
 -- ---- one exception
 
 -- THE exception: "a byte of flags, op, X, Y, Z and two operands come in; this entry judges 1, then 19"
@@ -116,14 +173,16 @@ exceptionOf s f op x y z u v = cond (admissible s) (raised s f (wordOf op x y z)
 
 -- ---- lists
 
--- "The list may hold steps with any opcode, X, Y and Z, and exceptions with any arguments"
+-- "The list may hold steps with any opcode, X, Y and Z, and exceptions with any arguments"; and instructions fetched at PC
 pub data Item : Type 0 where
   step : ℕ → ℕ → ℕ → ℕ → Item
   exception : ℕ → ℕ → ℕ → ℕ → ℕ → ℕ → ℕ → Item
+  fetched : Item
 
 unfoldable pub itemPlan : State → Shapes → Item → Plan State
 itemPlan s w (step op x y z) = stepPlan s w op x y z
 itemPlan s w (exception f op x y z u v) = tell (exceptionOf s f op x y z u v)
+itemPlan s w fetched = fetchedPlan s w
 
 unfoldable pub mmix : Machine State Item Shapes
 mmix = record { judge = λ s w i. refusing w; plan = itemPlan }

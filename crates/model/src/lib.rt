@@ -53,6 +53,10 @@ pub enum Reply {
     Shared,
     // The reader's alone: a context that lies across both windows.
     Across,
+    // The tetra at PC is in no window: judged after 22 and before 3, and leaves everything as it was.
+    NotFetched,
+    // A run's alone: a grant above 1,000,000, judged after 22; the call is refused whole.
+    GrantTooLarge,
 }
 
 /// An octabyte that was read, and which window holds it: 0 for A, 1 for B, 2 for neither.
