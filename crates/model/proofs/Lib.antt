@@ -28,6 +28,7 @@ pub mod Leaves
 pub mod StepNeeds
 pub mod Locality
 pub mod Bench
+pub mod RunPoints
 pub mod Rules
 pub mod RaisedRule
 pub mod RuleStep

@@ -35,6 +35,7 @@ pub mod Bench
 pub mod Points
 pub mod LoadStorePoints
 pub mod WindowPoints
+pub mod RunPoints
 pub mod ArithmeticMeant
 pub mod ArithmeticPoints
 pub mod ArithmeticStepPoints
