@@ -8,6 +8,7 @@ pub mod Apart
 pub mod Plan
 pub mod Runs
 pub mod Lists
+pub mod RunLaws
 pub mod Numbers
 pub mod AdmissibleKept
 pub mod LoadStore
@@ -21,6 +22,7 @@ pub mod Fetched
 pub mod MarginalKept
 pub mod WordsKept
 pub mod Invariants
+pub mod RunMeant
 pub mod PushPop
 pub mod Demand
 pub mod ReaderLeaves

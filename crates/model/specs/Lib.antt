@@ -44,6 +44,7 @@ pub mod Departures
 pub mod DepartureExamples
 pub mod Order
 pub mod Fetched
+pub mod RunMeant
 pub mod Reaches
 pub mod PopOrder
 pub mod FieldPoints
