@@ -2,29 +2,30 @@
 use mathlib.Core.Path.{_≡_, refl, sym, ap, _∙_}
 use mathlib.Core.Logic.{_≢_, ⊎-elim}
 use mathlib.Core.Bool.{Bool, true, false, cond, _||_}
-use mathlib.Core.List.{List}
-use Prim.Native.Nat.{ℕ, _+_, _/_, _%_, _^_, _<_, max}
+use mathlib.Core.List.{List, []}
+use Prim.Native.Nat.{ℕ, _+_, _/_, _%_, _^_, _≤_, _<_, max}
 use native.Mathlib.Omega.{arith}
 use lib.Dec.{eqb}
 use lib.ListN.{length}
 use borrow.Author.Tests.{eqb-true, eqb-false, ne-eqb}
 use Rattle.model.specs.Registers.{withParts, Sized, admissible, halted, withSpecial, cleared, claimLocal, isMarginal}
-use Rattle.model.specs.Memory.{Windows, Shapes, shapesOf, inside, both}
+use Rattle.model.specs.Memory.{Windows, Shapes, shapesOf, ruled, shares, inside, both}
 use Rattle.model.specs.Plan.{Plan, answer, read, Outcome, perform, worst, clear, named, looks}
 use Rattle.model.specs.Opcodes.{tetra, armOf}
+use Rattle.model.specs.NoMemory.{say, tell}
 use Rattle.model.specs.LoadStore.{bytesIn, operandIn}
-use Rattle.model.specs.Step.{unruledBy, refusing, fromThree, guarded, stepPlan, stepOf, claims, opcodeIn, xIn, yIn, zIn, tetraAt, settledBy, takenBack, claimedBy, instructionPlan, tetraPlan, fetchedPlan, fetchedOf}
+use Rattle.model.specs.Step.{refusalOf, unruledBy, refusing, fromThree, guarded, stepPlan, stepOf, claims, opcodeIn, xIn, yIn, zIn, tetraAt, settledBy, takenBack, claimedBy, instructionPlan, tetraPlan, fetchedPlan, fetchedOf, tetraOf, claimedAt}
 use Rattle.model.specs.Numbers.{Lost}
-use Rattle.model.specs.Order.{Passes}
+use Rattle.model.specs.Order.{Passes, refusedBy, FetchedInOrder}
 use Rattle.model.specs.Invariants.{InstructionFits}
-use Rattle.model.specs.Fetched.{tetraOf, stepSaid, claimedAt, Fetches, settled, FetchedIsStep}
+use Rattle.model.specs.Fetched.{stepSaid, Fetches, settled, FetchedIsStep}
 use Rattle.model.specs.declared.State.{State}
 use Rattle.model.proofs.Bools.{on, on-both}
 use Rattle.model.proofs.LoadStore.{operand-small}
 use Rattle.model.proofs.AdmissibleKept.{Good, adm, adm-of, claim-good}
 use Rattle.model.proofs.ItemInvariant.{Any}
-use Rattle.model.proofs.ArmAnswers.{Answers, three-replies, worst-six}
-use Rattle.model.proofs.Entry.{performOn, said, said-reply, guarded-one, guarded-unruled, guarded-open, none-unruled}
+use Rattle.model.proofs.ArmAnswers.{Answers, refusal-most, three-replies, worst-six}
+use Rattle.model.proofs.Entry.{performOn, said, said-reply, guarded-one, guarded-unruled, guarded-open, none-unruled, unruled-two, unruled-shared}
 
 -- ---- the bytes of a tetra are bytes
 
@@ -105,14 +106,11 @@ claim-admissible s x n a = adm-of (claimLocal s x) (claim-good s x (record { siz
 
 -- ---- 1, 2, 22, 24
 
-abbrev refusal : ℕ → Windows → State → Outcome State Windows
-refusal n w s = record { reply = n; state = s; memory = w }
-
-pub fetched-inadmissible : (w : Windows) (s : State) → admissible s ≡ false → fetchedOf w s ≡ refusal 1 w s
+pub fetched-inadmissible : (w : Windows) (s : State) → admissible s ≡ false → fetchedOf w s ≡ refusedBy 1 w s
 unfolding fetchedOf fetchedPlan
 fetched-inadmissible w s a = guarded-one w s s _ a
 
-pub fetched-unruled : (w : Windows) (s : State) → admissible s ≡ true → unruledBy (shapesOf w) ≢ 0 → fetchedOf w s ≡ refusal (unruledBy (shapesOf w)) w s
+pub fetched-unruled : (w : Windows) (s : State) → admissible s ≡ true → unruledBy (shapesOf w) ≢ 0 → fetchedOf w s ≡ refusedBy (unruledBy (shapesOf w)) w s
 unfolding fetchedOf fetchedPlan
 fetched-unruled w s a n = guarded-unruled w s s _ a n
 
@@ -125,7 +123,7 @@ fetch-judged w a = go (inside w a)
     go true = refl
     go false = refl
 
-pub fetched-missing : (w : Windows) (s : State) → admissible s ≡ true → unruledBy (shapesOf w) ≡ 0 → inside (shapesOf w) (s .pc) ≡ false → fetchedOf w s ≡ refusal 24 w s
+pub fetched-missing : (w : Windows) (s : State) → admissible s ≡ true → unruledBy (shapesOf w) ≡ 0 → inside (shapesOf w) (s .pc) ≡ false → fetchedOf w s ≡ refusedBy 24 w s
 unfolding fetchedOf fetchedPlan
 fetched-missing w s a r e = guarded-open w s s _ a r ∙ (unfold perform named in (rw (fetch-judged (shapesOf w) (s .pc), e)))
 
@@ -136,15 +134,15 @@ fetched-there w s a r e = guarded-open w s s _ a r ∙ (unfold perform looks in 
 
 -- what holds of the four refusals and of the instruction holds of the outcome
 pub fetched-by : (Q : Outcome State Windows → Type 0) (w : Windows) (s : State)
-    → (admissible s ≡ false → Q (refusal 1 w s))
-    → (admissible s ≡ true → unruledBy (shapesOf w) ≢ 0 → Q (refusal (unruledBy (shapesOf w)) w s))
-    → (admissible s ≡ true → unruledBy (shapesOf w) ≡ 0 → inside (shapesOf w) (s .pc) ≡ false → Q (refusal 24 w s))
-    → (admissible s ≡ true → unruledBy (shapesOf w) ≡ 0 → inside (shapesOf w) (s .pc) ≡ true → Q (performOn w s (tetraPlan s (tetraOf w s))))
+    → (admissible s ≡ false → Q (refusedBy 1 w s))
+    → (admissible s ≡ true → unruledBy (shapesOf w) ≢ 0 → Q (refusedBy (unruledBy (shapesOf w)) w s))
+    → (admissible s ≡ true → unruledBy (shapesOf w) ≡ 0 → inside (shapesOf w) (s .pc) ≡ false → Q (refusedBy 24 w s))
+    → (admissible s ≡ true → unruledBy (shapesOf w) ≡ 0 → inside (shapesOf w) (s .pc) ≡ true → Q (fetchedOf w s))
     → Q (fetchedOf w s)
 fetched-by Q w s one unruled missing there = go (admissible s) refl
   where
     within : (b : Bool) → inside (shapesOf w) (s .pc) ≡ b → admissible s ≡ true → unruledBy (shapesOf w) ≡ 0 → Q (fetchedOf w s)
-    within true i a r = rw (fetched-there w s a r i) (there a r i)
+    within true i a r = there a r i
     within false i a r = rw (fetched-missing w s a r i) (missing a r i)
 
     rules : (b : Bool) → eqb (unruledBy (shapesOf w)) 0 ≡ b → admissible s ≡ true → Q (fetchedOf w s)
@@ -199,4 +197,47 @@ fetched-is-step = record {
   by-step = λ w s n d. let f : WasFetched w s = done-fetched w s d in fetched-done w s (f .admitted) (f .fine) (f .there) n d;
   claiming = λ w s n f c. fetched-claims w s (f .passes .admitted) (passing w s (f .passes)) (f .there) n c;
   unclaiming = λ w s f c. fetched-free w s (f .passes .admitted) (passing w s (f .passes)) (f .there) c;
+}
+
+-- ---- in order
+
+-- 3 to 5, with a claim and without
+three-refused : (w : Windows) (s : State) (op x y z : ℕ) → refusalOf (armOf op) x y z ≢ 0 → performOn w s (fromThree s (armOf op) op x y z) ≡ refusedBy (refusalOf (armOf op) x y z) w s
+unfolding fromThree tell
+three-refused w s op x y z n = rw (ne-eqb (refusalOf (armOf op) x y z) 0 n) (said w s s (refusalOf (armOf op) x y z))
+
+instruction-refused : (w : Windows) (s : State) (op x y z : ℕ) → refusalOf (armOf op) x y z ≢ 0
+    → performOn w s (instructionPlan s op x y z) ≡ refusedBy (refusalOf (armOf op) x y z) w s
+instruction-refused w s op x y z n = go (claims op) refl
+  where
+    m : refusalOf (armOf op) x y z ≤ 5
+    m = refusal-most (armOf op) x y z
+
+    back : settledBy s (refusalOf (armOf op) x y z) (claimLocal s x) ≡ s
+    back = settled-refused s (claimLocal s x) (refusalOf (armOf op) x y z) n (λ q. omega (arith, m)) ∙ claim-back s x
+
+    go : (b : Bool) → claims op ≡ b → performOn w s (instructionPlan s op x y z) ≡ refusedBy (refusalOf (armOf op) x y z) w s
+    go true e =
+        instruction-claims w s op x y z e ∙ ap (settled s) (three-refused w (claimLocal s x) op x y z n)
+        ∙ (λ i. record { reply = refusalOf (armOf op) x y z; state = back i; memory = w })
+    go false e = instruction-free w s op x y z e ∙ three-refused w s op x y z n
+
+two-next : (w : Windows) (s : State) → admissible s ≡ true → ruled (shapesOf w) ≡ false → fetchedOf w s ≡ refusedBy 2 w s
+two-next w s a r =
+    let e : unruledBy (shapesOf w) ≡ 2 = unruled-two (shapesOf w) r in
+    fetched-unruled w s a (λ q. omega arith) ∙ ap (λ (n : ℕ). refusedBy n w s) e
+
+twenty-two : (w : Windows) (s : State) → admissible s ≡ true → ruled (shapesOf w) ≡ true → shares (shapesOf w) ≡ true → fetchedOf w s ≡ refusedBy 22 w s
+twenty-two w s a r n =
+    let e : unruledBy (shapesOf w) ≡ 22 = unruled-shared (shapesOf w) r n in
+    fetched-unruled w s a (λ q. omega arith) ∙ ap (λ (n : ℕ). refusedBy n w s) e
+
+pub fetched-in-order : FetchedInOrder
+unfolding tetraPlan
+fetched-in-order = record {
+  one-first = fetched-inadmissible;
+  two-next = two-next;
+  twenty-two = twenty-two;
+  twenty-four = λ w s h i. fetched-missing w s (h .admitted) (passing w s h) i;
+  three-to-five = λ w s h i n. fetched-there w s (h .admitted) (passing w s h) i ∙ instruction-refused w s _ _ _ _ n;
 }

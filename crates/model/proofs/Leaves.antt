@@ -36,6 +36,7 @@ use Rattle.model.proofs.ArmAnswers.{Answers, Meets, MeetsTrip, MeetsRai
 use Rattle.model.proofs.Entry.{performOn, said-reply, shared-only}
 use Rattle.model.proofs.LoadStore.{store-made}
 use Rattle.model.proofs.ReaderLeaves.{reader-leaves}
+use Rattle.model.proofs.FetchedLeaves.{fetched-leaves, run-leaves}
 
 -- ---- the trip and trap registers
 
@@ -399,6 +400,8 @@ field-leaves Neither = record { among = inr refl; refused = λ e. (refl, refl); 
 pub replies-leave : RepliesLeave
 replies-leave = record {
   by-step = step-leaves;
+  by-fetched = fetched-leaves step-leaves;
+  by-run = run-leaves (fetched-leaves step-leaves);
   by-exception = exception-leaves;
   by-reader = reader-leaves;
   by-field = λ size from to. field-leaves (fieldOf size from to);

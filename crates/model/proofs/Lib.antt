@@ -26,6 +26,7 @@ pub mod RunMeant
 pub mod PushPop
 pub mod Demand
 pub mod ReaderLeaves
+pub mod FetchedLeaves
 pub mod Leaves
 pub mod StepNeeds
 pub mod Locality

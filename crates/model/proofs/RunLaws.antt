@@ -60,6 +60,31 @@ module _ {M Sh S I : Type 0} (st : Store M Sh) (mc : Machine S I Sh) (i : I) whe
       (λ b f. let d : run g (stepOn st mc s m i .state) (stepOn st mc s m i .memory) .done < g = run-stops g (stepOn st mc s m i .state) (stepOn st mc s m i .memory) f in omega arith)
       (λ b f. omega arith)
 
+  -- a run that is refused: the state and memory that its count reached, and the item that is refused there
+  pub record Last (s : S) (m : M) (r : Stopped S M) : Type 0 where
+    pub reached : S
+    pub lent : M
+    pub reached-is : run (r .done) s m ≡ record { done = r .done; reply = 0; state = reached; memory = lent }
+    pub last-is : stepOn st mc reached lent i ≡ record { reply = r .reply; state = r .state; memory = r .memory }
+
+  pub run-last : (g : ℕ) (s : S) (m : M) → run g s m .reply ≢ 0 → Last s m (run g s m)
+  unfolding runFor
+  run-last zero s m = λ f. absurd (f refl)
+  run-last (suc g) s m =
+      on {A = Stopped S M} (λ r. r .reply ≢ 0 → Last s m r) (eqb (stepOn st mc s m i .reply) 0)
+      (λ b f. later (run g (stepOn st mc s m i .state) (stepOn st mc s m i .memory)) (eqb-true _ _ b) (run-last g (stepOn st mc s m i .state) (stepOn st mc s m i .memory) f))
+      (λ b f. record { reached = s; lent = m; reached-is = run-none s m; last-is = refl })
+    where
+      later : (r : Stopped S M) → stepOn st mc s m i .reply ≡ 0 → Last (stepOn st mc s m i .state) (stepOn st mc s m i .memory) r → Last s m (more 1 r)
+      later r d l =
+          let k : 1 + r .done ≡ suc (r .done) = omega arith in
+          record {
+            reached = l .reached;
+            lent = l .lent;
+            reached-is = ap (λ (g : ℕ). run g s m) k ∙ run-done (r .done) s m d ∙ ap (more 1) (l .reached-is);
+            last-is = l .last-is;
+          }
+
   abbrev goesOn : Stopped S M → ℕ → Stopped S M
   goesOn r h = cond (eqb (r .reply) 0) (more (r .done) (run h (r .state) (r .memory))) r
 

@@ -5,7 +5,7 @@ use mathlib.Core.Bool.{Bool, true, false, cond}
 use Prim.Native.Nat.{ℕ, suc, _+_, _≤_, _<_}
 use native.Mathlib.Omega.{arith}
 use lib.Dec.{ltb, eqb}
-use borrow.Author.Tests.{eqb-true, eqb-false, ne-eqb, lt-ltb, le-ltb}
+use borrow.Author.Tests.{eqb-true, eqb-false, ne-eqb, ltb-true, ltb-false, lt-ltb, le-ltb}
 use Rattle.model.specs.Memory.{Windows, Shapes, shapesOf, ruled, shares, both}
 use Rattle.model.specs.Plan.{Outcome}
 use Rattle.model.specs.Lists.{stepOn}
@@ -17,7 +17,7 @@ use Rattle.model.specs.RunMeant.{onward, CallPasses, Listed, RunIsMeant,
 use Rattle.model.specs.declared.State.{State}
 use Rattle.model.proofs.Memory.{both-lawful}
 use Rattle.model.proofs.Plan.{perform-shape}
-use Rattle.model.proofs.Entry.{unruled-two, unruled-shared}
+use Rattle.model.proofs.Entry.{unruled-none, unruled-two, unruled-shared}
 use Rattle.model.proofs.Fetched.{passing}
 use Rattle.model.proofs.Invariants.{items-keep}
 use Rattle.model.proofs.RunLaws.{run-none, run-done, run-refused, run-by, run-spent, run-stops, run-larger, IsList, run-listed}
@@ -93,6 +93,29 @@ twenty-five w s grant h l = rw (h .admitted, passing w s h, lt-ltb grantMost gra
 pub run-open : (w : Windows) (s : State) (grant : ℕ) → CallPasses w s grant → runOf w s grant ≡ running grant s w
 unfolding runOf
 run-open w s grant c = rw (c .passes .admitted, passing w s (c .passes), le-ltb grantMost grant (c .granted))
+
+-- what holds of the four refusals and of the instructions holds of the call
+pub call-by : (Q : Stopped State Windows → Type 0) (w : Windows) (s : State) (grant : ℕ)
+    → (admissible s ≡ false → Q (refusedWhole 1 w s))
+    → (admissible s ≡ true → unruledBy (shapesOf w) ≢ 0 → Q (refusedWhole (unruledBy (shapesOf w)) w s))
+    → (Passes w s → grantMost < grant → Q (refusedWhole 25 w s))
+    → (CallPasses w s grant → Q (running grant s w))
+    → Q (runOf w s grant)
+call-by Q w s grant one unruled large passed = go (admissible s) refl
+  where
+    grants : (b : Bool) → ltb grantMost grant ≡ b → Passes w s → Q (runOf w s grant)
+    grants true e h = rw (twenty-five w s grant h (ltb-true _ _ e)) (large h (ltb-true _ _ e))
+    grants false e h = let c : CallPasses w s grant = record { passes = h; granted = ltb-false _ _ e } in rw (run-open w s grant c) (passed c)
+
+    rules : (b : Bool) → eqb (unruledBy (shapesOf w)) 0 ≡ b → admissible s ≡ true → Q (runOf w s grant)
+    rules true e a =
+        let r : (ruled (shapesOf w) ≡ true) × (shares (shapesOf w) ≡ false) = unruled-none (shapesOf w) (eqb-true _ _ e) in
+        grants (ltb grantMost grant) refl (record { admitted = a; windowed = r .0; apart = r .1 })
+    rules false e a = rw (run-unruled w s grant a (eqb-false _ _ e)) (unruled a (eqb-false _ _ e))
+
+    go : (b : Bool) → admissible s ≡ b → Q (runOf w s grant)
+    go true a = rules (eqb (unruledBy (shapesOf w)) 0) refl a
+    go false a = rw (one-first w s grant a) (one a)
 
 pub runs-in-order : RunsInOrder
 runs-in-order = record { one-first = one-first; two-next = two-next; twenty-two = twenty-two; twenty-five = twenty-five }

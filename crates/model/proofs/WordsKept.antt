@@ -26,8 +26,7 @@ use Rattle.model.specs.Trips.{wordOf, interrupted, added, withAdded}
 use Rattle.model.specs.LoadStore.{flagV}
 use Rattle.model.specs.ArithmeticStep.{operandsOf, resultsIn, withResults}
 use Rattle.model.specs.Lists.{stepOn}
-use Rattle.model.specs.Step.{refusalOf, planOf, fromThree, stepPlan, exceptionOf, claims, opcodeIn, xIn, yIn, zIn, settledBy, tetraPlan, instructionPlan, fetchedOf, Item, step, exception, fetched, itemPlan, mmix}
-use Rattle.model.specs.Fetched.{tetraOf}
+use Rattle.model.specs.Step.{refusalOf, planOf, fromThree, stepPlan, exceptionOf, claims, tetraAt, settledBy, tetraPlan, instructionPlan, fetchedOf, Item, step, exception, fetched, itemPlan, mmix}
 use Rattle.model.specs.Invariants.{InstructionFits, Fits, Bytes}
 use Rattle.model.specs.declared.State.{State}
 use Rattle.model.specs.declared.Operation.{Operation}
@@ -38,7 +37,7 @@ use Rattle.model.proofs.Fill.{length-over, over-in, over-below, over-ab
 use Rattle.model.proofs.AdmissibleKept.{added-byte}
 use Rattle.model.proofs.ArmAnswers.{Answers, Meets, MeetsTrip, MeetsRaise, MeetsInterrupt, plan-meets, step-meets, exception-meets, perform-meets}
 use Rattle.model.proofs.Entry.{performOn, said}
-use Rattle.model.proofs.Fetched.{tetra-fits, instruction-claims, instruction-free, fetched-by}
+use Rattle.model.proofs.Fetched.{tetra-fits, instruction-claims, instruction-free, fetched-there, fetched-by}
 
 -- ---- lists of numbers below a bound
 
@@ -347,10 +346,14 @@ instruction-words w s op x y z f b h = go (claims op) refl
     go true e = rw (instruction-claims w s op x y z e) (back _ _ (three-words w (claimLocal s x) op x y z f b (claim-words s x h)))
     go false e = rw (instruction-free w s op x y z e) (three-words w s op x y z f b h)
 
+tetra-words : (w : Windows) (s : State) (v : ℕ) → Bytes w → Words s → Words (performOn w s (tetraPlan s (tetraAt s v)) .state)
+unfolding tetraPlan
+tetra-words w s v b h = instruction-words w s _ _ _ _ (tetra-fits s v) b h
+
 fetched-words : (w : Windows) (s : State) → Bytes w → Words s → Words (fetchedOf w s .state)
 fetched-words w s b h =
     fetched-by (λ o. Words (o .state)) w s (λ a. h) (λ a n. h) (λ a r i. h)
-    (λ a r i. unfold tetraPlan in (instruction-words w s _ _ _ _ (tetra-fits s _) b h))
+    (λ a r i. rw (fetched-there w s a r i) (tetra-words w s (look both w (s .pc)) b h))
 
 pub item-words : (w : Windows) (s : State) (i : Item) → Fits i → Bytes w → Words s → Words (stepOn both mmix s w i .state)
 unfolding stepOn mmix itemPlan Fits both

@@ -3,23 +3,16 @@
 use Prim.Native.Nat.{ℕ}
 use mathlib.Core.Path.{_≡_}
 use mathlib.Core.Bool.{true, false}
-use Rattle.model.specs.Memory.{Windows, shapesOf, inside, both}
-use Rattle.model.specs.Plan.{Outcome, look}
+use Rattle.model.specs.Memory.{Windows, shapesOf, inside}
+use Rattle.model.specs.Plan.{Outcome}
 use Rattle.model.specs.Registers.{Sized, claimLocal}
-use Rattle.model.specs.Step.{stepOf, claims, opcodeIn, xIn, yIn, zIn, tetraAt, settledBy, claimedBy, fetchedOf}
+use Rattle.model.specs.Step.{stepOf, claims, opcodeIn, xIn, yIn, zIn, settledBy, fetchedOf, tetraOf, claimedAt}
 use Rattle.model.specs.Order.{Passes}
 use Rattle.model.specs.declared.State.{State}
 
--- the tetra at PC, and the step that it says, on a state
-abbrev pub tetraOf : Windows → State → ℕ
-tetraOf w s = tetraAt s (look both w (s .pc))
-
+-- the step that a tetra says, on a state
 abbrev pub stepSaid : Windows → ℕ → State → Outcome State Windows
 stepSaid w t s = stepOf w s (opcodeIn t) (xIn t) (yIn t) (zIn t)
-
--- the state that its arm works on
-abbrev pub claimedAt : Windows → State → State
-claimedAt w s = claimedBy s (opcodeIn (tetraOf w s)) (xIn (tetraOf w s))
 
 -- 1, 2, 22 and 24 pass
 pub record Fetches (w : Windows) (s : State) : Type 0 where

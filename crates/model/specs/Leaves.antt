@@ -2,8 +2,8 @@
 use Prim.Native.Nat.{ℕ, _*_, _/_, _%_, _≤_}
 use mathlib.Core.Path.{_≡_}
 use mathlib.Core.Logic.{_⊎_, _≢_}
-use mathlib.Core.Bool.{true}
-use Rattle.model.specs.Memory.{Windows, Shapes, shapesOf, ruled, shares, putOcta, both}
+use mathlib.Core.Bool.{true, false}
+use Rattle.model.specs.Memory.{Windows, Shapes, shapesOf, ruled, shares, inside, putOcta, both}
 use Rattle.model.specs.Plan.{Outcome, look}
 use Rattle.model.specs.Registers.{rB, rJ, rBB, rW, rX, rY, rZ, rWW, rXX, rYY, rZZ, sp, reg, following, Sized, admissible, halted}
 use Rattle.model.specs.Opcodes.{Operand, Width, signed, trip, store, arithmetic, armOf}
@@ -12,9 +12,12 @@ use Rattle.model.specs.Control.{operandOf, sumOf}
 use Rattle.model.specs.Trips.{wordOf, withAdded}
 use Rattle.model.specs.LoadStore.{valuesOf, unitAt, operandIn, merged, flagV}
 use Rattle.model.specs.ArithmeticStep.{resultsIn, withResults}
-use Rattle.model.specs.Step.{stepOf, exceptionOf}
+use Rattle.model.specs.Step.{stepOf, exceptionOf, opcodeIn, xIn, yIn, zIn, fetchedOf, tetraOf, claimedAt}
+use Rattle.model.specs.Run.{Stopped, runOf}
+use Rattle.model.specs.RunMeant.{CallPasses}
+use Rattle.model.specs.Order.{Passes}
 use Rattle.model.specs.Reader.{Part, emptyPart, readContext}
-use Rattle.model.specs.Numbers.{Early, Lost, Halting}
+use Rattle.model.specs.Numbers.{Early, Lost, Missed, Halting}
 use Rattle.model.specs.Field.{FieldAnswer, fieldOf, answerOf}
 use Rattle.model.specs.declared.State.{State}
 use Rattle.model.specs.declared.Operation.{Operation}
@@ -94,6 +97,42 @@ pub record ExceptionLeaves (s : State) (f op x y z u v : ℕ) (d : Said) : Type 
   pub not-loaded : d .reply ≡ 19 → Tripped (withAdded s f) (d .state) (wordOf op x y z) u v
   pub done : d .reply ≡ 0 → d .state .halt ≡ s .halt
 
+-- what a fetched instruction leaves, t its tetra and c the state that its arm works on
+pub record TetraLeaves (w : Windows) (s c : State) (t : ℕ) (o : Outcome State Windows) : Type 0 where
+  pub most : (o .reply ≤ 20) ⊎ ((o .reply ≡ 22) ⊎ (o .reply ≡ 24))
+  -- 1 to 5 and 22; 6 and 24: the halt code too
+  pub early : Early (o .reply) → (o .state ≡ s) × (o .memory ≡ w)
+  pub missed : Missed (o .reply) → (o .state ≡ s) × (o .memory ≡ w)
+  -- 7 to 18: "An instruction refused by any number but 19 takes its claim back"
+  pub halting : Halting (o .reply) → (o .state ≡ halted s) × (o .memory ≡ w)
+  -- 19: as the step leaves it, of the claimed state
+  pub nineteen : o .reply ≡ 19
+      → TripLeaves w c (opcodeIn t) (xIn t) (yIn t) (zIn t) o
+      ⊎ (StoreLeaves w c (opcodeIn t) (xIn t) (yIn t) (zIn t) o ⊎ ArithmeticLeaves w c (opcodeIn t) (xIn t) (yIn t) (zIn t) o)
+  -- 20: TRAP claims nothing
+  pub twenty : o .reply ≡ 20 → Trapped s (o .state) (wordOf (opcodeIn t) (xIn t) (yIn t) (zIn t)) (reg s (yIn t)) (reg s (zIn t)) × (o .memory ≡ w)
+  pub shared : o .reply ≡ 22 → (admissible s ≡ true) × Sharing (shapesOf w)
+  -- 24 is given only where 1, 2 and 22 pass and the tetra is in neither window
+  pub unfetched : o .reply ≡ 24 → Passes w s × (inside (shapesOf w) (s .pc) ≡ false)
+  pub done : o .reply ≡ 0 → o .state .halt ≡ s .halt
+
+abbrev pub FetchedLeaves : Windows → State → Outcome State Windows → Type 0
+FetchedLeaves w s o = TetraLeaves w s (claimedAt w s) (tetraOf w s) o
+
+-- what a run that is refused leaves: of the state and the windows that its count reached, what the refused instruction leaves
+pub record LastLeaves (w : Windows) (s : State) (r : Stopped State Windows) : Type 0 where
+  pub reached : State
+  pub lent : Windows
+  pub reached-is : runOf w s (r .done) ≡ record { done = r .done; reply = 0; state = reached; memory = lent }
+  pub last-is : fetchedOf lent reached ≡ record { reply = r .reply; state = r .state; memory = r .memory }
+  pub leaves : FetchedLeaves lent reached (record { reply = r .reply; state = r .state; memory = r .memory })
+  pub halt-kept : reached .halt ≡ s .halt
+
+pub record RunLeaves (w : Windows) (s : State) (grant : ℕ) (r : Stopped State Windows) : Type 0 where
+  pub most : (r .reply ≤ 20) ⊎ ((r .reply ≡ 22) ⊎ ((r .reply ≡ 24) ⊎ (r .reply ≡ 25)))
+  pub refused : CallPasses w s grant → r .reply ≢ 0 → LastLeaves w s r
+  pub spent : r .reply ≡ 0 → r .state .halt ≡ s .halt
+
 -- what the reader leaves
 pub record ReaderLeaves (w : Windows) (o : Outcome Part Windows) : Type 0 where
   pub among : (o .reply ≡ 0) ⊎ ((o .reply ≡ 2) ⊎ ((o .reply ≡ 6) ⊎ ((o .reply ≡ 14) ⊎ ((o .reply ≡ 15) ⊎ ((o .reply ≡ 16) ⊎ ((o .reply ≡ 22) ⊎ (o .reply ≡ 23)))))))
@@ -109,6 +148,8 @@ pub record FieldLeaves (a : FieldAnswer) : Type 0 where
 
 pub record RepliesLeave : Type 0 where
   pub by-step : (w : Windows) (s : State) (op x y z : ℕ) → Sized s → StepLeaves w s op x y z (stepOf w s op x y z)
+  pub by-fetched : (w : Windows) (s : State) → Sized s → FetchedLeaves w s (fetchedOf w s)
+  pub by-run : (w : Windows) (s : State) (grant : ℕ) → Sized s → RunLeaves w s grant (runOf w s grant)
   pub by-exception : (s : State) (f op x y z u v : ℕ) → Sized s → ExceptionLeaves s f op x y z u v (exceptionOf s f op x y z u v)
   pub by-reader : (w : Windows) (p : ℕ) → ReaderLeaves w (readContext w p)
   pub by-field : (size from to : ℕ) → FieldLeaves (answerOf (fieldOf size from to))

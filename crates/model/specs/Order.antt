@@ -15,7 +15,7 @@ use Rattle.model.specs.Control.{yzOf}
 use Rattle.model.specs.Frames.{noFrame, misplaced}
 use Rattle.model.specs.Contexts.{extent, below, packedAt, octasOf, countBelow}
 use Rattle.model.specs.Trips.{enabled, isLoaded}
-use Rattle.model.specs.Step.{refusalOf, refusing, stepOf, exceptionOf}
+use Rattle.model.specs.Step.{refusalOf, refusing, stepOf, exceptionOf, opcodeIn, xIn, yIn, zIn, tetraOf, fetchedOf}
 use Rattle.model.specs.declared.State.{State}
 
 -- refused by n: nothing changes; or the halt code becomes 1
@@ -80,3 +80,13 @@ pub record StepsInOrder : Type 0 where
   pub exception-one : (s : State) (f op x y z u v : ℕ) → admissible s ≡ false → exceptionOf s f op x y z u v ≡ say 1 s
   pub exception-nineteen : (s : State) (f op x y z u v : ℕ) → admissible s ≡ true → enabled s f ≢ 0 → isLoaded s (leadingZeros 8 (enabled s f) + 1) ≡ false
       → exceptionOf s f op x y z u v .reply ≡ 19
+
+-- a fetched instruction: 1, 2, 22; then 24, "judged for each instruction after 22 and before 3", whatever lies in the windows; then 3 to 5
+pub record FetchedInOrder : Type 0 where
+  pub one-first : (w : Windows) (s : State) → admissible s ≡ false → fetchedOf w s ≡ refusedBy 1 w s
+  pub two-next : (w : Windows) (s : State) → admissible s ≡ true → ruled (shapesOf w) ≡ false → fetchedOf w s ≡ refusedBy 2 w s
+  pub twenty-two : (w : Windows) (s : State) → admissible s ≡ true → ruled (shapesOf w) ≡ true → shares (shapesOf w) ≡ true → fetchedOf w s ≡ refusedBy 22 w s
+  pub twenty-four : (w : Windows) (s : State) → Passes w s → inside (shapesOf w) (s .pc) ≡ false → fetchedOf w s ≡ refusedBy 24 w s
+  pub three-to-five : (w : Windows) (s : State) → Passes w s → inside (shapesOf w) (s .pc) ≡ true
+      → refusalOf (armOf (opcodeIn (tetraOf w s))) (xIn (tetraOf w s)) (yIn (tetraOf w s)) (zIn (tetraOf w s)) ≢ 0
+      → fetchedOf w s ≡ refusedBy (refusalOf (armOf (opcodeIn (tetraOf w s))) (xIn (tetraOf w s)) (yIn (tetraOf w s)) (zIn (tetraOf w s))) w s

@@ -5,7 +5,7 @@ use mathlib.Core.List.{List, []}
 use lib.Dec.{leb, ltb, eqb}
 use lib.ListN.{getD}
 use Rattle.model.specs.Memory.{Windows, Shapes, shapesOf, ruled, shares, inside, both}
-use Rattle.model.specs.Plan.{Plan, answer, read, Outcome, perform, needs}
+use Rattle.model.specs.Plan.{Plan, answer, read, Outcome, look, perform, needs}
 use Rattle.model.specs.Lists.{Machine}
 use Rattle.model.specs.Registers.{rJ, sp, reg, admissible, goes, following, next, withParts, claimLocal, setRegister}
 use Rattle.model.specs.Opcodes.{tetra, Arm, branch, jump, getAddress, go, pushJump, pushGo, pop, put, get, save, unsave, sync, swym, trip, trap, load, store, arithmetic, none, among, armOf}
@@ -160,6 +160,13 @@ fetchedPlan s w = guarded s s w (read 24 (s .pc) 1 (λ v. tetraPlan s (tetraAt s
 -- THE fetched instruction: reply, state and windows after it
 unfoldable pub fetchedOf : Windows → State → Outcome State Windows
 fetchedOf w s = perform both (refusing (shapesOf w)) s (fetchedPlan s (shapesOf w)) w
+
+-- the tetra at PC, and the state that its arm works on
+abbrev pub tetraOf : Windows → State → ℕ
+tetraOf w s = tetraAt s (look both w (s .pc))
+
+abbrev pub claimedAt : Windows → State → State
+claimedAt w s = claimedBy s (opcodeIn (tetraOf w s)) (xIn (tetraOf w s))
 
 -- the octabytes that it needs: "Fetching counts as a need"
 unfoldable pub fetchedNeeds : Windows → State → List ℕ
