@@ -152,11 +152,11 @@ hole-le s x a = go (leb (sp s rG) x) refl
     go true e = a .l-g
     go false e = let l : x < sp s rG = leb-false _ _ e in omega arith
 
-hole-alike : (s t : State) (x : ℕ) → s .special ≡ t .special → hole s x ≡ hole t x
+pub hole-alike : (s t : State) (x : ℕ) → s .special ≡ t .special → hole s x ≡ hole t x
 unfolding hole
 hole-alike s t x e = rw e
 
-admissible-alike : (s t : State) → s .special ≡ t .special → s .marks ≡ t .marks → admissible s ≡ admissible t
+pub admissible-alike : (s t : State) → s .special ≡ t .special → s .marks ≡ t .marks → admissible s ≡ admissible t
 unfolding admissible
 admissible-alike s t e f = rw (e, f)
 

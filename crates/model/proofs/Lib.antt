@@ -25,6 +25,7 @@ pub mod Invariants
 pub mod RunMeant
 pub mod PushPop
 pub mod Demand
+pub mod DemandFetched
 pub mod ReaderLeaves
 pub mod FetchedLeaves
 pub mod Leaves

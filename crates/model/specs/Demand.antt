@@ -1,5 +1,6 @@
 -- Theorem 5, demand 3: what a caller keeps below the hole is private to it and comes back, whatever the list after the call does
--- that needs no octabyte of the call's frame. One theorem about the whole list, over `stepOf` and `exceptionOf`.
+-- that needs no octabyte of the call's frame. One theorem about the whole list, over `stepOf` and `exceptionOf`; and `fetchedOf`, for a call that is itself
+-- fetched, and in the list, where a run is the list of its fetched instructions (RunMeant).
 use Prim.Native.Nat.{ℕ, _+_, _*_, _%_, _≤_, _<_}
 use mathlib.Core.Path.{_≡_}
 use mathlib.Core.List.{List}
@@ -9,9 +10,9 @@ use Rattle.model.specs.Memory.{Window, Windows, both}
 use Rattle.model.specs.Opcodes.{opPUSHJ, opPUSHJB, opPUSHGO, opPUSHGOI, opPOP}
 use Rattle.model.specs.Plan.{Outcome, All, Off}
 use Rattle.model.specs.Lists.{Ran, runs, runNeeds, runWiderNeeds}
-use Rattle.model.specs.Registers.{rO, rG, stackStart, sp, reg, Sized, Words}
+use Rattle.model.specs.Registers.{rO, rG, stackStart, sp, reg, Sized, Words, MarginalZero, claimLocal}
 use Rattle.model.specs.Frames.{hole}
-use Rattle.model.specs.Step.{Item, stepOf, mmix}
+use Rattle.model.specs.Step.{Item, stepOf, opcodeIn, xIn, fetchedOf, tetraOf, mmix}
 use Rattle.model.specs.declared.State.{State}
 
 -- the octabytes of a run of n from address a
@@ -107,3 +108,30 @@ Demand3 = Claim afterNeeds
 -- the corollary: needs in the wider reading, all that a refused PUSH or SAVE would store, suffice too
 abbrev pub Demand3Wider : Type 0
 Demand3Wider = Claim afterWiderNeeds
+
+-- ---- a call that is itself fetched
+
+-- X of the tetra at PC
+abbrev pub xAt : Windows → State → ℕ
+xAt w s = xIn (tetraOf w s)
+
+-- the same claim, the locals being those after the claim of $X. The windows and PC are equal, so that both runs fetch the same tetra
+abbrev pub FetchedClaim : (Outcome State Windows → List Item → List ℕ) → Type 0
+FetchedClaim needed = (w : Windows) (s t : State) (c : Call) (is : List Item)
+    → Sized s → Sized t → Words s → Words t
+    → opcodeIn (tetraOf w s) ≡ opcodeOf c
+    → Alike (hole s (xAt w s)) s t
+    → fetchedOf w s .reply ≡ 0
+    → fetchedOf w s .state .pc ≡ fetchedOf w t .state .pc
+    → All (Off (Within (sp s rO) (hole s (xAt w s) + 1))) (needed (fetchedOf w s) is)
+    → Private (hole s (xAt w s)) (claimLocal s (xAt w s)) (claimLocal t (xAt w s)) (fetchedOf w s) (fetchedOf w t) is
+
+abbrev pub Demand3Fetched : Type 0
+Demand3Fetched = FetchedClaim afterNeeds
+
+abbrev pub Demand3FetchedWider : Type 0
+Demand3FetchedWider = FetchedClaim afterWiderNeeds
+
+-- and, where marginal registers are zero, exactly those before: the claim changes no general register
+abbrev pub ClaimKeeps : Type 0
+ClaimKeeps = (s : State) (x i : ℕ) → MarginalZero s → reg (claimLocal s x) i ≡ reg s i
