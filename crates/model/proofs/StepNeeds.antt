@@ -5,8 +5,9 @@ use mathlib.Core.List.{List, [], _∷_, _++_, append-nil}
 use Prim.Native.Nat.{ℕ, _+_, _-_, _/_, _%_, _^_, max}
 use native.Mathlib.Omega.{arith}
 use lib.Dec.{leb, ltb, eqb}
+use lib.ListN.{getD}
 use Rattle.model.specs.Fill.{tab}
-use Rattle.model.specs.Registers.{rO, rG, rL, sp, reg, admissible, goes, next, halted}
+use Rattle.model.specs.Registers.{rO, rG, rL, sp, reg, admissible, goes, next, halted, claimLocal}
 use Rattle.model.specs.Memory.{Windows, shapesOf, inside, both}
 use Rattle.model.specs.Plan.{Plan, answer, read, Outcome, perform, ups, worst, clear, missing, look, looks, needs}
 use Rattle.model.specs.Opcodes.{Width, Sign, Arm, forward, backward, register, immediate, branch, jump, getAddress, go, pushJump, pushGo, pop, put, get, save, unsave, sync, swym, trip, trap, load, store, arithmetic, none, armOf}
@@ -17,8 +18,8 @@ use Rattle.model.specs.Contexts.{extent, saved, savedState, saveContext,
 use Rattle.model.specs.Trips.{wordOf}
 use Rattle.model.specs.LoadStore.{loadFrom, storeTo}
 use Rattle.model.specs.Lists.{needsOf}
-use Rattle.model.specs.Step.{refusalOf, unruledBy, judged, refusing, planOf, guarded, fromThree, stepPlan, stepOf, stepNeeds, exceptionOf, itemPlan, mmix}
-use Rattle.model.specs.StepNeeds.{run, popNeeds, unsaveNeedsRest, unsaveNeedsCount, unsaveNeeds, armNeeds, NeedsAre, BytesUnused}
+use Rattle.model.specs.Step.{refusalOf, unruledBy, judged, refusing, planOf, guarded, fromThree, stepPlan, stepOf, stepNeeds, claims, opcodeIn, xIn, yIn, zIn, tetraAt, takenBack, claimedBy, instructionPlan, tetraPlan, fetchedPlan, tetraOf, claimedAt, fetchedNeeds, exceptionOf, itemPlan, mmix}
+use Rattle.model.specs.StepNeeds.{run, popNeeds, unsaveNeedsRest, unsaveNeedsCount, unsaveNeeds, armNeeds, tetraNeeds, NeedsAre, BytesUnused}
 use Rattle.model.specs.declared.State.{State}
 use Rattle.model.proofs.Bools.{on, on-both}
 use Rattle.model.proofs.Runs.{length-tab}
@@ -129,6 +130,54 @@ step-needs w s op x y z =
     ∙ by-cond w (eqb (judged s (shapesOf w) (armOf op) x y z) 0) (planOf s (armOf op) op x y z) (tell (say (judged s (shapesOf w) (armOf op) x y z) s))
     ∙ rw (arm-needs w s (armOf op) op x y z, tell-none w (say (judged s (shapesOf w) (armOf op) x y z) s))
 
+-- ---- a fetched instruction
+
+-- taking a claim back needs nothing
+back-needs : (w : Windows) (s : State) (p : Plan State) → by w (takenBack s p) ≡ by w p
+unfolding needs takenBack
+back-needs w s (answer r t a vs) = refl
+back-needs w s (read q a n k) = ap (λ (l : List ℕ). cond (clear (refusing (shapesOf w)) a n) (ups a n ++ l) (missing (refusing (shapesOf w)) a n)) (back-needs w s (k (looks both w a n)))
+
+three-needs : (w : Windows) (s : State) (op x y z : ℕ) → by w (fromThree s (armOf op) op x y z) ≡ cond (eqb (refusalOf (armOf op) x y z) 0) (armNeeds w s (armOf op) x y z) []
+unfolding fromThree
+three-needs w s op x y z =
+    by-cond w (eqb (refusalOf (armOf op) x y z) 0) (planOf s (armOf op) op x y z) (tell (say (refusalOf (armOf op) x y z) s))
+    ∙ rw (arm-needs w s (armOf op) op x y z, tell-none w (say (refusalOf (armOf op) x y z) s))
+
+tetra-needs : (w : Windows) (s : State) (t : ℕ) → by w (tetraPlan s t) ≡ tetraNeeds w t (claimedBy s (opcodeIn t) (xIn t))
+unfolding tetraPlan instructionPlan tetraNeeds claimedBy
+tetra-needs w s t = go (claims (opcodeIn t))
+  where
+    go : (b : Bool)
+        → by w (cond b (takenBack s (fromThree (claimLocal s (xIn t)) (armOf (opcodeIn t)) (opcodeIn t) (xIn t) (yIn t) (zIn t))) (fromThree s (armOf (opcodeIn t)) (opcodeIn t) (xIn t) (yIn t) (zIn t)))
+        ≡ cond (eqb (refusalOf (armOf (opcodeIn t)) (xIn t) (yIn t) (zIn t)) 0) (armNeeds w (cond b (claimLocal s (xIn t)) s) (armOf (opcodeIn t)) (xIn t) (yIn t) (zIn t)) []
+    go true = back-needs w s _ ∙ three-needs w (claimLocal s (xIn t)) (opcodeIn t) (xIn t) (yIn t) (zIn t)
+    go false = three-needs w s (opcodeIn t) (xIn t) (yIn t) (zIn t)
+
+fetched-needs : (w : Windows) (s : State)
+    → fetchedNeeds w s ≡ cond (admissible s && eqb (unruledBy (shapesOf w)) 0) (s .pc ∷ cond (inside (shapesOf w) (s .pc)) (tetraNeeds w (tetraOf w s) (claimedAt w s)) []) []
+unfolding fetchedNeeds fetchedPlan guarded
+fetched-needs w s = go (admissible s) (eqb (unruledBy (shapesOf w)) 0)
+  where
+    fetches : by w (read 24 (s .pc) 1 (λ v. tetraPlan s (tetraAt s (getD v 0 0)))) ≡ s .pc ∷ cond (inside (shapesOf w) (s .pc)) (tetraNeeds w (tetraOf w s) (claimedAt w s)) []
+    fetches = unfold needs looks in
+        (run-one w (s .pc) (by w (tetraPlan s (tetraOf w s)))
+        ∙ on-both (λ (k l : List ℕ). k ≡ l) (inside (shapesOf w) (s .pc)) (λ e. ap (λ (l : List ℕ). s .pc ∷ l) (tetra-needs w s (tetraOf w s))) (λ e. refl)
+        ∙ conses (inside (shapesOf w) (s .pc)))
+      where
+        conses : (b : Bool) → cond b (s .pc ∷ tetraNeeds w (tetraOf w s) (claimedAt w s)) (s .pc ∷ []) ≡ s .pc ∷ cond b (tetraNeeds w (tetraOf w s) (claimedAt w s)) []
+        conses true = refl
+        conses false = refl
+
+    none-needed : (n : ℕ) → by w (answer n s 0 []) ≡ []
+    none-needed n = unfold needs worst ups in refl
+
+    go : (a r : Bool) → by w (cond a (cond r (read 24 (s .pc) 1 (λ v. tetraPlan s (tetraAt s (getD v 0 0)))) (answer (unruledBy (shapesOf w)) s 0 [])) (answer 1 s 0 []))
+        ≡ cond (a && r) (s .pc ∷ cond (inside (shapesOf w) (s .pc)) (tetraNeeds w (tetraOf w s) (claimedAt w s)) []) []
+    go true true = fetches
+    go true false = none-needed (unruledBy (shapesOf w))
+    go false r = none-needed 1
+
 -- a plan that stores and is done: its run passed
 stored-done : (w : Windows) (s t : State) (a n : ℕ) (f : ℕ → ℕ) → perform both (refusing (shapesOf w)) s (answer 0 t a (tab 0 n f)) w .reply ≡ 0
     → needs both (refusing (shapesOf w)) (answer 0 t a (tab 0 n f)) w ≡ ups a n
@@ -176,6 +225,7 @@ pub needs-are : NeedsAre
 unfolding needsOf mmix itemPlan planOf armOf refusalOf both
 needs-are = record {
   by-step = step-needs;
+  by-fetched = fetched-needs;
   by-exception = λ w s f op x y z u v. tell-none w (exceptionOf s f op x y z u v);
   push-done = λ w s x y z. push-done w s 0xF2 x y z (near s forward y z) refl refl;
   push-back-done = λ w s x y z. push-done w s 0xF3 x y z (near s backward y z) refl refl;

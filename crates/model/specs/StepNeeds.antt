@@ -7,12 +7,12 @@ use lib.Dec.{leb, ltb, eqb}
 use Rattle.model.specs.Memory.{Windows, shapesOf, inside, both}
 use Rattle.model.specs.Plan.{ups, clear, missing, look}
 use Rattle.model.specs.Lists.{needsOf}
-use Rattle.model.specs.Registers.{rO, rG, sp, reg}
+use Rattle.model.specs.Registers.{rO, rG, sp, reg, admissible}
 use Rattle.model.specs.Opcodes.{Arm, branch, jump, getAddress, go, pushJump, pushGo, pop, put, get, save, unsave, sync, swym, trip, trap, load, store, arithmetic, none, armOf, opPUSHJ, opPUSHJB, opPUSHGO, opPUSHGOI, opSAVE, opUNSAVE, opPUT, opPUTI, opGET, opSWYM}
 use Rattle.model.specs.Control.{sumOf}
 use Rattle.model.specs.Frames.{hole, noFrame, misplaced}
 use Rattle.model.specs.Contexts.{extent, below, packedAt, octasOf, countBelow}
-use Rattle.model.specs.Step.{judged, refusing, stepOf, stepNeeds, exception, mmix}
+use Rattle.model.specs.Step.{judged, unruledBy, refusalOf, refusing, stepOf, stepNeeds, claimedAt, opcodeIn, xIn, yIn, zIn, tetraOf, fetchedNeeds, exception, mmix}
 use Rattle.model.specs.declared.State.{State}
 
 -- a run of n octabytes from a: where all lie inside, these and then what follows; else those that do not
@@ -66,6 +66,10 @@ armNeeds w s (store d g o) x y z = cond (inside (shapesOf w) (sumOf s o y z)) (s
 armNeeds w s (arithmetic f p q) x y z = []
 armNeeds w s none x y z = []
 
+-- what a tetra's instruction needs on the state that its arm works on; what 3 to 5 refuse needs nothing
+unfoldable pub tetraNeeds : Windows → ℕ → State → List ℕ
+tetraNeeds w t s = cond (eqb (refusalOf (armOf (opcodeIn t)) (xIn t) (yIn t) (zIn t)) 0) (armNeeds w s (armOf (opcodeIn t)) (xIn t) (yIn t) (zIn t)) []
+
 -- two ways to write an instruction that come to the same
 pub record SameWritten (w : Windows) (s : State) (op x y z x' y' z' : ℕ) : Type 0 where
   pub outcome-same : stepOf w s op x y z ≡ stepOf w s op x' y' z'
@@ -75,6 +79,10 @@ pub record NeedsAre : Type 0 where
   -- what 1 to 5 refuse needs nothing
   pub by-step : (w : Windows) (s : State) (op x y z : ℕ)
       → stepNeeds w s op x y z ≡ cond (eqb (judged s (shapesOf w) (armOf op) x y z) 0) (armNeeds w s (armOf op) x y z) []
+  -- "Fetching counts as a need": the octabyte of PC; where it is there, then the arm's needs on the claimed state. What 1, 2 and 22 refuse needs nothing
+  pub by-fetched : (w : Windows) (s : State)
+      → fetchedNeeds w s
+      ≡ cond (admissible s && eqb (unruledBy (shapesOf w)) 0) (s .pc ∷ cond (inside (shapesOf w) (s .pc)) (tetraNeeds w (tetraOf w s) (claimedAt w s)) []) []
   pub by-exception : (w : Windows) (s : State) (f op x y z u v : ℕ) → needsOf both mmix s w (exception f op x y z u v) ≡ []
   -- a PUSH that is done: rO + 8i for i ≤ H; a SAVE that is done: all rL + 270 − rG
   pub push-done : (w : Windows) (s : State) (x y z : ℕ) → stepOf w s opPUSHJ x y z .reply ≡ 0 → stepNeeds w s opPUSHJ x y z ≡ ups (sp s rO) (hole s x + 1)
