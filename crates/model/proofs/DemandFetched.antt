@@ -1,7 +1,7 @@
 -- Demand 3 of a call that is itself fetched: a fetched call that is done is the step on the claimed state, and states alike stay alike under the claim.
 use mathlib.Core.Path.{_≡_, refl, sym, ap, _∙_, subst}
 use mathlib.Core.Logic.{⊎-elim}
-use mathlib.Core.Bool.{Bool, true, false, cond, _&&_, _||_}
+use mathlib.Core.Bool.{Bool, true, false, cond, _&&_}
 use mathlib.Core.List.{List}
 use Prim.Native.Nat.{ℕ, _+_, _≤_, _<_}
 use native.Mathlib.Omega.{arith}
@@ -15,7 +15,7 @@ use Rattle.model.specs.Plan.{Outcome, All, Off, look}
 use Rattle.model.specs.Opcodes.{tetra}
 use Rattle.model.specs.LoadStore.{operandIn}
 use Rattle.model.specs.Frames.{hole}
-use Rattle.model.specs.Step.{Item, unruledBy, stepOf, claims, opcodeIn, xIn, yIn, zIn, tetraAt, settledBy, fetchedOf, tetraOf, mmix}
+use Rattle.model.specs.Step.{Item, unruledBy, stepOf, claims, opcodeIn, xIn, yIn, zIn, tetraAt, keepsClaim, settledBy, fetchedOf, tetraOf, mmix}
 use Rattle.model.specs.Fetched.{stepSaid, settled}
 use Rattle.model.specs.Demand.{Within, Call, PUSHJ, PUSHJB, PUSHGO, PUSHGOI, opcodeOf, Alike, after, afterNeeds, Private, xAt, Demand3Fetched, Demand3FetchedWider, ClaimKeeps}
 use Rattle.model.specs.declared.State.{State}
@@ -110,7 +110,7 @@ tetra-alike w s t e = ap (λ (p : ℕ). operandIn tetra p (look both w p)) e
 -- PC is that of the outcome, whatever its reply
 settled-pc : (s : State) (o : Outcome State Windows) → settled s o .state .pc ≡ o .state .pc
 unfolding settledBy
-settled-pc s o = on (λ (t : State). t .pc ≡ o .state .pc) (eqb (o .reply) 0 || eqb (o .reply) 19) (λ e. refl) (λ e. refl)
+settled-pc s o = on (λ (t : State). t .pc ≡ o .state .pc) (keepsClaim (o .reply)) (λ e. refl) (λ e. refl)
 
 -- a fetched call whose tetra is known
 call-settled : (w : Windows) (s : State) (u : ℕ) (c : Call) → Sized s → admissible s ≡ true → unruledBy (shapesOf w) ≡ 0 → inside (shapesOf w) (s .pc) ≡ true

@@ -1,7 +1,7 @@
 -- The fetched instruction by the step: 1, 2, 22 and 24 in order; then the step on the claimed state, and the claim taken back.
 use mathlib.Core.Path.{_≡_, refl, sym, ap, _∙_}
 use mathlib.Core.Logic.{_≢_, ⊎-elim}
-use mathlib.Core.Bool.{Bool, true, false, cond, _||_}
+use mathlib.Core.Bool.{Bool, true, false, cond}
 use mathlib.Core.List.{List, []}
 use Prim.Native.Nat.{ℕ, _+_, _/_, _%_, _^_, _≤_, _<_, max}
 use native.Mathlib.Omega.{arith}
@@ -14,7 +14,7 @@ use Rattle.model.specs.Plan.{Plan, answer, read, Outcome, perform, worst
 use Rattle.model.specs.Opcodes.{tetra, armOf}
 use Rattle.model.specs.NoMemory.{say, tell}
 use Rattle.model.specs.LoadStore.{bytesIn, operandIn}
-use Rattle.model.specs.Step.{refusalOf, unruledBy, refusing, fromThree, guarded, stepPlan, stepOf, claims, opcodeIn, xIn, yIn, zIn, tetraAt, settledBy, takenBack, claimedBy, instructionPlan, tetraPlan, fetchedPlan, fetchedOf, tetraOf, claimedAt}
+use Rattle.model.specs.Step.{refusalOf, unruledBy, refusing, fromThree, guarded, stepPlan, stepOf, claims, opcodeIn, xIn, yIn, zIn, tetraAt, keepsClaim, settledBy, takenBack, claimedBy, instructionPlan, tetraPlan, fetchedPlan, fetchedOf, tetraOf, claimedAt}
 use Rattle.model.specs.Numbers.{Lost}
 use Rattle.model.specs.Order.{Passes, refusedBy, FetchedInOrder}
 use Rattle.model.specs.Invariants.{InstructionFits}
@@ -49,22 +49,22 @@ claim-halted s x = on (λ (t : State). withParts (halted t) (s .general) (s .spe
 
 -- refused by a number that is neither 0 nor 19
 pub settled-refused : (s t : State) (r : ℕ) → r ≢ 0 → r ≢ 19 → settledBy s r t ≡ withParts t (s .general) (s .special)
-unfolding settledBy
+unfolding settledBy keepsClaim
 settled-refused s t r a b = rw (ne-eqb r 0 a, ne-eqb r 19 b)
 
 pub settled-done : (s : State) (o : Outcome State Windows) → o .reply ≡ 0 → settled s o ≡ o
 unfolding settledBy
 settled-done s o e = λ i. record { reply = o .reply; state = kept i; memory = o .memory }
   where
-    kept : cond (eqb (o .reply) 0 || eqb (o .reply) 19) (o .state) (withParts (o .state) (s .general) (s .special)) ≡ o .state
-    kept = rw e
+    kept : cond (keepsClaim (o .reply)) (o .state) (withParts (o .state) (s .general) (s .special)) ≡ o .state
+    kept = unfold keepsClaim in (rw e)
 
 pub settled-nineteen : (s : State) (o : Outcome State Windows) → o .reply ≡ 19 → settled s o ≡ o
 unfolding settledBy
 settled-nineteen s o e = λ i. record { reply = o .reply; state = kept i; memory = o .memory }
   where
-    kept : cond (eqb (o .reply) 0 || eqb (o .reply) 19) (o .state) (withParts (o .state) (s .general) (s .special)) ≡ o .state
-    kept = rw e
+    kept : cond (keepsClaim (o .reply)) (o .state) (withParts (o .state) (s .general) (s .special)) ≡ o .state
+    kept = unfold keepsClaim in (rw e)
 
 module _ (w : Windows) (s : State) (x : ℕ) where
   lost-back : (n : ℕ) → Lost n → record { reply = n; state = s; memory = w } ≡ settled s (record { reply = n; state = claimLocal s x; memory = w })

@@ -1,6 +1,6 @@
 -- A property of states that every state builder keeps is kept by every step, every exception and every fetched instruction.
 use mathlib.Core.Path.{_≡_, refl}
-use mathlib.Core.Bool.{true, false, _||_}
+use mathlib.Core.Bool.{true, false}
 use mathlib.Core.List.{List}
 use Prim.Native.Nat.{ℕ, _≤_}
 use lib.Dec.{eqb}
@@ -17,7 +17,7 @@ use Rattle.model.specs.LoadStore.{flagV}
 use Rattle.model.specs.Control.{operandOf}
 use Rattle.model.specs.ArithmeticStep.{resultsIn, withResults}
 use Rattle.model.specs.Lists.{stepOn}
-use Rattle.model.specs.Step.{refusalOf, unruledBy, planOf, guarded, fromThree, stepPlan, claims, opcodeIn, xIn, yIn, zIn, tetraAt, settledBy, takenBack, instructionPlan, tetraPlan, fetchedPlan, Item, step, exception, fetched, itemPlan, mmix}
+use Rattle.model.specs.Step.{refusalOf, unruledBy, planOf, guarded, fromThree, stepPlan, claims, opcodeIn, xIn, yIn, zIn, tetraAt, keepsClaim, settledBy, takenBack, instructionPlan, tetraPlan, fetchedPlan, Item, step, exception, fetched, itemPlan, mmix}
 use Rattle.model.specs.declared.State.{State}
 use Rattle.model.specs.declared.Results.{Results}
 use Rattle.model.proofs.Bools.{on}
@@ -106,7 +106,7 @@ module _ (P : State → Type 0) (k : Keeps P) where
 
   back-kept : (s : State) → P s → (p : Plan State) → Always P p → Always P (takenBack s p)
   unfolding Always takenBack settledBy
-  back-kept s h (answer r t a vs) q = on P (eqb r 0 || eqb r 19) (λ e. q) (λ e. k .back s t h q)
+  back-kept s h (answer r t a vs) q = on P (keepsClaim r) (λ e. q) (λ e. k .back s t h q)
   back-kept s h (read q a n f) g = λ vs. back-kept s h (f vs) (g vs)
 
   instruction-kept : (s : State) (op x y z : ℕ) → P s → Always P (instructionPlan s op x y z)

@@ -1,7 +1,7 @@
 -- Words stay words, and bytes bytes: each state builder keeps a state's numbers below 2^64 where what it writes is below 2^64.
 use mathlib.Core.Path.{_≡_, refl, sym, ap, _∙_, subst}
 use mathlib.Core.Logic.{_⊎_, inl, inr}
-use mathlib.Core.Bool.{Bool, true, false, _&&_, _||_}
+use mathlib.Core.Bool.{Bool, true, false, _&&_}
 use mathlib.Core.List.{List, [], _∷_}
 use Prim.Native.Nat.{ℕ, zero, suc, _+_, _-_, _*_, _%_, _^_, _≤_, _<_, min, max}
 use native.Mathlib.Omega.{arith}
@@ -26,7 +26,7 @@ use Rattle.model.specs.Trips.{wordOf, interrupted, added, withAdded}
 use Rattle.model.specs.LoadStore.{flagV}
 use Rattle.model.specs.ArithmeticStep.{operandsOf, resultsIn, withResults}
 use Rattle.model.specs.Lists.{stepOn}
-use Rattle.model.specs.Step.{refusalOf, planOf, fromThree, stepPlan, exceptionOf, claims, tetraAt, settledBy, tetraPlan, instructionPlan, fetchedOf, Item, step, exception, fetched, itemPlan, mmix}
+use Rattle.model.specs.Step.{refusalOf, planOf, fromThree, stepPlan, exceptionOf, claims, tetraAt, keepsClaim, settledBy, tetraPlan, instructionPlan, fetchedOf, Item, step, exception, fetched, itemPlan, mmix}
 use Rattle.model.specs.Invariants.{InstructionFits, Fits, Bytes}
 use Rattle.model.specs.declared.State.{State}
 use Rattle.model.specs.declared.Operation.{Operation}
@@ -339,7 +339,7 @@ instruction-words w s op x y z f b h = go (claims op) refl
   where
     back : (r : ℕ) (t : State) → Words t → Words (settledBy s r t)
     back r t k = unfold settledBy in
-        (on Words (eqb r 0 || eqb r 19) (λ e. k)
+        (on Words (keepsClaim r) (λ e. k)
         (λ e. record { general-word = h .general-word; special-word = h .special-word; pc-word = k .pc-word; halt-word = k .halt-word; marks-word = k .marks-word }))
 
     go : (c : Bool) → claims op ≡ c → Words (performOn w s (instructionPlan s op x y z) .state)

@@ -133,9 +133,13 @@ zIn t = t % 256
 unfoldable pub tetraAt : State → ℕ → ℕ
 tetraAt s v = operandIn tetra (s .pc) v
 
--- "An instruction refused by any number but 19 takes its claim back": of the state t that reply r leaves, the registers are those of s
+-- "An instruction refused by any number but 19 takes its claim back"
+unfoldable pub keepsClaim : ℕ → Bool
+keepsClaim r = eqb r 0 || eqb r 19
+
+-- then the registers of the state t that reply r leaves are those of s
 unfoldable pub settledBy : State → ℕ → State → State
-settledBy s r t = cond (eqb r 0 || eqb r 19) t (withParts t (s .general) (s .special))
+settledBy s r t = cond (keepsClaim r) t (withParts t (s .general) (s .special))
 
 unfoldable pub takenBack : State → Plan State → Plan State
 takenBack s (answer r t a vs) = answer r (settledBy s r t) a vs
