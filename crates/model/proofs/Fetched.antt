@@ -24,7 +24,8 @@ use Rattle.model.proofs.Bools.{on, on-both}
 use Rattle.model.proofs.LoadStore.{operand-small}
 use Rattle.model.proofs.AdmissibleKept.{Good, adm, adm-of, claim-good}
 use Rattle.model.proofs.ItemInvariant.{Any}
-use Rattle.model.proofs.ArmAnswers.{Answers, refusal-most, three-replies, worst-six}
+use Rattle.model.proofs.ArmAnswers.{Answers, refusal-most, worst-six}
+use Rattle.model.proofs.ArmReplies.{three-replies}
 use Rattle.model.proofs.Entry.{performOn, said, said-reply, guarded-one, guarded-unruled, guarded-open, none-unruled, unruled-two, unruled-shared}
 
 -- ---- the bytes of a tetra are bytes

@@ -23,7 +23,8 @@ use Rattle.model.specs.declared.State.{State}
 use Rattle.model.proofs.Bools.{on, each, at-each, and-left}
 use Rattle.model.proofs.AdmissibleKept.{Good, adm, claim-good}
 use Rattle.model.proofs.ItemInvariant.{Any}
-use Rattle.model.proofs.ArmAnswers.{three-replies, perform-meets}
+use Rattle.model.proofs.ArmAnswers.{perform-meets}
+use Rattle.model.proofs.ArmReplies.{three-replies}
 use Rattle.model.proofs.Entry.{performOn, unruled-none, unruled-is, shared-only}
 use Rattle.model.proofs.Fetched.{tetra-fits, claim-back, claim-halted, settled-refused, settled-done, settled-nineteen, step-three, claim-admissible, fetched-by, fetched-claims, fetched-free}
 use Rattle.model.proofs.RunLaws.{run-by, run-stops, Last, run-last}

@@ -16,6 +16,7 @@ pub mod Whole
 pub mod Arithmetic
 pub mod ArithmeticWords
 pub mod ArmAnswers
+pub mod ArmReplies
 pub mod ItemInvariant
 pub mod Entry
 pub mod Fetched
@@ -23,6 +24,7 @@ pub mod MarginalKept
 pub mod WordsKept
 pub mod Invariants
 pub mod RunMeant
+pub mod RunTurns
 pub mod PushPop
 pub mod Demand
 pub mod DemandFetched

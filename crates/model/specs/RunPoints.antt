@@ -2,13 +2,13 @@
 -- what a claim changes, and what a refusal gives back.
 use Prim.Native.Nat.{ℕ, _+_, _*_, _/_, _%_, _^_}
 use mathlib.Core.Path.{_≡_}
-use mathlib.Core.Bool.{Bool, true, _&&_}
+use mathlib.Core.Bool.{Bool, true, not, _&&_}
 use mathlib.Core.List.{List, [], _∷_, _++_}
 use lib.Dec.{eqb}
 use Rattle.model.specs.Octa.{bytesOf}
 use Rattle.model.specs.Memory.{Windows}
 use Rattle.model.specs.Registers.{rJ, rO, rS, rG, rL, rA, rW, rX, rWW, rXX, rZZ, stackStart, goes, halted, withSpecial, stored}
-use Rattle.model.specs.Step.{step}
+use Rattle.model.specs.Step.{claims, opcodeIn, xIn, yIn, zIn, step}
 use Rattle.model.specs.Run.{Stopped, runOf}
 use Rattle.model.specs.Bench.{Point, allMet, sameState, sameWindows, start}
 use Rattle.model.specs.declared.State.{State}
@@ -133,35 +133,51 @@ stopPoints =
 abbrev claiming : ℕ → ℕ → State
 claiming v a = goes (stored (withSpecial start rL 6) 5 v) a
 
--- the step leaves $3 and all else that is marginal as it reads it, and then claims
-abbrev fetches : ℕ → List ℕ → State → List ℕ → RunPoint
-fetches t vs e us = point held (loaded (t ∷ 0 ∷ []) vs) 1 1 0 e (loaded (t ∷ 0 ∷ []) us)
+-- a tetra, then 9, at PC 0: fetched, and the same instruction as a step
+abbrev before : ℕ → List ℕ → Windows
+before t vs = loaded (t ∷ 9 ∷ []) vs
 
-abbrev steps : ℕ → ℕ → ℕ → ℕ → List ℕ → State → List ℕ → Point
-steps op x y z vs e us =
-    record { begin = held; window = loaded (0 ∷ 0 ∷ []) vs; items = step op x y z ∷ []; replies = 0 ∷ []; end = e; left = loaded (0 ∷ 0 ∷ []) us }
+abbrev fetches : ℕ → List ℕ → State → List ℕ → RunPoint
+fetches t vs e us = point held (before t vs) 1 1 0 e (before t us)
+
+abbrev steps : ℕ → List ℕ → State → List ℕ → Point
+steps t vs e us =
+    record { begin = held; window = before t vs; items = step (opcodeIn t) (xIn t) (yIn t) (zIn t) ∷ []; replies = 0 ∷ []; end = e; left = before t us }
+
+-- a call of 4 whose frame is 5 octabytes
+abbrev calling : State
+calling = goes (grown (withSpecial start rJ 4) 5) 4
 
 abbrev claimPoints : List RunPoint
 claimPoints =
-    -- GET $5,rL; GO $5,$3,0; ADDU $5,$3,$3; LDO $5,$3,0 from 0; PUSHJ $4
+    -- GET $5,rL; GO $5,$3,0; ADDU $5,$3,$3; LDBU $5,$3,0; PUSHJ $4
     fetches 0xFE050014 [] (claiming 6 4) []
     ∷ fetches 0x9F050300 [] (claiming 4 0) []
     ∷ fetches 0x22050303 [] (claiming 0 4) []
-    ∷ fetches 0x8D050300 [] (claiming (0x8D050300 * 2 ^ 32) 4) []
-    ∷ fetches 0xF2040001 (1 ∷ 1 ∷ 1 ∷ 1 ∷ 1 ∷ []) (goes (grown (withSpecial start rJ 4) 5) 4) (0 ∷ 0 ∷ 0 ∷ 0 ∷ 4 ∷ []) ∷ []
+    ∷ fetches 0x83050300 [] (claiming 0x83 4) []
+    ∷ fetches 0xF2040001 (1 ∷ 1 ∷ 1 ∷ 1 ∷ 1 ∷ []) calling (0 ∷ 0 ∷ 0 ∷ 0 ∷ 4 ∷ []) ∷ []
 
-abbrev stepPoints : List Point
-stepPoints =
-    steps 0xFE 5 0 20 [] (claiming 0 4) []
-    ∷ steps 0x9F 5 3 0 [] (claiming 4 7) []
-    ∷ steps 0x22 5 3 3 [] (claiming 14 4) []
-    ∷ steps 0xF2 4 0 1 (1 ∷ 1 ∷ 1 ∷ 1 ∷ 1 ∷ []) (goes (grown (withSpecial start rJ 4) 5) 4) (0 ∷ 0 ∷ 0 ∷ 7 ∷ 4 ∷ []) ∷ []
+unfoldable pub unclaimedPoints : List Point
+unclaimedPoints =
+    steps 0xFE050014 [] (claiming 0 4) []
+    ∷ steps 0x9F050300 [] (claiming 4 7) []
+    ∷ steps 0x22050303 [] (claiming 14 4) []
+    ∷ steps 0x83050300 [] (claiming 9 4) []
+    ∷ steps 0xF2040001 (1 ∷ 1 ∷ 1 ∷ 1 ∷ 1 ∷ []) calling (0 ∷ 0 ∷ 0 ∷ 7 ∷ 4 ∷ []) ∷ []
+
+-- ---- the opcodes that claim: the ends of each range, and what lies next to them
+
+abbrev alls : (ℕ → Bool) → List ℕ → Bool
+alls f [] = true
+alls f (x ∷ xs) = f x && alls f xs
+
+unfoldable pub claimEnds : Bool
+claimEnds =
+    alls claims (0x01 ∷ 0x3F ∷ 0x60 ∷ 0x99 ∷ 0x9E ∷ 0x9F ∷ 0xBE ∷ 0xEF ∷ 0xF2 ∷ 0xF5 ∷ 0xFA ∷ 0xFE ∷ [])
+    && alls (λ op. not (claims op)) (0x00 ∷ 0x40 ∷ 0x5F ∷ 0x9A ∷ 0x9D ∷ 0xA0 ∷ 0xBD ∷ 0xF0 ∷ 0xF1 ∷ 0xF6 ∷ 0xF9 ∷ 0xFB ∷ 0xFD ∷ 0xFF ∷ [])
 
 unfoldable pub runPoints : List RunPoint
 runPoints = loopPoints ++ (lowPoints ++ (stopPoints ++ claimPoints))
 
-unfoldable pub unclaimedPoints : List Point
-unclaimedPoints = stepPoints
-
 abbrev pub RunPointsMet : Type 0
-RunPointsMet = (allStop runPoints ≡ true) × (allMet unclaimedPoints ≡ true)
+RunPointsMet = (allStop runPoints ≡ true) × (allMet unclaimedPoints ≡ true) × (claimEnds ≡ true)

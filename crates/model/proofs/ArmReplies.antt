@@ -1,0 +1,76 @@
+-- A property of the replies alone, of every answer that an arm may give: 0, 3 to 5, 7 to 18, 19, and 20 of TRAP.
+use mathlib.Core.Path.{_≡_, refl}
+use mathlib.Core.Logic.{_≢_}
+use mathlib.Core.Bool.{_&&_}
+use mathlib.Core.List.{List}
+use Prim.Native.Nat.{ℕ, _≤_}
+use native.Mathlib.Omega.{arith}
+use lib.Dec.{ltb, eqb}
+use borrow.Author.Tests.{eqb-false}
+use Rattle.model.specs.Opcodes.{Arm, branch, jump, getAddress, go, pushJump, pushGo, pop, put, get, save, unsave, sync, swym, trip, trap, load, store, arithmetic, none}
+use Rattle.model.specs.NoMemory.{tell}
+use Rattle.model.specs.Step.{isNamed, refusalOf, planOf, fromThree}
+use Rattle.model.specs.Numbers.{Halting}
+use Rattle.model.specs.declared.State.{State}
+use Rattle.model.proofs.Bools.{on}
+use Rattle.model.proofs.ArmAnswers.{Answers, Meets, MeetsTrip, MeetsRaise, plan-meets, refusal-most}
+
+pub refusal-least : (a : Arm) (x y z : ℕ) → refusalOf a x y z ≢ 0 → 3 ≤ refusalOf a x y z
+unfolding refusalOf
+refusal-least none x y z = λ n. omega arith
+refusal-least trap x y z = on (λ (n : ℕ). n ≢ 0 → 3 ≤ n) (eqb x 0 && isNamed y) (λ e n. omega arith) (λ e n. absurd (n refl))
+refusal-least get x y z = on (λ (n : ℕ). n ≢ 0 → 3 ≤ n) (ltb 31 z) (λ e n. omega arith) (λ e n. absurd (n refl))
+refusal-least (branch c d) x y z = λ n. absurd (n refl)
+refusal-least (jump d) x y z = λ n. absurd (n refl)
+refusal-least (getAddress d) x y z = λ n. absurd (n refl)
+refusal-least (go o) x y z = λ n. absurd (n refl)
+refusal-least (pushJump d) x y z = λ n. absurd (n refl)
+refusal-least (pushGo o) x y z = λ n. absurd (n refl)
+refusal-least pop x y z = λ n. absurd (n refl)
+refusal-least (put o) x y z = λ n. absurd (n refl)
+refusal-least save x y z = λ n. absurd (n refl)
+refusal-least unsave x y z = λ n. absurd (n refl)
+refusal-least sync x y z = λ n. absurd (n refl)
+refusal-least swym x y z = λ n. absurd (n refl)
+refusal-least trip x y z = λ n. absurd (n refl)
+refusal-least (load d g o) x y z = λ n. absurd (n refl)
+refusal-least (store d g o) x y z = λ n. absurd (n refl)
+refusal-least (arithmetic f p q) x y z = λ n. absurd (n refl)
+
+pub plan-replies : (Q : ℕ → Type 0) → Q 0 → Q 3 → ((n : ℕ) → Halting n → Q n) → Q 19
+    → (s : State) (a : Arm) (op x y z : ℕ) → (a ≡ trap → Q 20) → Answers (λ vs. Unit {0}) (λ r t vs. Q r) (planOf s a op x y z)
+plan-replies Q done three halts nineteen s a op x y z twenty =
+    plan-meets s (λ n. Unit {0}) (λ vs. Unit {0}) (λ r t vs. Q r) (record {
+      word = λ n b. tt;
+      general-is = λ i. tt;
+      special-is = λ k. tt;
+      refuses = three;
+      halts = halts;
+      moves = λ a w. done;
+      writes = λ x v a w u. done;
+      locals = λ v a w u. done;
+      globals = λ v a b c d w. done;
+      status = λ v a b w. done;
+      other = λ k v a b c d w u. done;
+      pushes = λ h t w. done;
+      pops = λ x t h ls w r. done;
+      saves = λ x t b w. done;
+      unsaves = λ o g a l vs t u w b c d f r. done;
+      stores = λ v a w. done;
+      computes = λ f x u v a wu wv w. done;
+    }) a op x y z tt tt (record { trips = λ m. trips; traps = twenty; stores = λ d o m v. raises; computes = λ f p q m. raises })
+  where
+    trips : {t : State} {n u v : ℕ} → MeetsTrip t (λ n. Unit {0}) (λ r t. Q r) n u v
+    trips = record { trips = λ a w. done; trips-not = nineteen }
+
+    raises : {t : State} {f n u v : ℕ} → MeetsRaise t (λ n. Unit {0}) (λ r t. Q r) f n u v
+    raises = record { adds = λ a w. done; takes = trips }
+
+-- from 3 on
+pub three-replies : (Q : ℕ → Type 0) → Q 0 → ((n : ℕ) → 3 ≤ n → n ≤ 5 → Q n) → ((n : ℕ) → Halting n → Q n) → Q 19
+    → (s : State) (a : Arm) (op x y z : ℕ) → (a ≡ trap → Q 20) → Answers (λ vs. Unit {0}) (λ r t vs. Q r) (fromThree s a op x y z)
+unfolding fromThree
+three-replies Q done three halts nineteen s a op x y z twenty =
+    on (Answers (λ vs. Unit {0}) (λ r t vs. Q r)) (eqb (refusalOf a x y z) 0)
+    (λ e. plan-replies Q done (three 3 (omega arith) (omega arith)) halts nineteen s a op x y z twenty)
+    (λ e. unfold tell Answers in (three _ (refusal-least a x y z (eqb-false _ _ e)) (refusal-most a x y z)))
