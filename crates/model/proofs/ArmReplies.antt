@@ -2,7 +2,6 @@
 use mathlib.Core.Path.{_≡_, refl}
 use mathlib.Core.Logic.{_≢_}
 use mathlib.Core.Bool.{_&&_}
-use mathlib.Core.List.{List}
 use Prim.Native.Nat.{ℕ, _≤_}
 use native.Mathlib.Omega.{arith}
 use lib.Dec.{ltb, eqb}
@@ -13,7 +12,7 @@ use Rattle.model.specs.Step.{isNamed, refusalOf, planOf, fromThree}
 use Rattle.model.specs.Numbers.{Halting}
 use Rattle.model.specs.declared.State.{State}
 use Rattle.model.proofs.Bools.{on}
-use Rattle.model.proofs.ArmAnswers.{Answers, Meets, MeetsTrip, MeetsRaise, plan-meets, refusal-most}
+use Rattle.model.proofs.ArmAnswers.{Answers, MeetsTrip, MeetsRaise, plan-meets, refusal-most}
 
 pub refusal-least : (a : Arm) (x y z : ℕ) → refusalOf a x y z ≢ 0 → 3 ≤ refusalOf a x y z
 unfolding refusalOf

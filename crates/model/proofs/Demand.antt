@@ -152,7 +152,7 @@ hole-le s x a = go (leb (sp s rG) x) refl
     go true e = a .l-g
     go false e = let l : x < sp s rG = leb-false _ _ e in omega arith
 
-pub hole-alike : (s t : State) (x : ℕ) → s .special ≡ t .special → hole s x ≡ hole t x
+hole-alike : (s t : State) (x : ℕ) → s .special ≡ t .special → hole s x ≡ hole t x
 unfolding hole
 hole-alike s t x e = rw e
 

@@ -9,24 +9,24 @@ use lib.Dec.{leb, ltb, eqb}
 use lib.ListN.{length, getD, set, List·getD-eq-default}
 use borrow.Author.Tests.{leb-true, ltb-true, le-ltb}
 use Rattle.model.specs.Fill.{over}
-use Rattle.model.specs.Registers.{withParts, rO, rG, rL, sp, reg, Sized, Words, MarginalZero, admissible, withSpecial, cleared, claimLocal, isMarginal}
+use Rattle.model.specs.Registers.{rO, rG, rL, sp, reg, Sized, admissible, withSpecial, cleared, claimLocal, isMarginal}
 use Rattle.model.specs.Memory.{Windows, shapesOf, inside, both}
 use Rattle.model.specs.Plan.{Outcome, All, Off, look}
 use Rattle.model.specs.Opcodes.{tetra}
 use Rattle.model.specs.LoadStore.{operandIn}
 use Rattle.model.specs.Frames.{hole}
-use Rattle.model.specs.Step.{Item, unruledBy, stepOf, claims, opcodeIn, xIn, yIn, zIn, tetraAt, keepsClaim, settledBy, fetchedOf, tetraOf, mmix}
+use Rattle.model.specs.Step.{unruledBy, stepOf, claims, opcodeIn, xIn, yIn, zIn, tetraAt, keepsClaim, settledBy, fetchedOf, tetraOf, mmix}
 use Rattle.model.specs.Fetched.{stepSaid, settled}
-use Rattle.model.specs.Demand.{Within, Call, PUSHJ, PUSHJB, PUSHGO, PUSHGOI, opcodeOf, Alike, after, afterNeeds, Private, xAt, Demand3Fetched, Demand3FetchedWider, ClaimKeeps}
+use Rattle.model.specs.Demand.{Within, Call, PUSHJ, PUSHJB, PUSHGO, PUSHGOI, opcodeOf, Alike, afterNeeds, Private, xAt, Demand3Fetched, Demand3FetchedWider, ClaimKeeps}
 use Rattle.model.specs.declared.State.{State}
-use Rattle.model.proofs.Bools.{on, and-left, and-right}
+use Rattle.model.proofs.Bools.{on, and-right}
 use Rattle.model.proofs.Fill.{length-over, over-in, over-after, over-before, lt-or-le}
 use Rattle.model.proofs.Memory.{both-lawful}
 use Rattle.model.proofs.Lists.{runWider-off}
-use Rattle.model.proofs.AdmissibleKept.{Good, adm, spec-other, claim-good}
+use Rattle.model.proofs.AdmissibleKept.{adm, spec-other, claim-good}
 use Rattle.model.proofs.WordsKept.{claim-words}
 use Rattle.model.proofs.Fetched.{settled-done, WasFetched, done-fetched, fetched-claims}
-use Rattle.model.proofs.Demand.{hole-alike, admissible-alike, demand3}
+use Rattle.model.proofs.Demand.{admissible-alike, demand3}
 
 -- ---- the claim
 

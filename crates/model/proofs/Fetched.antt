@@ -1,9 +1,8 @@
 -- The fetched instruction by the step: 1, 2, 22 and 24 in order; then the step on the claimed state, and the claim taken back.
 use mathlib.Core.Path.{_≡_, refl, sym, ap, _∙_}
-use mathlib.Core.Logic.{_≢_, ⊎-elim}
+use mathlib.Core.Logic.{_≢_}
 use mathlib.Core.Bool.{Bool, true, false, cond}
-use mathlib.Core.List.{List, []}
-use Prim.Native.Nat.{ℕ, _+_, _/_, _%_, _^_, _≤_, _<_, max}
+use Prim.Native.Nat.{ℕ, _^_, _≤_, _<_, max}
 use native.Mathlib.Omega.{arith}
 use lib.Dec.{eqb}
 use lib.ListN.{length}
@@ -12,21 +11,21 @@ use Rattle.model.specs.Registers.{withParts, Sized, admissible, halted, 
 use Rattle.model.specs.Memory.{Windows, Shapes, shapesOf, ruled, shares, inside, both}
 use Rattle.model.specs.Plan.{Plan, answer, read, Outcome, perform, worst, clear, named, looks}
 use Rattle.model.specs.Opcodes.{tetra, armOf}
-use Rattle.model.specs.NoMemory.{say, tell}
+use Rattle.model.specs.NoMemory.{tell}
 use Rattle.model.specs.LoadStore.{bytesIn, operandIn}
-use Rattle.model.specs.Step.{refusalOf, unruledBy, refusing, fromThree, guarded, stepPlan, stepOf, claims, opcodeIn, xIn, yIn, zIn, tetraAt, keepsClaim, settledBy, takenBack, claimedBy, instructionPlan, tetraPlan, fetchedPlan, fetchedOf, tetraOf, claimedAt}
+use Rattle.model.specs.Step.{refusalOf, unruledBy, refusing, fromThree, stepPlan, stepOf, claims, opcodeIn, xIn, yIn, zIn, tetraAt, keepsClaim, settledBy, takenBack, claimedBy, instructionPlan, tetraPlan, fetchedPlan, fetchedOf, tetraOf, claimedAt}
 use Rattle.model.specs.Numbers.{Lost}
 use Rattle.model.specs.Order.{Passes, refusedBy, FetchedInOrder}
 use Rattle.model.specs.Invariants.{InstructionFits}
-use Rattle.model.specs.Fetched.{stepSaid, Fetches, settled, FetchedIsStep}
+use Rattle.model.specs.Fetched.{stepSaid, settled, FetchedIsStep}
 use Rattle.model.specs.declared.State.{State}
 use Rattle.model.proofs.Bools.{on, on-both}
 use Rattle.model.proofs.LoadStore.{operand-small}
-use Rattle.model.proofs.AdmissibleKept.{Good, adm, adm-of, claim-good}
+use Rattle.model.proofs.AdmissibleKept.{adm, adm-of, claim-good}
 use Rattle.model.proofs.ItemInvariant.{Any}
 use Rattle.model.proofs.ArmAnswers.{Answers, refusal-most, worst-six}
 use Rattle.model.proofs.ArmReplies.{three-replies}
-use Rattle.model.proofs.Entry.{performOn, said, said-reply, guarded-one, guarded-unruled, guarded-open, none-unruled, unruled-two, unruled-shared}
+use Rattle.model.proofs.Entry.{performOn, said, guarded-one, guarded-unruled, guarded-open, none-unruled, unruled-two, unruled-shared}
 
 -- ---- the bytes of a tetra are bytes
 

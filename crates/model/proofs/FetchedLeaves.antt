@@ -2,30 +2,29 @@
 use mathlib.Core.Path.{_≡_, refl, sym, ap, _∙_, subst}
 use mathlib.Core.Logic.{_⊎_, inl, inr, ⊎-elim, _≢_}
 use mathlib.Core.Bool.{Bool, true, false, cond, not, _&&_}
-use Prim.Native.Nat.{ℕ, zero, suc, _+_, _≤_, _<_}
+use Prim.Native.Nat.{ℕ, _≤_, _<_}
 use native.Mathlib.Omega.{arith}
 use lib.Dec.{eqb}
-use borrow.Author.Tests.{eqb-true, eqb-false}
-use Rattle.model.specs.Registers.{withParts, reg, Sized, admissible, halted, withSpecial, cleared, claimLocal, isMarginal}
+use borrow.Author.Tests.{eqb-false}
+use Rattle.model.specs.Registers.{withParts, Sized, admissible, halted, withSpecial, cleared, claimLocal, isMarginal}
 use Rattle.model.specs.Memory.{Windows, shapesOf, inside, both}
 use Rattle.model.specs.Plan.{Outcome}
 use Rattle.model.specs.Opcodes.{trap, operationOf, firstOf, widthOf, signOf, conditionOf, armOf}
-use Rattle.model.specs.Lists.{stepOn}
-use Rattle.model.specs.Step.{refusalOf, unruledBy, fromThree, stepOf, claims, opcodeIn, xIn, yIn, zIn, tetraAt, settledBy, claimedBy, fetchedOf, tetraOf, claimedAt, fetched, mmix}
-use Rattle.model.specs.Run.{Stopped, more, stoppedBy, runFor, runOf, grantMost}
+use Rattle.model.specs.Step.{refusalOf, unruledBy, fromThree, stepOf, claims, opcodeIn, xIn, yIn, zIn, settledBy, claimedBy, fetchedOf, tetraOf, claimedAt, fetched, mmix}
+use Rattle.model.specs.Run.{Stopped, runFor, runOf, grantMost}
 use Rattle.model.specs.RunMeant.{CallPasses}
-use Rattle.model.specs.Numbers.{Early, Lost, Missed, Halting}
+use Rattle.model.specs.Numbers.{Early}
 use Rattle.model.specs.Order.{Passes, refusedBy}
 use Rattle.model.specs.Invariants.{InstructionFits}
 use Rattle.model.specs.Fetched.{stepSaid, settled}
-use Rattle.model.specs.Leaves.{TripLeaves, StoreLeaves, ArithmeticLeaves, Sharing, StepLeaves, TetraLeaves, FetchedLeaves, LastLeaves, RunLeaves}
+use Rattle.model.specs.Leaves.{Sharing, StepLeaves, TetraLeaves, FetchedLeaves, LastLeaves, RunLeaves}
 use Rattle.model.specs.declared.State.{State}
-use Rattle.model.proofs.Bools.{on, each, at-each, and-left}
-use Rattle.model.proofs.AdmissibleKept.{Good, adm, claim-good}
+use Rattle.model.proofs.Bools.{on, each, at-each}
+use Rattle.model.proofs.AdmissibleKept.{adm, claim-good}
 use Rattle.model.proofs.ItemInvariant.{Any}
 use Rattle.model.proofs.ArmAnswers.{perform-meets}
 use Rattle.model.proofs.ArmReplies.{three-replies}
-use Rattle.model.proofs.Entry.{performOn, unruled-none, unruled-is, shared-only}
+use Rattle.model.proofs.Entry.{unruled-none, unruled-is, shared-only}
 use Rattle.model.proofs.Fetched.{tetra-fits, claim-back, claim-halted, settled-refused, settled-done, settled-nineteen, step-three, claim-admissible, fetched-by, fetched-claims, fetched-free}
 use Rattle.model.proofs.RunLaws.{run-by, run-stops, Last, run-last}
 use Rattle.model.proofs.RunMeant.{fetched-on, Ready, fetched-ready, run-ready, run-open, call-by}

@@ -32,7 +32,7 @@ use Rattle.model.specs.Fill.{over}
 use Rattle.model.proofs.Bools.{on}
 use Rattle.model.proofs.Fill.{length-over}
 use Rattle.model.proofs.ItemInvariant.{Any}
-use Rattle.model.proofs.ArmAnswers.{Answers, Meets, MeetsTrip, MeetsRaise, MeetsInterrupt, plan-meets, judged-early, step-judged, step-meets, raised-meets, exception-meets, worst-six, perform-meets}
+use Rattle.model.proofs.ArmAnswers.{Answers, Meets, MeetsInterrupt, plan-meets, judged-early, step-judged, step-meets, raised-meets, exception-meets, worst-six, perform-meets}
 use Rattle.model.proofs.ArmReplies.{three-replies}
 use Rattle.model.proofs.Entry.{performOn, said-reply, shared-only}
 use Rattle.model.proofs.LoadStore.{store-made}

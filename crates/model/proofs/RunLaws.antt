@@ -1,5 +1,5 @@
 -- Laws of `runFor`, over any machine: by induction over the grant.
-use mathlib.Core.Path.{_≡_, refl, sym, ap, _∙_}
+use mathlib.Core.Path.{_≡_, refl, ap, _∙_}
 use mathlib.Core.Logic.{_≢_}
 use mathlib.Core.Bool.{Bool, true, false, cond}
 use mathlib.Core.List.{List, [], _∷_, _++_}
@@ -9,8 +9,7 @@ use lib.Dec.{eqb}
 use lib.ListN.{replicate}
 use borrow.Author.Tests.{eqb-true, eqb-false, ne-eqb}
 use Rattle.model.specs.Memory.{Store}
-use Rattle.model.specs.Plan.{Outcome}
-use Rattle.model.specs.Lists.{Machine, Ran, stepOn, runs}
+use Rattle.model.specs.Lists.{Machine, stepOn, runs}
 use Rattle.model.specs.Run.{Stopped, more, stoppedBy, runFor, tried}
 use Rattle.model.proofs.Bools.{on}
 

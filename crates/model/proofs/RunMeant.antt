@@ -6,7 +6,7 @@ use Prim.Native.Nat.{ℕ, suc, _+_, _≤_, _<_}
 use native.Mathlib.Omega.{arith}
 use lib.Dec.{ltb, eqb}
 use borrow.Author.Tests.{eqb-true, eqb-false, ne-eqb, ltb-true, ltb-false, lt-ltb, le-ltb}
-use Rattle.model.specs.Memory.{Windows, Shapes, shapesOf, ruled, shares, both}
+use Rattle.model.specs.Memory.{Windows, shapesOf, ruled, shares, both}
 use Rattle.model.specs.Plan.{Outcome}
 use Rattle.model.specs.Lists.{stepOn}
 use Rattle.model.specs.Registers.{Sized, admissible}

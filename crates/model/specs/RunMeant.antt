@@ -3,14 +3,14 @@
 use Prim.Native.Nat.{ℕ, _+_, _≤_, _<_}
 use mathlib.Core.Path.{_≡_}
 use mathlib.Core.Logic.{_≢_}
-use mathlib.Core.Bool.{Bool, true, false, cond}
+use mathlib.Core.Bool.{true, false, cond}
 use mathlib.Core.List.{List, [], _∷_, _++_}
 use lib.Dec.{eqb}
 use lib.ListN.{replicate}
 use Rattle.model.specs.Memory.{Windows, shapesOf, ruled, shares, both}
 use Rattle.model.specs.Lists.{Ran, runs}
 use Rattle.model.specs.Registers.{Sized, admissible}
-use Rattle.model.specs.Step.{Item, fetched, fetchedOf, mmix}
+use Rattle.model.specs.Step.{fetched, fetchedOf, mmix}
 use Rattle.model.specs.Run.{Stopped, more, stoppedBy, tried, grantMost, refusedWhole, runOf}
 use Rattle.model.specs.Order.{Passes}
 use Rattle.model.specs.declared.State.{State}
