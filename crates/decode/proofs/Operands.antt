@@ -75,6 +75,17 @@ pub operand-is : (d : Width) (a v s : ℕ) → 2 ^ s ≡ unitAt d a → v / 2 ^ 
 unfolding operandIn
 operand-is d a v s e = rw e
 
+-- a tetra's shift, and a tetra
+tetra-shift : (a r : ℕ) → r ≡ 32 - 32 * (a % 8 / 4) → 2 ^ r ≡ unitAt tetra a
+unfolding unitAt bytesIn
+tetra-shift a r h =
+    let e : r ≡ 8 * (8 - 4 - a % 8 / 4 * 4) = omega arith in
+    ap (λ (n : ℕ). 2 ^ n) e ∙ bits (8 - 4 - a % 8 / 4 * 4)
+
+pub tetra-is : (a v : ℕ) → v / 2 ^ (32 - 32 * (a % 8 / 4)) % 2 ^ 32 ≡ operandIn tetra a v
+unfolding bytesIn
+tetra-is a v = operand-is tetra a v (32 - 32 * (a % 8 / 4)) (tetra-shift a (32 - 32 * (a % 8 / 4)) refl)
+
 -- an operand taken out of an octabyte and another put in, both shifted left
 module _ (d : Width) (a v u s old new : ℕ) (l : v < 2 ^ 64) (e : 2 ^ s ≡ unitAt d a) (f : old ≡ operandIn d a v) (g : new ≡ u % valuesOf d) where
   taken : old * 2 ^ s % 2 ^ 64 ≡ operandIn d a v * unitAt d a

@@ -1,6 +1,7 @@
 // The opcode bytes (mmixal.rs), by name: those that have an arm. An odd one is its neighbour's kin: backward, or with Z itself.
 ghost use mathlib.Core.Path.{_≡_};
 ghost use Rattle.model.specs.Opcodes.{among, operationOf};
+ghost use Rattle.model.specs.Step.{claims};
 use model::Operation;
 
 pub const TRAP: u8 = 0x00;
@@ -72,6 +73,43 @@ pub fn is_among(op: u8, first: u8, last: u8) -> bool
         return false;
     }
     if op <= last {
+        return true;
+    }
+    false
+}
+
+/// Opcodes with no arm at which a range of those that claim begins or ends.
+const FCMP: u8 = 0x01;
+
+const CSN: u8 = 0x60;
+
+const LDVTSI: u8 = 0x99;
+
+const ANDNL: u8 = 0xEF;
+
+/// Whether $X is claimed before the arm of an instruction that is fetched (`writes_general_register_x`).
+pub fn claims(op: u8) -> bool
+    ensures { λ r. ⌜ r ≡ claims op ⌝ }
+{
+    if is_among(op, FCMP, LAST_ARITHMETIC) {
+        return true;
+    }
+    if is_among(op, CSN, LDVTSI) {
+        return true;
+    }
+    if is_among(op, GO, GOI) {
+        return true;
+    }
+    if is_among(op, PUSHGO, ANDNL) {
+        return true;
+    }
+    if is_among(op, PUSHJ, GETAB) {
+        return true;
+    }
+    if op == SAVE {
+        return true;
+    }
+    if op == GET {
         return true;
     }
     false

@@ -1,7 +1,7 @@
-// The operand of a load or a store within its octabyte: size and sign by the opcode's bits.
+// The operand of a load or a store within its octabyte: size and sign by the opcode's bits; and the tetra that is fetched.
 ghost use mathlib.Core.Path.{_≡_};
 ghost use Prim.Native.Nat.{_-_, _%_, _^_, _<_};
-ghost use Rattle.model.specs.Opcodes.{widthOf, signOf};
+ghost use Rattle.model.specs.Opcodes.{widthOf, signOf, tetra};
 ghost use Rattle.model.specs.LoadStore.{valuesOf, unitAt, operandIn, merged, extended, fits};
 
 /// The operand's largest value.
@@ -86,4 +86,12 @@ pub fn loaded(op: u8, addr: u64, v: u64) -> u64
 {
     let u = operand(op, addr, v);
     extended(op, u)
+}
+
+/// The tetra at `addr`, of the octabyte v that `addr` names.
+pub fn tetra_at(addr: u64, v: u64) -> u64
+    ensures { λ r. ⌜ (r ≡ operandIn tetra addr v) × (r < 2 ^ 32) ⌝ }
+{
+    let shift = 32 - 32 * (addr % 8 / 4);
+    (v >> shift) % 0x1_0000_0000
 }

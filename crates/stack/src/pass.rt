@@ -5,7 +5,7 @@ ghost use Prim.Native.Nat.{ℕ, _+_, _-_, _%_, _^_};
 ghost use Rattle.model.specs.Memory.{shapesOf, holder};
 ghost use Rattle.model.specs.Plan.{worst};
 ghost use Rattle.model.specs.Step.{unruledBy, refusing};
-ghost use Rattle.model.specs.Registers.{withParts, admissible, setRegister};
+ghost use Rattle.model.specs.Registers.{withParts, admissible, claimLocal, setRegister};
 ghost use Rattle.model.specs.Control.{isNegative};
 ghost use Rattle.model.specs.Parts.{made, lent};
 ghost use Rattle.model.specs.declared.State.{State};
@@ -64,6 +64,13 @@ pub fn write_octa(a: &mut [u8], b: &mut [u8], at: Bases, addr: u64, v: u64) -> u
         × (r ≡ holder (shapesOf (lent at (now (a .entry)) (now (b .entry)))) addr) ⌝ }
 {
     machine::memory::write_octa(a, b, at, addr, v)
+}
+
+pub fn claim_local(general: &mut [u64; 256], special: &mut [u64; 32], reg: u8)
+    ensures { λ _. ⌜ ((s : State) → withParts s (now (general .exit)) (now (special .exit))
+        ≡ claimLocal (withParts s (now (general .entry)) (now (special .entry))) reg) ⌝ }
+{
+    machine::registers::claim_local(general, special, reg);
 }
 
 pub fn set_register(general: &mut [u64; 256], special: &mut [u64; 32], reg: u8, v: u64)

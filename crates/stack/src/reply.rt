@@ -33,6 +33,8 @@ pub fn number_of(reply: Reply) -> u64
         Reply::OutOfReach => 21,
         Reply::Shared => 22,
         Reply::Across => 23,
+        Reply::NotFetched => 24,
+        Reply::GrantTooLarge => 25,
     }
 }
 

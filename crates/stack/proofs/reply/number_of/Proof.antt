@@ -77,6 +77,12 @@ enum-told-23 c = search needs
 enum-told-24 : tie.Need-enum-told-24
 enum-told-24 c = search needs
 
+enum-told-25 : tie.Need-enum-told-25
+enum-told-25 c = search needs
+
+enum-told-26 : tie.Need-enum-told-26
+enum-told-26 c = search needs
+
 returns : tie.Need-returns
 unfolding numberOf
 returns c = sym (ap numberOf (c .enum-told .given .1))
@@ -173,6 +179,14 @@ returns-24 : tie.Need-returns-24
 unfolding numberOf
 returns-24 c = sym (ap numberOf (c .enum-told24 .given .1))
 
+returns-25 : tie.Need-returns-25
+unfolding numberOf
+returns-25 c = sym (ap numberOf (c .enum-told25 .given .1))
+
+returns-26 : tie.Need-returns-26
+unfolding numberOf
+returns-26 c = sym (ap numberOf (c .enum-told26 .given .1))
+
 pub number-of-spec : {M : Type 1} → statement M
 number-of-spec =
     tie.close
@@ -201,6 +215,8 @@ number-of-spec =
     enum-told-22
     enum-told-23
     enum-told-24
+    enum-told-25
+    enum-told-26
     returns
     returns-2
     returns-3
@@ -224,4 +240,6 @@ number-of-spec =
     returns-21
     returns-22
     returns-23
-    returns-24)
+    returns-24
+    returns-25
+    returns-26)
