@@ -8,6 +8,7 @@
 //! - `registers`: the arms that move nothing but registers
 //! - `calls`: those that work on frames
 //! - `contexts`: those that work on saved contexts
+//! - `run`: one instruction that is fetched at PC, and a run of them
 //! - `value`: one step and one exception on a state that goes in and comes back, and the numbers of replies
 
 pub mod calls;
@@ -16,6 +17,7 @@ mod control;
 mod load_store;
 mod operations;
 pub mod registers;
+pub mod run;
 pub mod step;
 mod system;
 pub mod value;

@@ -51,7 +51,7 @@ fn by_range(
 }
 
 /// The arm, or 3, once 1, 2 and 22 have passed. Each opcode of the match is a key by itself, so that the choice is a jump and no chain of tests.
-fn dispatch(
+pub(crate) fn dispatch(
     general: &mut [u64; 256],
     special: &mut [u64; 32],
     pc: &mut u64,

@@ -2,6 +2,7 @@
 ghost use mathlib.Core.Path.{_≡_};
 ghost use mathlib.Core.List.{List};
 ghost use Prim.Native.Nat.{ℕ, _+_, _-_, _%_, _^_};
+ghost use lib.ListN.{length};
 ghost use Rattle.model.specs.Memory.{shapesOf, holder};
 ghost use Rattle.model.specs.Plan.{worst};
 ghost use Rattle.model.specs.Step.{unruledBy, refusing};
@@ -64,6 +65,12 @@ pub fn write_octa(a: &mut [u8], b: &mut [u8], at: Bases, addr: u64, v: u64) -> u
         × (r ≡ holder (shapesOf (lent at (now (a .entry)) (now (b .entry)))) addr) ⌝ }
 {
     machine::memory::write_octa(a, b, at, addr, v)
+}
+
+pub fn counted(general: &[u64; 256], special: &[u64; 32])
+    ensures { λ _. ⌜ (length (now (general .entry)) ≡ 256) × (length (now (special .entry)) ≡ 32) ⌝ }
+{
+    machine::registers::counted(general, special);
 }
 
 pub fn claim_local(general: &mut [u64; 256], special: &mut [u64; 32], reg: u8)
