@@ -9,3 +9,5 @@ pub mod SystemArms
 pub mod ArithmeticArms
 pub mod LoadStoreArms
 pub mod EarlyRefusals
+pub mod ClaimTakenBack
+pub mod RunTurned

@@ -1,0 +1,66 @@
+-- `fetched` meets its contract: the octabyte that PC names, the tetra there, and what it says.
+use mathlib.Core.Path.{_∙_}
+use borrow.Author.Needs.{needs}
+use Rattle.model.specs.Parts.{made, lent}
+use Rattle.stack.proofs.PassedOctas.{octa-held}
+use Rattle.instruction.proofs.RunTurned.{not-fetched, was-fetched}
+use Rattle.instruction.proofs.run.fetched.Statement.{statement}
+use Rattle.instruction.proofs.run.fetched.Tie as tie
+
+read-octa-requires : tie.Need-read-octa-requires
+read-octa-requires c κs = search needs
+
+same-length : tie.Need-same-length
+same-length c = search needs
+
+same-length-2 : tie.Need-same-length-2
+same-length-2 c = search needs
+
+returns : tie.Need-returns
+returns c =
+    let read = c .before .before in
+    let start = read .before .before .before .before .before .before in
+    let a = start .args in
+    let w = lent (a .at) (a .a .now) (a .b .now) in
+    let s = made (a .general .now) (a .special .now) (a .pc .now) (a .halt .now) (a .marks) in
+    not-fetched w s (start .pre .0) (start .pre .1) _ (read .read-octa .ensures .1) (c .if1 .taken)
+
+tetra-at-requires : tie.Need-tetra-at-requires
+tetra-at-requires c κs = search needs
+
+attempt-requires : tie.Need-attempt-requires
+attempt-requires c κs = search needs
+
+same-length-3 : tie.Need-same-length-3
+same-length-3 c = search needs
+
+same-length-4 : tie.Need-same-length-4
+same-length-4 c = search needs
+
+returns-2 : tie.Need-returns-2
+returns-2 c =
+    let call = c .before .before .before .before in
+    let cut = call .before .before .before .before .before .before .before in
+    let else = cut .before in
+    let read = else .before .before in
+    let start = read .before .before .before .before .before .before in
+    let a = start .args in
+    let w = lent (a .at) (a .a .now) (a .b .now) in
+    let s = made (a .general .now) (a .special .now) (a .pc .now) (a .halt .now) (a .marks) in
+    let held = read .read-octa .ensures .1 in
+    was-fetched w s (start .pre .0) (start .pre .1) _ held (else .if1 .left) _ _ (read .read-octa .ensures .0 ∙ octa-held w (a .pc .now) (λ q. else .if1 .left (held ∙ q)))
+    (cut .tetra-at .ensures .0) _ (made _ _ _ _ _) _ (call .attempt .ensures)
+
+pub fetched-spec : {M : Type 1} → statement M
+fetched-spec =
+    tie.close
+    (tie.spec
+    read-octa-requires
+    same-length
+    same-length-2
+    returns
+    tetra-at-requires
+    attempt-requires
+    same-length-3
+    same-length-4
+    returns-2)
