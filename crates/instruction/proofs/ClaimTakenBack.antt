@@ -179,8 +179,10 @@ module _ (w : Windows) (s : State) (n : Sized s) (a : admissible s ≡ true) (u 
       → Whole (carriedOut w s (tetraPlan s tetra)) r t v
   unfolding tetraPlan
   tetra-claims k h =
-      rw (instruction-claims w s (opcodeIn tetra) (xIn tetra) (yIn tetra) (zIn tetra) k,
-      ← step-three w (claimLocal s (xIn tetra)) (opcodeIn tetra) (xIn tetra) (yIn tetra) (zIn tetra) (claim-admissible s (xIn tetra) n a) u) h
+      rw (
+        instruction-claims w s (opcodeIn tetra) (xIn tetra) (yIn tetra) (zIn tetra) k,
+        ← step-three w (claimLocal s (xIn tetra)) (opcodeIn tetra) (xIn tetra) (yIn tetra) (zIn tetra) (claim-admissible s (xIn tetra) n a) u,
+      ) h
 
   -- an opcode that claims nothing, or a claim that changes nothing
   pub tetra-plain : (isMarginal s (xIn tetra) && claims (opcodeIn tetra)) ≡ false → Whole (stepOf w s (opcodeIn tetra) (xIn tetra) (yIn tetra) (zIn tetra)) r t v

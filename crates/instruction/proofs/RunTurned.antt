@@ -1,18 +1,22 @@
 -- A fetched instruction and a run as code has them, over plain variables: 24, then what the tetra says; the turns of the loop; 1, 2, 22 and 25.
 use mathlib.Core.Path.{_≡_, refl, sym, ap, _∙_}
-use mathlib.Core.Logic.{_⊎_, inl, inr, ⊎-elim, _≢_}
+use mathlib.Core.Logic.{inl, inr, ⊎-elim}
 use mathlib.Core.Bool.{true, false}
+use mathlib.Core.List.{List}
 use Prim.Native.Nat.{ℕ, _+_, _≤_, _<_}
 use native.Mathlib.Omega.{arith}
+use lib.ListN.{length}
 use Rattle.model.specs.Registers.{Sized, admissible}
-use Rattle.model.specs.Memory.{Windows, shapesOf, holder, inside, both}
-use Rattle.model.specs.Plan.{Outcome, look}
+use Rattle.model.specs.Memory.{shapeOf, Windows, Shapes, shapesOf, holder, both}
+use Rattle.model.specs.Plan.{look}
 use Rattle.model.specs.Opcodes.{tetra}
 use Rattle.model.specs.LoadStore.{operandIn}
 use Rattle.model.specs.Step.{unruledBy, tetraAt, tetraPlan, fetchedOf, fetched, mmix}
-use Rattle.model.specs.Run.{Stopped, runFor, grantMost, refusedWhole, runOf}
+use Rattle.model.specs.Run.{Stopped, runFor, grantMost, runOf}
 use Rattle.model.specs.Order.{Passes}
 use Rattle.model.specs.Numbers.{numberOf, replyOf}
+use Rattle.model.specs.Parts.{lent}
+use Rattle.model.specs.declared.Bases.{Bases}
 use Rattle.model.specs.declared.State.{State}
 use Rattle.model.specs.declared.Reply.{Reply}
 use Rattle.model.specs.declared.Reply.the-variants.{Done, NotAdmissible, WindowRule, Shared, NotFetched, GrantTooLarge}
@@ -60,7 +64,7 @@ pub first-turn : (grant : ℕ) (w : Windows) (s : State) → Sized s → admissi
 first-turn grant w s n a u = record { turned = turned-none grant w s; sized = n; admitted = a; fine = u; most = omega arith }
 
 module _ (grant : ℕ) (r : Stopped State Windows) (i : ℕ) (w : Windows) (s : State) (k : InTurn grant r i w s) where
-  pub run-spent : (i < grant → ⊥) → RunWhole r Done i s w
+  pub run-spent : grant ≤ i → RunWhole r Done i s w
   unfolding replyOf
   run-spent n =
       let e : i ≡ grant = let m : i ≤ grant = k .most in omega arith in
@@ -91,6 +95,11 @@ module _ (grant : ℕ) (r : Stopped State Windows) (i : ℕ) (w : Windows) (s : 
     run-refused z =
         rw (turned-refused grant r i w s b (k .turned) (λ e. z (number ∙ e)))
         (record { reply-is = h .reply-is; count-is = refl; state-is = h .state-is; window-is = h .window-is })
+
+-- windows of the same shapes are as long
+pub same-lengths : (at : Bases) (k l k' l' : List ℕ) → shapesOf (lent at k' l') ≡ shapesOf (lent at k l) → (length k' ≡ length k) × (length l' ≡ length l)
+unfolding shapesOf shapeOf
+same-lengths at k l k' l' e = (ap (λ (s : Shapes). s .a .size) e, ap (λ (s : Shapes). s .b .size) e)
 
 -- ---- 1, 2, 22, 25
 

@@ -35,8 +35,7 @@ loop-less c = omega arith
 loop-again : tie.Need-loop-again Inv-loop μ-loop
 loop-again c =
     let turn = c .before .before .before in
-    let general = turn .before .args .general .now in
-    (
+    let general = turn .before .args .general .now in (
       omega arith,
       λ k a b. ⊎-elim (λ lo. turn .loop .inv .1 k a lo) (λ hi. let e : k ≡ turn .loop .i = omega arith in ap (λ (j : ℕ). getD general j 0) e ∙ c .if1 .left) (lt-or-le k (turn .loop .i)),
     )

@@ -5,18 +5,17 @@ use native.Mathlib.Omega.{arith}
 use lib.ListN.{length}
 use borrow.Author.Needs.{needs}
 use Rattle.model.specs.Parts.{made, lent}
-use Rattle.machine.proofs.Octas.{same-lengths}
-use Rattle.instruction.proofs.RunTurned.{running, InTurn, first-turn, next-shapes, next-turn, run-refused, run-spent}
+use Rattle.instruction.proofs.RunTurned.{running, InTurn, first-turn, next-shapes, next-turn, same-lengths, run-refused, run-spent}
 use Rattle.instruction.proofs.run.turns.Statement.{statement}
 use Rattle.instruction.proofs.run.turns.Tie as tie
 
 abbrev Inv-loop : tie.InvT-loop
-Inv-loop general₀ special₀ pc₀ halt₀ marks a₀ b₀ at grant done i₀ general special pc halt a b i =
+Inv-loop general₀ special₀ pc₀ halt₀ marks a₀ b₀ at grant done₀ i₀ general special pc halt a b done i =
     InTurn grant (running grant (made general₀ special₀ pc₀ halt₀ marks) (lent at a₀ b₀)) i (lent at a b) (made general special pc halt marks)
     × (length a ≡ length a₀) × (length b ≡ length b₀)
 
 abbrev μ-loop : tie.MeasureT-loop
-μ-loop general₀ special₀ pc₀ halt₀ marks a₀ b₀ at grant done i₀ general special pc halt a b i = grant - i
+μ-loop general₀ special₀ pc₀ halt₀ marks a₀ b₀ at grant done₀ i₀ general special pc halt a b done i = grant - i
 
 counted-requires : tie.Need-counted-requires Inv-loop μ-loop
 counted-requires c κs = search needs
@@ -62,8 +61,7 @@ loop-again c =
     let asks = c .before in
     let call = asks .before .before .before .before .before in
     let turn = call .before .before .before .before .before .before .before .before in
-    let lengths = same-lengths _ _ _ _ _ (next-shapes _ _ _ (lent _ _ _) (made _ _ _ _ _) (turn .loop .inv .0) (omega arith) _ (made _ _ _ _ _) (lent _ _ _) (call .fetched .ensures)) in
-    (
+    let lengths = same-lengths _ _ _ _ _ (next-shapes _ _ _ (lent _ _ _) (made _ _ _ _ _) (turn .loop .inv .0) (omega arith) _ (made _ _ _ _ _) (lent _ _ _) (call .fetched .ensures)) in (
       next-turn _ _ _ (lent _ _ _) (made _ _ _ _ _) (turn .loop .inv .0) (omega arith) _ (made _ _ _ _ _) (lent _ _ _) (call .fetched .ensures) (sym (asks .number-of .ensures) ∙ c .if1 .left),
       lengths .0 ∙ turn .loop .inv .1,
       lengths .1 ∙ turn .loop .inv .2,
@@ -76,7 +74,7 @@ same-length-4 : tie.Need-same-length-4 Inv-loop μ-loop
 same-length-4 c = c .before .loop .inv .2
 
 returns-2 : tie.Need-returns-2 Inv-loop μ-loop
-returns-2 c = run-spent _ _ _ (lent _ _ _) (made _ _ _ _ _) (c .before .loop .inv .0) (omega arith)
+returns-2 c = run-spent _ _ _ (lent _ _ _) (made _ _ _ _ _) (c .before .loop .inv .0) (c .loop-test .left)
 
 pub turns-spec : {M : Type 1} → statement M
 turns-spec =
