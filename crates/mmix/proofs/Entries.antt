@@ -10,21 +10,26 @@ use Rattle.model.specs.Memory.{Windows}
 use Rattle.model.specs.NoMemory.{Said}
 use Rattle.model.specs.Plan.{Outcome}
 use Rattle.model.specs.Step.{stepOf, exceptionOf}
+use Rattle.model.specs.Run.{Stopped, runOf}
 use Rattle.model.specs.Numbers.{numberOf, replyOf}
 use Rattle.model.specs.Field.{answerOf}
 use Rattle.model.specs.declared.State.{State}
 use Rattle.model.specs.declared.Reply.{Reply}
 use Rattle.model.specs.declared.Reach.{Reach}
 use Rattle.exceptions.specs.Told.{Told}
-use Rattle.instruction.specs.StepAnswer.{Whole}
+use Rattle.instruction.specs.StepAnswer.{Whole, RunWhole}
 use Rattle.mmix.specs.Image.{imageLength, imageOf, stateOf}
-use Rattle.mmix.specs.Entries.{isImage, Decoded, Encoded, Initialized, Stepped, SteppedState, Raised, RaisedState, FieldTold}
+use Rattle.mmix.specs.Entries.{isImage, Decoded, Encoded, Initialized, Stepped, SteppedState, RanImage, RanState, Raised, RaisedState, FieldTold}
 
 -- ---- on the parts of a state
 
 pub stepped-state : (w : Windows) (s : State) (op x y z : ℕ) (q : Reply) (t : State) (v : Windows) → Whole (stepOf w s op x y z) q t v
     → (r : ℕ) → r ≡ numberOf q → SteppedState w s op x y z r t v
 stepped-state w s op x y z q t v g r e = record { reply-is = e ∙ ap numberOf (g .reply-is); state-is = g .state-is; window-is = g .window-is }
+
+pub ran-state : (w : Windows) (s : State) (grant : ℕ) (q : Reply) (n : ℕ) (t : State) (v : Windows) → RunWhole (runOf w s grant) q n t v
+    → (r : ℕ) → r ≡ numberOf q → RanState w s grant r n t v
+ran-state w s grant q n t v g r e = record { reply-is = e ∙ ap numberOf (g .reply-is); count-is = g .count-is; state-is = g .state-is; window-is = g .window-is }
 
 pub raised-state : (s : State) (f op x y z u v : ℕ) (q : Reply) (t : State) → Told (exceptionOf s f op x y z u v) q t
     → (r : ℕ) → r ≡ numberOf q → RaisedState s f op x y z u v r t
@@ -44,6 +49,9 @@ module _ (l : List ℕ) (h : length l ≡ imageLength → ⊥) where
 
   pub stepped-else : (w : Windows) (op x y z : ℕ) → Stepped l w op x y z 1 l w
   stepped-else w op x y z = record { reply-is = if-other _ _; image-is = if-other _ _; window-is = if-other _ _ }
+
+  pub ran-else : (w : Windows) (grant : ℕ) → RanImage l w grant 1 0 l w
+  ran-else w grant = record { reply-is = if-other _ _; count-is = if-other _ _; image-is = if-other _ _; window-is = if-other _ _ }
 
   pub raised-else : (f op x y z u v : ℕ) → Raised l f op x y z u v 1 l
   raised-else f op x y z u v = record { reply-is = if-other _ _; image-is = if-other _ _ }
@@ -69,6 +77,18 @@ module _ (l : List ℕ) (n : length l ≡ imageLength) where
         reply-is = g .reply-is ∙ ap (λ (o : Outcome State Windows). numberOf (replyOf (o .reply))) d ∙ if-image _ _;
         image-is = k ∙ ap imageOf (g .state-is) ∙ ap (λ (o : Outcome State Windows). imageOf (o .state)) d ∙ if-image _ _;
         window-is = g .window-is ∙ ap (λ (o : Outcome State Windows). o .memory) d ∙ if-image _ _;
+      }
+
+  pub ran : (w : Windows) (grant : ℕ) (s : State) → s ≡ stateOf l
+      → (r n : ℕ) (t : State) (v : Windows) → RanState w s grant r n t v
+      → (m : List ℕ) → m ≡ imageOf t → RanImage l w grant r n m v
+  ran w grant s e r n t v g m k =
+      let d : runOf w s grant ≡ runOf w (stateOf l) grant = ap (λ (a : State). runOf w a grant) e in
+      record {
+        reply-is = g .reply-is ∙ ap (λ (o : Stopped State Windows). numberOf (replyOf (o .reply))) d ∙ if-image _ _;
+        count-is = g .count-is ∙ ap (λ (o : Stopped State Windows). o .done) d ∙ if-image _ _;
+        image-is = k ∙ ap imageOf (g .state-is) ∙ ap (λ (o : Stopped State Windows). imageOf (o .state)) d ∙ if-image _ _;
+        window-is = g .window-is ∙ ap (λ (o : Stopped State Windows). o .memory) d ∙ if-image _ _;
       }
 
   pub raised : (c op x y z a b : ℕ) (s : State) → s ≡ stateOf l

@@ -3,6 +3,7 @@ pub mod Codec
 pub mod RoundTrips
 pub mod Entries
 pub mod Lent
+pub mod Tried
 pub mod Call
 pub mod Writes
 pub mod Leaves

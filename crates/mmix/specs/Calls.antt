@@ -1,23 +1,25 @@
 -- Demand 3 as a host meets it: lists of calls of the C functions, in any mix, each on what the one before left. A host holds the machine as
 -- an image or as a struct, goes from one to the other by mmix_decode and mmix_encode, and lends two windows. (mmix_initialize starts another
 -- run, mmix_context changes nothing, and mmix_branch_field and mmix_jump_field are given neither state nor window: none of them is in a list.)
--- `Stepped`, `Raised`, `SteppedState`, `RaisedState`, `Decoded` and `Encoded` are the functions' contracts.
-use Prim.Native.Nat.{ℕ, _+_, _<_}
+-- `Stepped`, `Raised`, `RanImage`, `SteppedState`, `RaisedState`, `RanState`, `Decoded` and `Encoded` are the functions' contracts.
+use Prim.Native.Nat.{ℕ, suc, _+_, _<_}
 use mathlib.Core.Path.{_≡_}
+use mathlib.Core.Bool.{cond}
 use mathlib.Core.List.{List, [], _∷_, _++_}
-use lib.ListN.{length, getD}
+use lib.Dec.{eqb}
+use lib.ListN.{length, getD, replicate}
 use Rattle.model.specs.Memory.{Windows, both}
 use Rattle.model.specs.Opcodes.{opPOP}
 use Rattle.model.specs.Plan.{All, Off}
 use Rattle.model.specs.Lists.{Ran, runs, runNeeds}
 use Rattle.model.specs.Registers.{rO, sp, reg, Sized, Words}
 use Rattle.model.specs.Frames.{hole}
-use Rattle.model.specs.Step.{Item, step, exception, mmix}
+use Rattle.model.specs.Step.{Item, step, exception, fetched, mmix}
 use Rattle.model.specs.Invariants.{InstructionFits, Fits, Bytes}
 use Rattle.model.specs.Demand.{Within, Call, opcodeOf, Alike, SameOutside, AtPop}
 use Rattle.model.specs.declared.State.{State}
 use Rattle.mmix.specs.Image.{imageLength, imageOf, stateOf}
-use Rattle.mmix.specs.Entries.{Decoded, Encoded, Stepped, Raised, SteppedState, RaisedState}
+use Rattle.mmix.specs.Entries.{Decoded, Encoded, Stepped, Raised, RanImage, SteppedState, RaisedState, RanState}
 
 -- ---- what a host holds
 
@@ -46,31 +48,89 @@ HeldFits (struct s) = Sized s × Words s
 
 -- ---- one call
 
--- which function is called, and with what beside what is held: mmix_step or mmix_exceptions; mmix_step_lent; mmix_step_parts or
--- mmix_exceptions_parts; mmix_decode; mmix_encode
+-- which function is called, and with what beside what is held: mmix_step or mmix_exceptions; mmix_run, with its grant; mmix_step_lent;
+-- mmix_step_parts or mmix_exceptions_parts; mmix_run_parts, with its grant; mmix_decode; mmix_encode
 pub data Entry : Type 0 where
   on-image : Item → Entry
+  run-image : ℕ → Entry
   on-lent : ℕ → ℕ → ℕ → ℕ → Entry
   on-parts : Item → Entry
+  run-parts : ℕ → Entry
   decode : Entry
   encode : Entry
 
--- the step or the exception that it asks for; mmix_decode and mmix_encode ask for none
-unfoldable pub asked : Entry → List Item
-asked (on-image i) = i ∷ []
-asked (on-lent op x y z) = step op x y z ∷ []
-asked (on-parts i) = i ∷ []
-asked decode = []
-asked encode = []
+-- a call that was made: the function with its arguments, its reply and, of a run, its count, and what is held and the windows after it
+pub record Made : Type 0 where
+  pub entry : Entry
+  pub reply : ℕ
+  pub count : ℕ
+  pub held : Held
+  pub window : Windows
 
--- what a function's contract says of a call on an image, and of one on a struct; an exception is given no window
+-- a run that replied r with the count n stands in the list as the fetched instructions that it tried: those done, and the one refused (refused
+-- whole by 1, 2 or 22, so is a fetched instruction). 25 alone is the call's own: then nothing was tried
+unfoldable pub triedItems : ℕ → ℕ → List Item
+triedItems r n = cond (eqb r 25) [] (replicate (cond (eqb r 0) n (suc n)) fetched)
+
+-- the answers to these: 0 to each that was done, then the refusal where there is one
+unfoldable pub triedAnswers : ℕ → ℕ → List ℕ
+triedAnswers r n = cond (eqb r 25) [] (replicate n 0 ++ cond (eqb r 0) [] (r ∷ []))
+
+-- what function e asks for where it replies r, with the count n of a run: a step, an exception, fetched instructions; mmix_decode and
+-- mmix_encode ask for nothing
+unfoldable pub askedBy : Entry → ℕ → ℕ → List Item
+askedBy (on-image i) r n = i ∷ []
+askedBy (run-image g) r n = triedItems r n
+askedBy (on-lent op x y z) r n = step op x y z ∷ []
+askedBy (on-parts i) r n = i ∷ []
+askedBy (run-parts g) r n = triedItems r n
+askedBy decode r n = []
+askedBy encode r n = []
+
+abbrev pub asked : Made → List Item
+asked c = askedBy (c .entry) (c .reply) (c .count)
+
+-- the answers to what is asked for
+unfoldable pub answeredBy : Entry → ℕ → ℕ → List ℕ
+answeredBy (on-image i) r n = r ∷ []
+answeredBy (run-image g) r n = triedAnswers r n
+answeredBy (on-lent op x y z) r n = r ∷ []
+answeredBy (on-parts i) r n = r ∷ []
+answeredBy (run-parts g) r n = triedAnswers r n
+answeredBy decode r n = []
+answeredBy encode r n = []
+
+-- mmix_decode and mmix_encode reply 0
+unfoldable pub MovedBy : Entry → ℕ → Type 0
+MovedBy (on-image i) r = Unit {0}
+MovedBy (run-image g) r = Unit {0}
+MovedBy (on-lent op x y z) r = Unit {0}
+MovedBy (on-parts i) r = Unit {0}
+MovedBy (run-parts g) r = Unit {0}
+MovedBy decode r = r ≡ 0
+MovedBy encode r = r ≡ 0
+
+-- the count, of a run
+unfoldable pub countedBy : Entry → ℕ → List ℕ
+countedBy (on-image i) n = []
+countedBy (run-image g) n = n ∷ []
+countedBy (on-lent op x y z) n = []
+countedBy (on-parts i) n = []
+countedBy (run-parts g) n = n ∷ []
+countedBy decode n = []
+countedBy encode n = []
+
+-- what a function's contract says of a call on an image, and of one on a struct; an exception is given no window, and no function fetches one
+-- instruction but a run
 unfoldable pub ImageCall : List ℕ → Windows → Item → ℕ → List ℕ → Windows → Type 0
 ImageCall l w (step op x y z) r m v = Stepped l w op x y z r m v
 ImageCall l w (exception f op x y z a b) r m v = Raised l f op x y z a b r m × (v ≡ w)
+ImageCall l w fetched r m v = ⊥
 
 unfoldable pub StateCall : State → Windows → Item → ℕ → State → Windows → Type 0
 StateCall s w (step op x y z) r t v = SteppedState w s op x y z r t v
 StateCall s w (exception f op x y z a b) r t v = RaisedState s f op x y z a b r t × (v ≡ w)
+StateCall s w fetched r t v = ⊥
 
 -- mmix_decode into a struct, whatever it held; mmix_encode into an image, whatever its bytes were
 pub record DecodedInto (l : List ℕ) (r : ℕ) (t : State) : Type 0 where
@@ -91,27 +151,25 @@ unfoldable pub AsStruct : Held → (State → Type 0) → Type 0
 AsStruct (image l) P = ⊥
 AsStruct (struct s) P = P s
 
--- the contract of a call that found g and w, replied r and left k and v
-unfoldable pub Meets : Held → Windows → Entry → ℕ → Held → Windows → Type 0
-Meets g w (on-image i) r k v = AsImage g (λ l. AsImage k (λ m. ImageCall l w i r m v))
-Meets g w (on-lent op x y z) r k v = AsStruct g (λ s. AsStruct k (λ t. SteppedState w s op x y z r t v))
-Meets g w (on-parts i) r k v = AsStruct g (λ s. AsStruct k (λ t. StateCall s w i r t v))
-Meets g w decode r k v = AsImage g (λ l. AsStruct k (λ t. DecodedInto l r t)) × (v ≡ w)
-Meets g w encode r k v = AsStruct g (λ s. AsImage k (λ m. EncodedInto s r m)) × (v ≡ w)
+-- the contract of a call that found g and w, replied r with the count n and left k and v
+unfoldable pub MeetsBy : Held → Windows → Entry → ℕ → ℕ → Held → Windows → Type 0
+MeetsBy g w (on-image i) r n k v = AsImage g (λ l. AsImage k (λ m. ImageCall l w i r m v))
+MeetsBy g w (run-image grant) r n k v = AsImage g (λ l. AsImage k (λ m. RanImage l w grant r n m v))
+MeetsBy g w (on-lent op x y z) r n k v = AsStruct g (λ s. AsStruct k (λ t. SteppedState w s op x y z r t v))
+MeetsBy g w (on-parts i) r n k v = AsStruct g (λ s. AsStruct k (λ t. StateCall s w i r t v))
+MeetsBy g w (run-parts grant) r n k v = AsStruct g (λ s. AsStruct k (λ t. RanState w s grant r n t v))
+MeetsBy g w decode r n k v = AsImage g (λ l. AsStruct k (λ t. DecodedInto l r t)) × (v ≡ w)
+MeetsBy g w encode r n k v = AsStruct g (λ s. AsImage k (λ m. EncodedInto s r m)) × (v ≡ w)
+
+abbrev pub Meets : Held → Windows → Made → Type 0
+Meets g w c = MeetsBy g w (c .entry) (c .reply) (c .count) (c .held) (c .window)
 
 -- ---- a list of calls
-
--- a call that was made: the function with its arguments, its reply, and what is held and the windows after it
-pub record Made : Type 0 where
-  pub entry : Entry
-  pub reply : ℕ
-  pub held : Held
-  pub window : Windows
 
 -- "each later one what the one before left, refused or not"
 unfoldable pub Chain : Held → Windows → List Made → Type 0
 Chain g w [] = Unit {0}
-Chain g w (c ∷ cs) = Meets g w (c .entry) (c .reply) (c .held) (c .window) × Chain (c .held) (c .window) cs
+Chain g w (c ∷ cs) = Meets g w c × Chain (c .held) (c .window) cs
 
 unfoldable pub entries : List Made → List Entry
 entries [] = []
@@ -129,23 +187,24 @@ unfoldable pub lastWindow : Windows → List Made → Windows
 lastWindow w [] = w
 lastWindow w (c ∷ cs) = lastWindow (c .window) cs
 
--- the steps and exceptions that are asked for, and the replies to these
-unfoldable pub items : List Entry → List Item
-items [] = []
-items (e ∷ es) = asked e ++ items es
+-- the counts of the runs
+unfoldable pub counts : List Made → List ℕ
+counts [] = []
+counts (c ∷ cs) = countedBy (c .entry) (c .count) ++ counts cs
 
-unfoldable pub answered : List Item → ℕ → List ℕ
-answered [] r = []
-answered (i ∷ is) r = r ∷ []
+-- the steps, exceptions and fetched instructions that are asked for, and the answers to these
+unfoldable pub items : List Made → List Item
+items [] = []
+items (c ∷ cs) = asked c ++ items cs
 
 unfoldable pub answers : List Made → List ℕ
 answers [] = []
-answers (c ∷ cs) = answered (asked (c .entry)) (c .reply) ++ answers cs
+answers (c ∷ cs) = answeredBy (c .entry) (c .reply) (c .count) ++ answers cs
 
 -- each mmix_decode and mmix_encode replied 0
 unfoldable pub Moved : List Made → Type 0
 Moved [] = Unit {0}
-Moved (c ∷ cs) = (asked (c .entry) ≡ [] → c .reply ≡ 0) × Moved cs
+Moved (c ∷ cs) = MovedBy (c .entry) (c .reply) × Moved cs
 
 -- what is given fits C's types
 unfoldable pub AllFit : List Item → Type 0
@@ -161,22 +220,23 @@ pub record Carried (g : Held) (w : Windows) (cs : List Made) (r : Ran State Wind
   pub window-is : lastWindow w cs ≡ r .memory
 
 abbrev pub ListsOfCalls : Type 0
-ListsOfCalls = (g : Held) (w : Windows) (cs : List Made) → HeldFits g → Bytes w → AllFit (items (entries cs)) → Chain g w cs
-    → Carried g w cs (runs both mmix (heldState g) w (items (entries cs)))
+ListsOfCalls = (g : Held) (w : Windows) (cs : List Made) → HeldFits g → Bytes w → AllFit (items cs) → Chain g w cs
+    → Carried g w cs (runs both mmix (heldState g) w (items cs))
 
 -- ---- demand 3
 
 -- "a POP as the next step, whatever its X and YZ, succeeds, and those locals hold exactly what they held before the call": POP by any function
 -- as the next call on g and v is done, and $0 to $(h − 1) are those of s
 abbrev pub Returns : ℕ → State → Held → Windows → Type 0
-Returns h s g v = (e : Entry) (x y z r : ℕ) (k : Held) (u : Windows) → asked e ≡ step opPOP x y z ∷ [] → InstructionFits opPOP x y z → Meets g v e r k u
-    → (r ≡ 0) × ((i : ℕ) → i < h → reg (heldState k) i ≡ reg s i)
+Returns h s g v = (c : Made) (x y z : ℕ) → asked c ≡ step opPOP x y z ∷ [] → InstructionFits opPOP x y z → Meets g v c
+    → (c .reply ≡ 0) × ((i : ℕ) → i < h → reg (heldState (c .held)) i ≡ reg s i)
 
 -- what holds of two lists of calls after a call, a and b: on g and on k; "the same answers in the same order, the same registers, PC, halt
 -- code and marks, and the same memory outside those locals"; and the POP in each
 pub record PrivateCalls (h : ℕ) (g k : Held) (a b : Made) (cs ds : List Made) : Type 0 where
   pub call-same : b .reply ≡ a .reply
   pub replies-same : replies cs ≡ replies ds
+  pub counts-same : counts cs ≡ counts ds
   pub held-same : lastHeld (a .held) cs ≡ lastHeld (b .held) ds
   pub window-same : SameOutside (Within (sp (heldState g) rO) h) (lastWindow (a .window) cs) (lastWindow (b .window) ds)
   pub first-back : AtPop h (sp (heldState (a .held)) rO) (heldState (lastHeld (a .held) cs))
@@ -186,14 +246,14 @@ pub record PrivateCalls (h : ℕ) (g k : Held) (a b : Made) (cs ds : List Made) 
 
 -- THEOREM: demand 3 of the C functions. "Before the call the two runs have equal windows and states equal outside $0 to $(H−1); call and list
 -- are the same in both. A call target is the PC after the call"; "It is enough that the first run's needs keep off the frame". The call is by
--- any function that steps
+-- any function that steps; a run in the list has the needs of its fetched instructions
 abbrev pub Demand3Calls : Type 0
 Demand3Calls = (w : Windows) (g k : Held) (c : Call) (x y z : ℕ) (a b : Made) (cs ds : List Made)
-    → HeldFits g → HeldFits k → Bytes w → InstructionFits (opcodeOf c) x y z → AllFit (items (entries cs))
+    → HeldFits g → HeldFits k → Bytes w → InstructionFits (opcodeOf c) x y z → AllFit (items cs)
     → Alike (hole (heldState g) x) (heldState g) (heldState k)
-    → asked (a .entry) ≡ step (opcodeOf c) x y z ∷ [] → b .entry ≡ a .entry → entries ds ≡ entries cs
+    → asked a ≡ step (opcodeOf c) x y z ∷ [] → b .entry ≡ a .entry → entries ds ≡ entries cs
     → Chain g w (a ∷ cs) → Chain k w (b ∷ ds)
     → a .reply ≡ 0
     → heldState (a .held) .pc ≡ heldState (b .held) .pc
-    → All (Off (Within (sp (heldState g) rO) (hole (heldState g) x + 1))) (runNeeds both mmix (heldState (a .held)) (a .window) (items (entries cs)))
+    → All (Off (Within (sp (heldState g) rO) (hole (heldState g) x + 1))) (runNeeds both mmix (heldState (a .held)) (a .window) (items cs))
     → PrivateCalls (hole (heldState g) x) g k a b cs ds

@@ -10,6 +10,7 @@ use Rattle.model.specs.Registers.{fresh}
 use Rattle.model.specs.Memory.{Windows}
 use Rattle.model.specs.Parts.{lent}
 use Rattle.model.specs.Step.{stepOf, exceptionOf}
+use Rattle.model.specs.Run.{runOf}
 use Rattle.model.specs.Reader.{readContext}
 use Rattle.model.specs.Numbers.{numberOf, replyOf}
 use Rattle.model.specs.Field.{FieldAnswer}
@@ -40,6 +41,13 @@ pub record Stepped (l : List ℕ) (w : Windows) (op x y z r : ℕ) (m : List ℕ
   pub image-is : m ≡ cond (isImage l) (imageOf (stepOf w (stateOf l) op x y z .state)) l
   pub window-is : v ≡ cond (isImage l) (stepOf w (stateOf l) op x y z .memory) w
 
+-- a run: the reply, and n instructions were done; "0 where the call is refused whole", an image of another length too
+pub record RanImage (l : List ℕ) (w : Windows) (grant r n : ℕ) (m : List ℕ) (v : Windows) : Type 0 where
+  pub reply-is : r ≡ cond (isImage l) (numberOf (replyOf (runOf w (stateOf l) grant .reply))) 1
+  pub count-is : n ≡ cond (isImage l) (runOf w (stateOf l) grant .done) 0
+  pub image-is : m ≡ cond (isImage l) (imageOf (runOf w (stateOf l) grant .state)) l
+  pub window-is : v ≡ cond (isImage l) (runOf w (stateOf l) grant .memory) w
+
 pub record Raised (l : List ℕ) (f op x y z u v r : ℕ) (m : List ℕ) : Type 0 where
   pub reply-is : r ≡ cond (isImage l) (numberOf (replyOf (exceptionOf (stateOf l) f op x y z u v .reply))) 1
   pub image-is : m ≡ cond (isImage l) (imageOf (exceptionOf (stateOf l) f op x y z u v .state)) l
@@ -49,6 +57,12 @@ pub record SteppedState (w : Windows) (s : State) (op x y z r : ℕ) (t : State)
   pub reply-is : r ≡ numberOf (replyOf (stepOf w s op x y z .reply))
   pub state-is : t ≡ stepOf w s op x y z .state
   pub window-is : v ≡ stepOf w s op x y z .memory
+
+pub record RanState (w : Windows) (s : State) (grant r n : ℕ) (t : State) (v : Windows) : Type 0 where
+  pub reply-is : r ≡ numberOf (replyOf (runOf w s grant .reply))
+  pub count-is : n ≡ runOf w s grant .done
+  pub state-is : t ≡ runOf w s grant .state
+  pub window-is : v ≡ runOf w s grant .memory
 
 pub record RaisedState (s : State) (f op x y z u v r : ℕ) (t : State) : Type 0 where
   pub reply-is : r ≡ numberOf (replyOf (exceptionOf s f op x y z u v .reply))

@@ -4,11 +4,11 @@
 use Prim.Native.Nat.{ℕ, _+_, _*_, _≤_, _<_}
 use mathlib.Core.Path.{_≡_}
 use mathlib.Core.Logic.{_⊎_, _≢_}
-use mathlib.Core.Bool.{true}
+use mathlib.Core.Bool.{true, false}
 use mathlib.Core.List.{List, [], _∷_}
-use lib.ListN.{getD}
+use lib.ListN.{length, getD}
 use Rattle.model.specs.Octa.{part, written, bytesOf}
-use Rattle.model.specs.Memory.{Windows, shapesOf, putOcta, both}
+use Rattle.model.specs.Memory.{Windows, shapesOf, inside, putOcta, both}
 use Rattle.model.specs.Plan.{look}
 use Rattle.model.specs.Registers.{rB, rJ, rBB, rA, rW, rX, rY, rZ, rWW, rXX, rYY, rZZ, sp, reg, following, Sized, admissible}
 use Rattle.model.specs.Opcodes.{Operand, Width, signed, trip, store, arithmetic, armOf}
@@ -17,12 +17,16 @@ use Rattle.model.specs.Control.{operandOf, sumOf}
 use Rattle.model.specs.Trips.{wordOf, withAdded}
 use Rattle.model.specs.LoadStore.{merged, flagV}
 use Rattle.model.specs.ArithmeticStep.{resultsIn, withResults}
-use Rattle.model.specs.Numbers.{Early, Lost, Halting}
+use Rattle.model.specs.Step.{opcodeIn, xIn, yIn, zIn, tetraOf, claimedAt}
+use Rattle.model.specs.RunMeant.{CallPasses}
+use Rattle.model.specs.Order.{Passes}
+use Rattle.model.specs.Invariants.{Bytes}
+use Rattle.model.specs.Numbers.{Early, Lost, Missed, Halting}
 use Rattle.model.specs.Field.{fieldOf, answerOf}
-use Rattle.model.specs.Leaves.{Sharing, StepLeaves, ExceptionLeaves, FieldLeaves}
+use Rattle.model.specs.Leaves.{Sharing, StepLeaves, RunLeaves, ExceptionLeaves, FieldLeaves}
 use Rattle.model.specs.declared.State.{State}
-use Rattle.mmix.specs.Image.{stateOf, imageOf}
-use Rattle.mmix.specs.Entries.{Stepped, Raised, SteppedState, RaisedState, ContextAt, FieldTold}
+use Rattle.mmix.specs.Image.{imageLength, stateOf, imageOf}
+use Rattle.mmix.specs.Entries.{Stepped, RanImage, Raised, SteppedState, RanState, RaisedState, ContextAt, FieldTold}
 use Rattle.model.specs.declared.Operation.{Operation}
 
 -- the image with octabytes replaced, one after another: by its number among the 291, and what it becomes
@@ -80,6 +84,10 @@ pub record ArithmeticCallLeaves (l : List ℕ) (w : Windows) (op x y z : ℕ) (m
       (tripOctas (raisedIn (stateOf l) operation first last x y z) (wordOf op x y z) (operandOf (stateOf l) first y) (operandOf (stateOf l) last z))
   pub window-is : v ≡ w
 
+-- what 19 leaves
+abbrev pub NotLoadedLeaves : List ℕ → Windows → ℕ → ℕ → ℕ → ℕ → List ℕ → Windows → Type 0
+NotLoadedLeaves l w op x y z m v = TripCallLeaves l w op x y z m v ⊎ (StoreCallLeaves l w op x y z m v ⊎ ArithmeticCallLeaves l w op x y z m v)
+
 -- what mmix_step leaves
 pub record StepCallLeaves (l : List ℕ) (w : Windows) (op x y z r : ℕ) (m : List ℕ) (v : Windows) : Type 0 where
   pub most : (r ≤ 20) ⊎ (r ≡ 22)
@@ -88,10 +96,50 @@ pub record StepCallLeaves (l : List ℕ) (w : Windows) (op x y z r : ℕ) (m : L
   pub lost : Lost r → (m ≡ l) × (v ≡ w)
   -- 7 to 18
   pub halting : Halting r → (m ≡ replaced l ((atHalt, 1) ∷ [])) × (v ≡ w)
-  pub nineteen : r ≡ 19 → TripCallLeaves l w op x y z m v ⊎ (StoreCallLeaves l w op x y z m v ⊎ ArithmeticCallLeaves l w op x y z m v)
+  pub nineteen : r ≡ 19 → NotLoadedLeaves l w op x y z m v
   pub twenty : r ≡ 20 → (m ≡ replaced l (trapOctas (stateOf l) (wordOf op x y z) (reg (stateOf l) y) (reg (stateOf l) z))) × (v ≡ w)
   pub shared : r ≡ 22 → (admissible (stateOf l) ≡ true) × Sharing (shapesOf w)
   pub done : r ≡ 0 → haltBytes m ≡ haltBytes l
+
+-- the tetra at PC, and the image with $X claimed where its opcode claims it
+abbrev pub tetraIn : Windows → List ℕ → ℕ
+tetraIn w l = tetraOf w (stateOf l)
+
+abbrev pub claimedImage : Windows → List ℕ → List ℕ
+claimedImage w l = imageOf (claimedAt w (stateOf l))
+
+-- what the last instruction of a run leaves, t its tetra, l and w the image and the windows that it found
+pub record TetraCallLeaves (l : List ℕ) (w : Windows) (t r : ℕ) (m : List ℕ) (v : Windows) : Type 0 where
+  pub most : (r ≤ 20) ⊎ ((r ≡ 22) ⊎ (r ≡ 24))
+  -- 1 to 5 and 22; 6 and 24: the halt code too
+  pub early : Early r → (m ≡ l) × (v ≡ w)
+  pub missed : Missed r → (m ≡ l) × (v ≡ w)
+  -- 7 to 18: the claim is taken back
+  pub halting : Halting r → (m ≡ replaced l ((atHalt, 1) ∷ [])) × (v ≡ w)
+  -- 19 keeps it
+  pub nineteen : r ≡ 19 → NotLoadedLeaves (claimedImage w l) w (opcodeIn t) (xIn t) (yIn t) (zIn t) m v
+  -- 20: TRAP claims nothing
+  pub twenty : r ≡ 20
+      → (m ≡ replaced l (trapOctas (stateOf l) (wordOf (opcodeIn t) (xIn t) (yIn t) (zIn t)) (reg (stateOf l) (yIn t)) (reg (stateOf l) (zIn t)))) × (v ≡ w)
+  pub shared : r ≡ 22 → (admissible (stateOf l) ≡ true) × Sharing (shapesOf w)
+  -- 24 is given only where the tetra is in neither window
+  pub unfetched : r ≡ 24 → Passes w (stateOf l) × (inside (shapesOf w) (stateOf l .pc) ≡ false)
+
+-- a run that is refused: the image and the windows that its count reached, and what the refused instruction leaves of them
+pub record LastCallLeaves (l : List ℕ) (w : Windows) (r n : ℕ) (m : List ℕ) (v : Windows) : Type 0 where
+  pub reached : List ℕ
+  pub lent : Windows
+  pub reached-is : RanImage l w n 0 n reached lent
+  pub leaves : TetraCallLeaves reached lent (tetraIn lent reached) r m v
+  pub halt-kept : haltBytes reached ≡ haltBytes l
+
+-- what mmix_run leaves
+pub record RunCallLeaves (l : List ℕ) (w : Windows) (grant r n : ℕ) (m : List ℕ) (v : Windows) : Type 0 where
+  pub most : (r ≤ 20) ⊎ ((r ≡ 22) ⊎ ((r ≡ 24) ⊎ (r ≡ 25)))
+  -- refused whole: by the image's length, 1, 2, 22 or 25
+  pub whole : (length l ≡ imageLength → CallPasses w (stateOf l) grant → ⊥) → (n ≡ 0) × (m ≡ l) × (v ≡ w)
+  pub refused : length l ≡ imageLength → CallPasses w (stateOf l) grant → r ≢ 0 → LastCallLeaves l w r n m v
+  pub spent : r ≡ 0 → haltBytes m ≡ haltBytes l
 
 -- what mmix_exceptions leaves; with 19, rA's additions too
 pub record ExceptionCallLeaves (l : List ℕ) (f op x y z u v r : ℕ) (m : List ℕ) : Type 0 where
@@ -110,11 +158,15 @@ pub record ContextCallLeaves (w : Windows) (r which start length : ℕ) : Type 0
 pub record CallsLeave : Type 0 where
   pub by-step : (l : List ℕ) (w : Windows) (op x y z r : ℕ) (m : List ℕ) (v : Windows) → ((i : ℕ) → getD l i 0 < 256)
       → Stepped l w op x y z r m v → StepCallLeaves l w op x y z r m v
+  pub by-run : (l : List ℕ) (w : Windows) (grant r n : ℕ) (m : List ℕ) (v : Windows) → ((i : ℕ) → getD l i 0 < 256) → Bytes w
+      → RanImage l w grant r n m v → RunCallLeaves l w grant r n m v
   pub by-exception : (l : List ℕ) (f op x y z u v r : ℕ) (m : List ℕ) → ((i : ℕ) → getD l i 0 < 256)
       → Raised l f op x y z u v r m → ExceptionCallLeaves l f op x y z u v r m
   -- on a struct or its parts: what model's `RepliesLeave` says
   pub by-state-step : (w : Windows) (s : State) (op x y z r : ℕ) (t : State) (v : Windows) → Sized s
       → SteppedState w s op x y z r t v → StepLeaves w s op x y z (record { reply = r; state = t; memory = v })
+  pub by-state-run : (w : Windows) (s : State) (grant r n : ℕ) (t : State) (v : Windows) → Sized s
+      → RanState w s grant r n t v → RunLeaves w s grant (record { done = n; reply = r; state = t; memory = v })
   pub by-state-exception : (s : State) (f op x y z u v r : ℕ) (t : State) → Sized s
       → RaisedState s f op x y z u v r t → ExceptionLeaves s f op x y z u v (say r t)
   -- the context reader: it is given no state; refused, all three outputs are 0

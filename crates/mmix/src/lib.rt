@@ -1,9 +1,9 @@
-//! The C library: what a relay host calls, on numbers and byte slices. 0 is done; 1 to 23 are the refusals.
+//! The C library: what a relay host calls, on numbers and byte slices. 0 is done; 1 to 25 are the refusals.
 
 ghost use Rattle.model.specs.Control.{branchFields, jumpFields};
 ghost use Rattle.model.specs.Field.{fieldOf, answerOf};
 ghost use Rattle.model.specs.Parts.{made};
-ghost use Rattle.mmix.specs.Entries.{lentAt, Initialized, Decoded, Encoded, Stepped, SteppedState, Raised, RaisedState, ContextAt, FieldTold};
+ghost use Rattle.mmix.specs.Entries.{lentAt, Initialized, Decoded, Encoded, Stepped, SteppedState, RanImage, RanState, Raised, RaisedState, ContextAt, FieldTold};
 use image::Answer;
 use image::IMAGE_LEN;
 use image::Rest;
@@ -154,6 +154,47 @@ pub extern "C" fn mmix_step_lent(
     out.reply
 }
 
+/// A run on an image and the two windows: up to `grant` instructions, fetched at PC. `done` is how many were done.
+#[no_mangle]
+pub extern "C" fn mmix_run(
+    base_a: u64,
+    base_b: u64,
+    grant: u64,
+    image: &mut [u8],
+    a: &mut [u8],
+    b: &mut [u8],
+    done: &mut u64,
+) -> u64
+    ensures { λ r. ⌜ RanImage (now (image .entry)) (lentAt «base_a» «base_b» (now (a .entry)) (now (b .entry))) «grant» r (now (done .exit))
+        (now (image .exit)) (lentAt «base_a» «base_b» (now (a .exit)) (now (b .exit))) ⌝ }
+{
+    if image.len() != IMAGE_LEN {
+        *done = 0;
+        return 1;
+    }
+    let mut general = [0u64; 256];
+    let mut special = [0u64; 32];
+    let rest = image::load_state(&*image, &mut general, &mut special);
+    let mut pc = rest.pc;
+    let mut halt = rest.halt;
+    let marks = rest.marks;
+    let reply = mmix_run_parts(
+        base_a,
+        base_b,
+        grant,
+        &mut general,
+        &mut special,
+        &mut pc,
+        &mut halt,
+        marks,
+        a,
+        b,
+        done,
+    );
+    image::store_state(&mut *image, &general, &special, Rest { pc, halt, marks });
+    reply
+}
+
 /// One exception on an image.
 #[no_mangle]
 pub extern "C" fn mmix_exceptions(
@@ -223,6 +264,34 @@ pub extern "C" fn mmix_step_parts(
     };
     let reply = instruction::step::step(general, special, pc, halt, marks, a, b, at, op, x, y, z);
     instruction::value::number_of(reply)
+}
+
+/// A run in place on the parts of a state, for a host that runs programs: state and windows are judged once a call.
+#[no_mangle]
+pub extern "C" fn mmix_run_parts(
+    base_a: u64,
+    base_b: u64,
+    grant: u64,
+    general: &mut [u64; 256],
+    special: &mut [u64; 32],
+    pc: &mut u64,
+    halt: &mut u64,
+    marks: u64,
+    a: &mut [u8],
+    b: &mut [u8],
+    done: &mut u64,
+) -> u64
+    ensures { λ r. ⌜ RanState (lentAt «base_a» «base_b» (now (a .entry)) (now (b .entry)))
+        (made (now (general .entry)) (now (special .entry)) (now (pc .entry)) (now (halt .entry)) marks) «grant» r (now (done .exit))
+        (made (now (general .exit)) (now (special .exit)) (now (pc .exit)) (now (halt .exit)) marks)
+        (lentAt «base_a» «base_b» (now (a .exit)) (now (b .exit))) ⌝ }
+{
+    let at = Bases {
+        a: base_a,
+        b: base_b,
+    };
+    let stopped = instruction::run::run(general, special, pc, halt, marks, a, b, at, grant, done);
+    instruction::value::number_of(stopped)
 }
 
 /// One exception in place on the parts of a state.
