@@ -21,7 +21,7 @@ use Rattle.model.proofs.Invariants.{items-keep}
 use Rattle.model.proofs.Plan.{All-left, All-right, All-both}
 use Rattle.model.proofs.Demand.{demand3}
 use Rattle.mmix.specs.Calls.{Held, heldState, HeldIs, HeldFits, Entry, on-image, run-image, on-lent, on-parts, run-parts, decode, encode, triedItems, askedBy, asked, answeredBy, MovedBy, countedBy, MeetsBy, Meets, Made, Chain, entries, replies, counts, lastHeld, lastWindow, items, answers, Moved, AllFit, Carried, ListsOfCalls, Returns, Demand3Calls}
-use Rattle.mmix.proofs.Tried.{Twins, twins-first, twins-rest, Alongside, twins, SameEnd, run-same}
+use Rattle.mmix.proofs.Tried.{InRange, item-range, Twins, twins-first, twins-rest, Alongside, twins, SameEnd, run-same}
 use Rattle.mmix.proofs.Call.{Intact, intact, intact-of, held-state, Counted, image-counted, parts-counted, After, after-call, form, formAfter, form-after, same-held}
 
 -- ---- lists of items
@@ -43,20 +43,10 @@ fit-both [] js f = (tt, f)
 fit-both (i ∷ is) js f = ((f .0, fit-both is js (f .1) .0), fit-both is js (f .1) .1)
 
 -- a list keeps what is in range there
-record InRange (s : State) (w : Windows) : Type 0 where
-  sized : Sized s
-  words : Words s
-  bytes : Bytes w
-
 runs-range : (is : List Item) (s : State) (w : Windows) → AllFit is → InRange s w → InRange (runs both mmix s w is .state) (runs both mmix s w is .memory)
 unfolding runs AllFit
 runs-range [] s w f h = h
-runs-range (i ∷ is) s w f h =
-    runs-range is (stepOn both mmix s w i .state) (stepOn both mmix s w i .memory) (f .1) (record {
-      sized = items-keep .sized w s i (h .sized);
-      words = items-keep .words w s i (f .0) (h .bytes) (h .words);
-      bytes = items-keep .bytes w s i (h .bytes);
-    })
+runs-range (i ∷ is) s w f h = runs-range is (stepOn both mmix s w i .state) (stepOn both mmix s w i .memory) (f .1) (item-range i s w (f .0) h)
 
 -- ---- a list of calls
 

@@ -16,12 +16,12 @@ use Rattle.model.specs.Control.{sumOf}
 use Rattle.model.specs.LoadStore.{flagV}
 use Rattle.model.specs.ArithmeticStep.{withResults}
 use Rattle.model.specs.Step.{step, exception, stepOf, exceptionOf, itemPlan, mmix}
-use Rattle.model.specs.Registers.{rB, rBB, rA, rW, rX, rY, rZ, rWW, rXX, rYY, rZZ, sp, reg, Sized}
+use Rattle.model.specs.Registers.{rB, rBB, rA, rW, rX, rY, rZ, rWW, rXX, rYY, rZZ, sp, reg, halted, Sized}
 use Rattle.model.specs.Trips.{withAdded, wordOf}
 use Rattle.model.specs.Field.{fieldOf, answerOf}
 use Rattle.model.specs.Reader.{Part, readContext}
 use Rattle.model.specs.Numbers.{Early}
-use Rattle.model.specs.Leaves.{Interrupted, StepLeaves, ExceptionLeaves, ReaderLeaves, FieldLeaves}
+use Rattle.model.specs.Leaves.{Interrupted, Trapped, TripLeaves, StoreLeaves, ArithmeticLeaves, StepLeaves, ExceptionLeaves, ReaderLeaves, FieldLeaves}
 use Rattle.model.proofs.Leaves.{replies-leave, added-sized, results-sized}
 use Rattle.model.proofs.Invariants.{items-keep}
 use Rattle.model.proofs.Numbers.{step-number}
@@ -29,41 +29,25 @@ use Rattle.model.specs.declared.State.{State}
 use Rattle.model.specs.declared.Results.{Results}
 use Rattle.mmix.specs.Image.{imageLength, imageOf, stateOf}
 use Rattle.mmix.specs.Entries.{lentAt, isImage, Stepped, Raised, SteppedState, RaisedState, ContextAt, FieldTold}
-use Rattle.mmix.specs.Leaves.{replaced, atSpecial, atHalt, haltBytes, tripOctas, trapOctas, StepCallLeaves, ExceptionCallLeaves, ContextCallLeaves, CallsLeave}
+use Rattle.mmix.specs.Leaves.{replaced, atSpecial, atHalt, haltBytes, tripOctas, trapOctas, NotLoadedLeaves, StepCallLeaves, ExceptionCallLeaves, ContextCallLeaves, CallsLeave}
 use Rattle.mmix.specs.Calls.{image, HeldIs, ImageCall}
 use Rattle.mmix.proofs.RoundTrips.{halt-bytes, round-trips}
 use Rattle.mmix.proofs.Entries.{if-other}
 use Rattle.mmix.proofs.Call.{Left, image-left, few}
-use Rattle.mmix.proofs.Writes.{halted-image, special-sized, interrupt-image, after-special}
+use Rattle.mmix.proofs.ImageLeaves.{halt-same, halted-same, tripped-image, not-loaded, trapped-image}
+use Rattle.mmix.proofs.RunLeaves.{by-run, by-state-run}
 
--- ---- an image
+-- ---- a step and an exception on an image
 
-module _ (l : List ℕ) (n : length l ≡ imageLength) (b : (i : ℕ) → getD l i 0 < 256) where
+module _ (l : List ℕ) (back : imageOf (stateOf l) ≡ l) where
   abbrev s : State
   s = stateOf l
 
   abbrev zs : Sized s
   zs = round-trips .state-sized l
 
-  back : imageOf s ≡ l
-  back = round-trips .image-state l n b
-
-  halt-same : (m : List ℕ) (t : State) → m ≡ imageOf t → Sized t → t .halt ≡ s .halt → haltBytes m ≡ haltBytes l
-  halt-same m t e zt h = ap haltBytes e ∙ halt-bytes t zt ∙ ap bytesOf h ∙ sym (halt-bytes s zs) ∙ ap haltBytes back
-
-  tripped-image : (f word u v : ℕ) (t : State) → Sized t → Interrupted (withAdded s f) t rB rW rX rY rZ word u v
-      → imageOf t ≡ replaced l ((atSpecial rA, sp (withAdded s f) rA) ∷ tripOctas s word u v)
-  unfolding withAdded
-  tripped-image f word u v t zt h =
-      interrupt-image (withAdded s f) (special-sized s zs rA _) rB rW rX rY rZ word u v t zt h (omega arith) (omega arith) (omega arith) (omega arith) (omega arith)
-      ∙ after-special s zs rA _ (omega arith) (λ e. omega arith) rB rW rX rY rZ word u v
-      ∙ ap (λ (c : List ℕ). replaced c ((atSpecial rA, sp (withAdded s f) rA) ∷ tripOctas s word u v)) back
-
-  raised-sized : (s : State) (x : ℕ) (r : Results) (f : ℕ) → Sized s → Sized (withAdded (withResults s x r) f)
-  raised-sized s x r f n = added-sized (withResults s x r) f (results-sized s x r n)
-
   step-leaves : (w : Windows) (op x y z r : ℕ) (m : List ℕ) (v : Windows) → Left s w (step op x y z) r (image m) v → StepCallLeaves l w op x y z r m v
-  unfolding HeldIs stepOn mmix itemPlan both stepOf replaced
+  unfolding HeldIs stepOn mmix itemPlan both stepOf
   step-leaves w op x y z r m v g =
       let o : Outcome State Windows = stepOf w s op x y z in
       let k : StepLeaves w s op x y z o = replies-leave .by-step w s op x y z zs in
@@ -73,41 +57,11 @@ module _ (l : List ℕ) (n : length l ≡ imageLength) (b : (i : ℕ) → getD l
         most = subst (λ (n : ℕ). (n ≤ 20) ⊎ (n ≡ 22)) (sym e) (k .most);
         early = λ p. let h = k .early (subst Early e p) in (g .held-is ∙ ap imageOf (h .0) ∙ back, g .window-is ∙ h .1);
         lost = λ p. let h = k .lost (omega (arith, e)) in (g .held-is ∙ ap imageOf (h .0) ∙ back, g .window-is ∙ h .1);
-        halting = λ p.
-            let h = k .halting (omega (arith, e), omega (arith, e)) in
-            (g .held-is ∙ ap imageOf (h .0) ∙ halted-image s zs ∙ ap (λ (c : List ℕ). written c (8 * atHalt) (bytesOf 1)) back, g .window-is ∙ h .1);
-        nineteen = λ p. ⊎-elim
-            (λ h. inl (record {
-              arm-is = h .arm-is;
-              image-is = g .held-is ∙ interrupt-image s zs rB rW rX rY rZ _ _ _ (o .state) zt (h .registers) (omega arith) (omega arith) (omega arith) (omega arith) (omega arith)
-                  ∙ ap (λ (c : List ℕ). replaced c (tripOctas s (wordOf op x y z) (reg s y) (reg s z))) back;
-              window-is = g .window-is ∙ h .window;
-            }))
-            (⊎-elim
-            (λ h. inr (inl (record {
-              width = h .width;
-              last = h .last;
-              arm-is = h .arm-is;
-              image-is = g .held-is ∙ tripped-image flagV (wordOf op x y z) (sumOf s (h .last) y z) (reg s x) (o .state) zt (h .registers);
-              window-is = g .window-is ∙ h .window;
-            })))
-            (λ h. inr (inr (record {
-              operation = h .operation;
-              first = h .first;
-              last = h .last;
-              arm-is = h .arm-is;
-              image-is = g .held-is ∙ interrupt-image _ (raised-sized s _ _ _ zs) rB rW rX rY rZ _ _ _ (o .state) zt (h .registers) (omega arith) (omega arith) (omega arith) (omega arith) (omega arith);
-              window-is = g .window-is ∙ h .window;
-            }))))
-            (k .nineteen (sym e ∙ p));
-        twenty = λ p.
-            let h = k .twenty (sym e ∙ p) in (
-              g .held-is ∙ interrupt-image s zs rBB rWW rXX rYY rZZ _ _ _ (o .state) zt (h .0) (omega arith) (omega arith) (omega arith) (omega arith) (omega arith)
-                  ∙ ap (λ (c : List ℕ). replaced c (trapOctas s (wordOf op x y z) (reg s y) (reg s z))) back,
-              g .window-is ∙ h .1,
-            );
+        halting = λ p. let h = k .halting (omega (arith, e), omega (arith, e)) in (halted-same l back m (o .state) (g .held-is) (h .0), g .window-is ∙ h .1);
+        nineteen = λ p. not-loaded l back w op x y z o m v zt (g .held-is) (g .window-is) (k .nineteen (sym e ∙ p));
+        twenty = λ p. let h = k .twenty (sym e ∙ p) in (trapped-image l back (wordOf op x y z) y z (o .state) m zt (g .held-is) (h .0), g .window-is ∙ h .1);
         shared = λ p. k .shared (sym e ∙ p);
-        done = λ p. halt-same m (o .state) (g .held-is) zt (k .done (sym e ∙ p));
+        done = λ p. halt-same l back m (o .state) (g .held-is) zt (k .done (sym e ∙ p));
       }
 
   exception-leaves : (w : Windows) (f op x y z u v r : ℕ) (m : List ℕ) → Left s w (exception f op x y z u v) r (image m) w → ExceptionCallLeaves l f op x y z u v r m
@@ -120,8 +74,8 @@ module _ (l : List ℕ) (n : length l ≡ imageLength) (b : (i : ℕ) → getD l
       record {
         among = subst (λ (q : ℕ). (q ≡ 0) ⊎ ((q ≡ 1) ⊎ (q ≡ 19))) (sym e) (k .among);
         refused = λ p. g .held-is ∙ ap imageOf (k .inadmissible (sym e ∙ p)) ∙ back;
-        nineteen = λ p. g .held-is ∙ tripped-image f (wordOf op x y z) u v (d .state) zt (k .not-loaded (sym e ∙ p));
-        done = λ p. halt-same m (d .state) (g .held-is) zt (k .done (sym e ∙ p));
+        nineteen = λ p. g .held-is ∙ tripped-image l back f (wordOf op x y z) u v (d .state) zt (k .not-loaded (sym e ∙ p));
+        done = λ p. halt-same l back m (d .state) (g .held-is) zt (k .done (sym e ∙ p));
       }
 
 -- ---- the theorem
@@ -158,7 +112,7 @@ by-step l w op x y z r m v b g = go (isImage l) refl
     go : (t : Bool) → isImage l ≡ t → StepCallLeaves l w op x y z r m v
     go true e =
         let n : length l ≡ imageLength = eqb-true (length l) imageLength e in
-        step-leaves l n b w op x y z r m v (image-left l w (step op x y z) r m v n g)
+        step-leaves l (round-trips .image-state l n b) w op x y z r m v (image-left l w (step op x y z) r m v n g)
     go false e = other-step l w op x y z r m v (eqb-false (length l) imageLength e) g
 
 by-exception : (l : List ℕ) (f op x y z u v r : ℕ) (m : List ℕ) → ((i : ℕ) → getD l i 0 < 256)
@@ -172,7 +126,7 @@ by-exception l f op x y z u v r m b g = go (isImage l) refl
     go : (t : Bool) → isImage l ≡ t → ExceptionCallLeaves l f op x y z u v r m
     go true e =
         let n : length l ≡ imageLength = eqb-true (length l) imageLength e in
-        exception-leaves l n b no-window f op x y z u v r m (image-left l no-window (exception f op x y z u v) r m no-window n (g, refl))
+        exception-leaves l (round-trips .image-state l n b) no-window f op x y z u v r m (image-left l no-window (exception f op x y z u v) r m no-window n (g, refl))
     go false e = other-exception l f op x y z u v r m (eqb-false (length l) imageLength e) g
 
 by-state-step : (w : Windows) (s : State) (op x y z r : ℕ) (t : State) (v : Windows) → Sized s → SteppedState w s op x y z r t v
@@ -206,8 +160,10 @@ by-field size from to r backward field g =
 pub calls-leave : CallsLeave
 calls-leave = record {
   by-step = by-step;
+  by-run = by-run;
   by-exception = by-exception;
   by-state-step = by-state-step;
+  by-state-run = by-state-run;
   by-state-exception = by-state-exception;
   by-context = by-context;
   by-field = by-field;

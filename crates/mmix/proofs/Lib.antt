@@ -6,5 +6,7 @@ pub mod Lent
 pub mod Tried
 pub mod Call
 pub mod Writes
+pub mod ImageLeaves
+pub mod RunLeaves
 pub mod Leaves
 pub mod Calls

@@ -12,17 +12,19 @@ use borrow.Author.Tests.{eqb-true, eqb-false, ne-eqb}
 use Rattle.model.specs.Memory.{Windows, shapesOf, ruled, shares, both}
 use Rattle.model.specs.Plan.{Outcome}
 use Rattle.model.specs.Lists.{stepOn, runs}
-use Rattle.model.specs.Registers.{Sized, admissible}
+use Rattle.model.specs.Registers.{Sized, Words, admissible}
 use Rattle.model.specs.Step.{Item, fetched, fetchedOf, unruledBy, mmix}
 use Rattle.model.specs.Run.{Stopped, more, stoppedBy, runFor, tried, grantMost, refusedWhole, runOf}
 use Rattle.model.specs.RunMeant.{CallPasses, Listed}
 use Rattle.model.specs.Order.{Passes, refusedBy}
+use Rattle.model.specs.Invariants.{Fits, Bytes}
 use Rattle.model.specs.declared.State.{State}
 use Rattle.model.proofs.Bools.{on}
 use Rattle.model.proofs.Entry.{unruled-is}
 use Rattle.model.proofs.Fetched.{fetched-inadmissible, fetched-unruled}
 use Rattle.model.proofs.Leaves.{replies-leave}
-use Rattle.model.proofs.RunLaws.{run-done, run-refused}
+use Rattle.model.proofs.Invariants.{items-keep}
+use Rattle.model.proofs.RunLaws.{run-done, run-refused, run-by}
 use Rattle.model.proofs.RunMeant.{fetched-on, run-open, run-unruled, call-by, run-is-meant, runs-in-order}
 use Rattle.mmix.specs.Calls.{triedItems, triedAnswers}
 
@@ -70,6 +72,28 @@ run-tried w s grant n =
     unruled-small : (unruledBy (shapesOf w) ≡ 0) ⊎ ((unruledBy (shapesOf w) ≡ 2) ⊎ (unruledBy (shapesOf w) ≡ 22)) → unruledBy (shapesOf w) ≢ 25
     unruled-small h e = ⊎-elim (λ q. omega (arith, e, q)) (⊎-elim (λ q. omega (arith, e, q)) (λ q. omega (arith, e, q))) h
 
+-- ---- what is in range stays so
+
+pub record InRange (s : State) (w : Windows) : Type 0 where
+  pub sized : Sized s
+  pub words : Words s
+  pub bytes : Bytes w
+
+pub item-range : (i : Item) (s : State) (w : Windows) → Fits i → InRange s w → InRange (stepOn both mmix s w i .state) (stepOn both mmix s w i .memory)
+item-range i s w f h = record {
+  sized = items-keep .sized w s i (h .sized);
+  words = items-keep .words w s i f (h .bytes) (h .words);
+  bytes = items-keep .bytes w s i (h .bytes);
+}
+
+pub run-range : (w : Windows) (s : State) (grant : ℕ) → InRange s w → InRange (runOf w s grant .state) (runOf w s grant .memory)
+run-range w s grant h =
+    call-by (λ r. InRange (r .state) (r .memory)) w s grant (λ a. h) (λ a m. h) (λ p l. h)
+    (λ c. run-by both mmix fetched (λ t m. InRange t m) (λ r. InRange (r .state) (r .memory)) (λ n r q. q) (λ t m q. q) (λ t m q n. kept t m q) (λ t m q d. kept t m q) grant s w h)
+  where
+    kept : (t : State) (m : Windows) → InRange t m → InRange (stepOn both mmix t m fetched .state) (stepOn both mmix t m fetched .memory)
+    kept t m q = item-range fetched t m (unfold Fits in tt) q
+
 -- ---- two lists that answer alike
 
 -- from s and v and from t and u the items find one state and windows of one shape, and have one reply each
@@ -116,7 +140,7 @@ twins (i ∷ is) s v t u h = (
   (h [] (i ∷ is) refl .state-same, h [] (i ∷ is) refl .shapes-same),
   head-eq-of-cons-eq (h (i ∷ []) is refl .answers-same),
   twins is _ _ _ _ (λ js ks e. let k = h (i ∷ js) ks (ap (λ (l : List Item). i ∷ l) e) in
-  record { answers-same = tail-eq-of-cons-eq (k .answers-same); state-same = k .state-same; shapes-same = k .shapes-same }),
+      record { answers-same = tail-eq-of-cons-eq (k .answers-same); state-same = k .state-same; shapes-same = k .shapes-same }),
 )
 
 -- ---- two runs of one grant
