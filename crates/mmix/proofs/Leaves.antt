@@ -1,37 +1,32 @@
 -- What each number leaves of an image's bytes, and of a struct.
 use mathlib.Core.Path.{_≡_, refl, sym, ap, subst, _∙_}
-use mathlib.Core.Logic.{_⊎_, inl, inr, ⊎-elim}
-use mathlib.Core.List.{List, [], _∷_}
-use Prim.Native.Nat.{ℕ, _*_, _≤_, _<_}
+use mathlib.Core.Logic.{_⊎_, inl, inr}
+use mathlib.Core.List.{List, []}
+use Prim.Native.Nat.{ℕ, _≤_, _<_}
 use native.Mathlib.Omega.{arith}
 use mathlib.Core.Bool.{Bool, true, false}
 use borrow.Author.Tests.{eqb-true, eqb-false}
 use lib.ListN.{length, getD}
-use Rattle.model.specs.Octa.{written, bytesOf}
 use Rattle.model.specs.Memory.{Windows, both}
 use Rattle.model.specs.Plan.{Outcome, perform, worst, puts}
 use Rattle.model.specs.Lists.{stepOn}
 use Rattle.model.specs.NoMemory.{Said, say, tell}
-use Rattle.model.specs.Control.{sumOf}
-use Rattle.model.specs.LoadStore.{flagV}
-use Rattle.model.specs.ArithmeticStep.{withResults}
 use Rattle.model.specs.Step.{step, exception, stepOf, exceptionOf, itemPlan, mmix}
-use Rattle.model.specs.Registers.{rB, rBB, rA, rW, rX, rY, rZ, rWW, rXX, rYY, rZZ, sp, reg, halted, Sized}
-use Rattle.model.specs.Trips.{withAdded, wordOf}
+use Rattle.model.specs.Registers.{Sized}
+use Rattle.model.specs.Trips.{wordOf}
 use Rattle.model.specs.Field.{fieldOf, answerOf}
 use Rattle.model.specs.Reader.{Part, readContext}
 use Rattle.model.specs.Numbers.{Early}
-use Rattle.model.specs.Leaves.{Interrupted, Trapped, TripLeaves, StoreLeaves, ArithmeticLeaves, StepLeaves, ExceptionLeaves, ReaderLeaves, FieldLeaves}
-use Rattle.model.proofs.Leaves.{replies-leave, added-sized, results-sized}
+use Rattle.model.specs.Leaves.{StepLeaves, ExceptionLeaves, ReaderLeaves, FieldLeaves}
+use Rattle.model.proofs.Leaves.{replies-leave}
 use Rattle.model.proofs.Invariants.{items-keep}
 use Rattle.model.proofs.Numbers.{step-number}
 use Rattle.model.specs.declared.State.{State}
-use Rattle.model.specs.declared.Results.{Results}
 use Rattle.mmix.specs.Image.{imageLength, imageOf, stateOf}
 use Rattle.mmix.specs.Entries.{lentAt, isImage, Stepped, Raised, SteppedState, RaisedState, ContextAt, FieldTold}
-use Rattle.mmix.specs.Leaves.{replaced, atSpecial, atHalt, haltBytes, tripOctas, trapOctas, NotLoadedLeaves, StepCallLeaves, ExceptionCallLeaves, ContextCallLeaves, CallsLeave}
+use Rattle.mmix.specs.Leaves.{StepCallLeaves, ExceptionCallLeaves, ContextCallLeaves, CallsLeave}
 use Rattle.mmix.specs.Calls.{image, HeldIs, ImageCall}
-use Rattle.mmix.proofs.RoundTrips.{halt-bytes, round-trips}
+use Rattle.mmix.proofs.RoundTrips.{round-trips}
 use Rattle.mmix.proofs.Entries.{if-other}
 use Rattle.mmix.proofs.Call.{Left, image-left, few}
 use Rattle.mmix.proofs.ImageLeaves.{halt-same, halted-same, tripped-image, not-loaded, trapped-image}

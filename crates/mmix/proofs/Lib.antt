@@ -9,4 +9,5 @@ pub mod Writes
 pub mod ImageLeaves
 pub mod RunLeaves
 pub mod Leaves
+pub mod Chains
 pub mod Calls

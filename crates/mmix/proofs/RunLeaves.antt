@@ -1,6 +1,6 @@
 -- What each number leaves of a run: of an image's bytes, and of a struct.
 use mathlib.Core.Path.{_≡_, refl, sym, ap, subst, _∙_}
-use mathlib.Core.Logic.{_⊎_, inl, inr, _≢_, ⊎-elim}
+use mathlib.Core.Logic.{_⊎_, inl, _≢_}
 use mathlib.Core.Bool.{Bool, true, false}
 use mathlib.Core.List.{List}
 use Prim.Native.Nat.{ℕ, _≤_, _<_}
@@ -9,7 +9,7 @@ use borrow.Author.Tests.{eqb-true, eqb-false}
 use lib.ListN.{length, getD}
 use Rattle.model.specs.Memory.{Windows}
 use Rattle.model.specs.Plan.{Outcome}
-use Rattle.model.specs.Registers.{Sized, Words, admissible, claimLocal}
+use Rattle.model.specs.Registers.{Sized, Words, admissible}
 use Rattle.model.specs.Step.{claims, opcodeIn, xIn, yIn, zIn, claimedBy, tetraOf, claimedAt}
 use Rattle.model.specs.Run.{Stopped, grantMost, runOf}
 use Rattle.model.specs.RunMeant.{CallPasses}
@@ -19,14 +19,14 @@ use Rattle.model.specs.Numbers.{Early, Missed, numberOf, replyOf}
 use Rattle.model.specs.Leaves.{TripLeaves, StoreLeaves, ArithmeticLeaves, TetraLeaves, LastLeaves, RunLeaves}
 use Rattle.model.specs.declared.State.{State}
 use Rattle.model.proofs.Bools.{on}
-use Rattle.model.proofs.AdmissibleKept.{Good, adm, claim-good}
+use Rattle.model.proofs.AdmissibleKept.{adm, claim-good}
 use Rattle.model.proofs.WordsKept.{claim-words}
 use Rattle.model.proofs.Numbers.{run-number}
 use Rattle.model.proofs.RunMeant.{Ready, run-open, run-ready, run-is-meant, call-by}
 use Rattle.model.proofs.Leaves.{replies-leave}
 use Rattle.mmix.specs.Image.{imageLength, imageOf, stateOf}
 use Rattle.mmix.specs.Entries.{isImage, RanImage, RanState}
-use Rattle.mmix.specs.Leaves.{haltBytes, NotLoadedLeaves, tetraIn, claimedImage, TetraCallLeaves, LastCallLeaves, RunCallLeaves}
+use Rattle.mmix.specs.Leaves.{NotLoadedLeaves, tetraIn, TetraCallLeaves, LastCallLeaves, RunCallLeaves}
 use Rattle.mmix.proofs.RoundTrips.{round-trips}
 use Rattle.mmix.proofs.Entries.{if-other, ran}
 use Rattle.mmix.proofs.Tried.{InRange, run-range}

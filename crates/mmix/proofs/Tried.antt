@@ -14,7 +14,7 @@ use Rattle.model.specs.Plan.{Outcome}
 use Rattle.model.specs.Lists.{stepOn, runs}
 use Rattle.model.specs.Registers.{Sized, Words, admissible}
 use Rattle.model.specs.Step.{Item, fetched, fetchedOf, unruledBy, mmix}
-use Rattle.model.specs.Run.{Stopped, more, stoppedBy, runFor, tried, grantMost, refusedWhole, runOf}
+use Rattle.model.specs.Run.{Stopped, more, stoppedBy, runFor, tried, refusedWhole, runOf}
 use Rattle.model.specs.RunMeant.{CallPasses, Listed}
 use Rattle.model.specs.Order.{Passes, refusedBy}
 use Rattle.model.specs.Invariants.{Fits, Bytes}
