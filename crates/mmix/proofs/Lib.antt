@@ -7,6 +7,7 @@ pub mod Tried
 pub mod Call
 pub mod Writes
 pub mod ImageLeaves
+pub mod OwnNumbers
 pub mod RunLeaves
 pub mod Leaves
 pub mod Chains

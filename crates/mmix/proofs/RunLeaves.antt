@@ -1,24 +1,26 @@
 -- What each number leaves of a run: of an image's bytes, and of a struct.
 use mathlib.Core.Path.{_≡_, refl, sym, ap, subst, _∙_}
-use mathlib.Core.Logic.{_⊎_, inl, _≢_}
+use mathlib.Core.Logic.{_⊎_, inl, inr, _≢_, ⊎-elim}
 use mathlib.Core.Bool.{Bool, true, false}
 use mathlib.Core.List.{List}
 use Prim.Native.Nat.{ℕ, _≤_, _<_}
 use native.Mathlib.Omega.{arith}
 use borrow.Author.Tests.{eqb-true, eqb-false}
 use lib.ListN.{length, getD}
-use Rattle.model.specs.Memory.{Windows}
+use Rattle.model.specs.Memory.{Windows, shapesOf}
 use Rattle.model.specs.Plan.{Outcome}
 use Rattle.model.specs.Registers.{Sized, Words, admissible}
 use Rattle.model.specs.Step.{claims, opcodeIn, xIn, yIn, zIn, claimedBy, tetraOf, claimedAt}
 use Rattle.model.specs.Run.{Stopped, grantMost, runOf}
 use Rattle.model.specs.RunMeant.{CallPasses}
+use Rattle.model.specs.Order.{Passes}
 use Rattle.model.specs.Invariants.{Bytes}
 use Rattle.model.specs.Trips.{wordOf}
 use Rattle.model.specs.Numbers.{Early, Missed, numberOf, replyOf}
 use Rattle.model.specs.Leaves.{TripLeaves, StoreLeaves, ArithmeticLeaves, TetraLeaves, LastLeaves, RunLeaves}
 use Rattle.model.specs.declared.State.{State}
 use Rattle.model.proofs.Bools.{on}
+use Rattle.model.proofs.Entry.{unruled-is}
 use Rattle.model.proofs.AdmissibleKept.{adm, claim-good}
 use Rattle.model.proofs.WordsKept.{claim-words}
 use Rattle.model.proofs.Numbers.{run-number}
@@ -26,11 +28,12 @@ use Rattle.model.proofs.RunMeant.{Ready, run-open, run-ready, run-is-meant, cal
 use Rattle.model.proofs.Leaves.{replies-leave}
 use Rattle.mmix.specs.Image.{imageLength, imageOf, stateOf}
 use Rattle.mmix.specs.Entries.{isImage, RanImage, RanState}
-use Rattle.mmix.specs.Leaves.{NotLoadedLeaves, tetraIn, TetraCallLeaves, LastCallLeaves, RunCallLeaves}
+use Rattle.mmix.specs.Leaves.{NotLoadedLeaves, tetraIn, TetraCallLeaves, LastCallLeaves, OfCall, RunCallLeaves}
 use Rattle.mmix.proofs.RoundTrips.{round-trips}
 use Rattle.mmix.proofs.Entries.{if-other, ran}
 use Rattle.mmix.proofs.Tried.{InRange, run-range}
 use Rattle.mmix.proofs.Call.{Counted, state-counted, image-ran}
+use Rattle.mmix.proofs.OwnNumbers.{fetched-own}
 use Rattle.mmix.proofs.ImageLeaves.{halt-same, halted-same, not-loaded, trapped-image}
 
 -- ---- the last instruction
@@ -91,7 +94,7 @@ module _ (l : List ℕ) (n : length l ≡ imageLength) (b : (i : ℕ) → getD l
   record Reached (k : LastLeaves w s stop) : Type 0 where
     sized : Sized (k .reached)
     words : Words (k .reached)
-    admitted : admissible (k .reached) ≡ true
+    passes : Passes (k .lent) (k .reached)
 
   reached : CallPasses w s grant → stop .reply ≢ 0 → (k : LastLeaves w s stop) → Reached k
   reached c f k =
@@ -101,7 +104,7 @@ module _ (l : List ℕ) (n : length l ≡ imageLength) (b : (i : ℕ) → getD l
       let e = run-open w s (stop .done) (record { passes = c .passes; granted = omega arith }) in
       let q : Ready (k .lent) (k .reached)
       = subst (λ (p : Stopped State Windows). Ready (p .memory) (p .state)) (sym e ∙ k .reached-is) (run-ready (stop .done) w s (record { sized = range .sized; passes = c .passes })) in
-      record { sized = h .sized; words = h .words; admitted = q .passes .admitted }
+      record { sized = h .sized; words = h .words; passes = q .passes }
 
   last-leaves : (r d : ℕ) (m : List ℕ) (v : Windows) → r ≡ stop .reply → d ≡ stop .done → m ≡ imageOf (stop .state) → v ≡ stop .memory → CallPasses w s grant → r ≢ 0
       → LastCallLeaves l w r d m v
@@ -121,10 +124,18 @@ module _ (l : List ℕ) (n : length l ≡ imageLength) (b : (i : ℕ) → getD l
           state-is = ap (λ (p : Stopped State Windows). p .state) (sym at);
           window-is = ap (λ (p : Stopped State Windows). p .memory) (sym at);
         }) i refl;
-        leaves = tetra-leaves i (ap imageOf e) (subst Words (sym e) (h .words)) (ap admissible e ∙ h .admitted) (k .lent) (tetraIn (k .lent) i) o r m v
+        leaves = tetra-leaves i (ap imageOf e) (subst Words (sym e) (h .words)) (ap admissible e ∙ h .passes .admitted) (k .lent) (tetraIn (k .lent) i) o r m v
             (subst (λ (p : State). TetraLeaves (k .lent) p (claimedAt (k .lent) p) (tetraOf (k .lent) p) o) (sym e) (k .leaves)) (run-range w s grant range .sized) er em ev;
         halt-kept = halt-same l back i (k .reached) refl (h .sized) (k .halt-kept);
       }
+
+  -- no instruction on the way is refused by a number of the call
+  no-own : CallPasses w s grant → OfCall (stop .reply) → ⊥
+  no-own c z =
+      let f : stop .reply ≢ 0 = λ q. ⊎-elim (λ e. omega (arith, q, e)) (⊎-elim (λ e. omega (arith, q, e)) (⊎-elim (λ e. omega (arith, q, e)) (λ e. omega (arith, q, e)))) z in
+      let k : LastLeaves w s stop = replies-leave .by-run w s grant (range .sized) .refused c f in
+      let h : Reached k = reached c f k in
+      fetched-own (k .lent) (k .reached) (h .sized) (h .passes) (subst OfCall (ap (λ (o : Outcome State Windows). o .reply) (sym (k .last-is))) z)
 
   run-leaves : (r d : ℕ) (m : List ℕ) (v : Windows) → RanImage l w grant r d m v → RunCallLeaves l w grant r d m v
   run-leaves r d m v g =
@@ -133,13 +144,25 @@ module _ (l : List ℕ) (n : length l ≡ imageLength) (b : (i : ℕ) → getD l
       let k : RunLeaves w s grant stop = replies-leave .by-run w s grant (range .sized) in
       record {
         most = subst (λ (q : ℕ). (q ≤ 20) ⊎ ((q ≡ 22) ⊎ ((q ≡ 24) ⊎ (q ≡ 25)))) (sym (c .reply-is)) (k .most);
-        whole = λ f. let h = unpassed (f n) in (c .count-is ∙ h .0, e .1 ∙ ap imageOf (h .1) ∙ back, e .0 .window-is ∙ h .2);
+        whole = λ f. let h = unpassed (f n) in (subst OfCall (sym (c .reply-is)) (h .0), c .count-is ∙ h .1 .0, e .1 ∙ ap imageOf (h .1 .1) ∙ back, e .0 .window-is ∙ h .1 .2);
+        whole-by = λ f. let h = as-found (subst OfCall (c .reply-is) f) in (c .count-is ∙ h .0, e .1 ∙ ap imageOf (h .1) ∙ back, e .0 .window-is ∙ h .2);
         refused = λ _ p f. last-leaves r d m v (c .reply-is) (c .count-is) (e .1) (e .0 .window-is) p f;
         spent = λ p. halt-same l back m (stop .state) (e .1) (run-range w s grant range .sized) (k .spent (sym (c .reply-is) ∙ p));
       }
     where
-      unpassed : (CallPasses w s grant → ⊥) → (stop .done ≡ 0) × (stop .state ≡ s) × (stop .memory ≡ w)
-      unpassed f = call-by (λ p. (p .done ≡ 0) × (p .state ≡ s) × (p .memory ≡ w)) w s grant (λ a. (refl, refl, refl)) (λ a q. (refl, refl, refl)) (λ a q. (refl, refl, refl)) (λ p. absurd (f p))
+      Untouched : Stopped State Windows → Type 0
+      Untouched p = (p .done ≡ 0) × (p .state ≡ s) × (p .memory ≡ w)
+
+      unpassed : (CallPasses w s grant → ⊥) → OfCall (stop .reply) × Untouched stop
+      unpassed f =
+          call-by (λ p. OfCall (p .reply) × Untouched p) w s grant (λ a. (inl refl, (refl, refl, refl)))
+          (λ a q. (⊎-elim (λ z. absurd (q z)) (⊎-elim (λ z. inr (inl z)) (λ z. inr (inr (inl z)))) (unruled-is (shapesOf w)), (refl, refl, refl)))
+          (λ a q. (inr (inr (inr refl)), (refl, refl, refl))) (λ p. absurd (f p))
+
+      as-found : OfCall (stop .reply) → Untouched stop
+      as-found =
+          call-by (λ p. OfCall (p .reply) → Untouched p) w s grant (λ a z. (refl, refl, refl)) (λ a q z. (refl, refl, refl)) (λ a q z. (refl, refl, refl))
+          (λ p. subst (λ (o : Stopped State Windows). OfCall (o .reply) → Untouched o) (run-open w s grant p) (λ z. absurd (no-own p z)))
 
 -- ---- the theorem's part
 
@@ -148,7 +171,8 @@ other-run l w grant r n m v h g =
     let e : r ≡ 1 = g .reply-is ∙ sym (if-other l h _ _) in
     record {
       most = inl (omega arith);
-      whole = λ f. (g .count-is ∙ sym (if-other l h _ _), g .image-is ∙ sym (if-other l h _ _), g .window-is ∙ sym (if-other l h _ _));
+      whole = λ f. (inl e, g .count-is ∙ sym (if-other l h _ _), g .image-is ∙ sym (if-other l h _ _), g .window-is ∙ sym (if-other l h _ _));
+      whole-by = λ f. (g .count-is ∙ sym (if-other l h _ _), g .image-is ∙ sym (if-other l h _ _), g .window-is ∙ sym (if-other l h _ _));
       refused = λ q. absurd (h q);
       spent = λ p. absurd (omega arith);
     }

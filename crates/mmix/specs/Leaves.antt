@@ -133,11 +133,16 @@ pub record LastCallLeaves (l : List ℕ) (w : Windows) (r n : ℕ) (m : List ℕ
   pub leaves : TetraCallLeaves reached lent (tetraIn lent reached) r m v
   pub halt-kept : haltBytes reached ≡ haltBytes l
 
+-- the numbers of a call that is refused whole
+abbrev pub OfCall : ℕ → Type 0
+OfCall r = (r ≡ 1) ⊎ ((r ≡ 2) ⊎ ((r ≡ 22) ⊎ (r ≡ 25)))
+
 -- what mmix_run leaves
 pub record RunCallLeaves (l : List ℕ) (w : Windows) (grant r n : ℕ) (m : List ℕ) (v : Windows) : Type 0 where
   pub most : (r ≤ 20) ⊎ ((r ≡ 22) ⊎ ((r ≡ 24) ⊎ (r ≡ 25)))
-  -- refused whole: by the image's length, 1, 2, 22 or 25
-  pub whole : (length l ≡ imageLength → CallPasses w (stateOf l) grant → ⊥) → (n ≡ 0) × (m ≡ l) × (v ≡ w)
+  -- refused whole: by the image's length, 1, 2, 22 or 25; and these numbers alone say so, since no instruction that is fetched on the way has one of them
+  pub whole : (length l ≡ imageLength → CallPasses w (stateOf l) grant → ⊥) → OfCall r × (n ≡ 0) × (m ≡ l) × (v ≡ w)
+  pub whole-by : OfCall r → (n ≡ 0) × (m ≡ l) × (v ≡ w)
   pub refused : length l ≡ imageLength → CallPasses w (stateOf l) grant → r ≢ 0 → LastCallLeaves l w r n m v
   pub spent : r ≡ 0 → haltBytes m ≡ haltBytes l
 
