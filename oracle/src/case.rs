@@ -1,7 +1,7 @@
 //! One call with everything it is given, and its text of one line.
 //!
 //! The line is the call's name and then fields `name=value` in hexadecimal: op x y z, flags yv zv (exceptions),
-//! address (context), from to (branch_field, jump_field), base, len (of window B), image (length of the image), pc, halt, marks, partly,
+//! address (context), grant (run), from to (branch_field, jump_field), base, len (of window B), image (length of the image), pc, halt, marks, partly,
 //! g and s (registers that are not zero, `number:value`), w (octabytes of window B that are not zero,
 //! `offset:bytes`), and abase, alen, aw of window A. What is left out is zero; `image` left out is 2,328 bytes.
 
@@ -39,9 +39,24 @@ impl Kind {
 pub enum Call {
     Initialize,
     Step(Instruction),
-    Exceptions { flags: u8, of: Instruction, y_val: u64, z_val: u64 },
-    Context { address: u64 },
-    Field { kind: Kind, from: u64, to: u64 },
+    /// Up to so many instructions, fetched at PC.
+    Run {
+        grant: u64,
+    },
+    Exceptions {
+        flags: u8,
+        of: Instruction,
+        y_val: u64,
+        z_val: u64,
+    },
+    Context {
+        address: u64,
+    },
+    Field {
+        kind: Kind,
+        from: u64,
+        to: u64,
+    },
 }
 
 #[derive(Clone, PartialEq, Eq, Debug)]
@@ -102,6 +117,10 @@ impl Display for Case {
             Call::Step(i) => {
                 line += "step";
                 instruction(&mut line, i);
+            }
+            Call::Run { grant } => {
+                line += "run";
+                field(&mut line, "grant", *grant);
             }
             Call::Exceptions { flags, of, y_val, z_val } => {
                 line += "exceptions";
@@ -165,7 +184,7 @@ pub fn parse(line: &str) -> Result<Case, String> {
     let name = words.next().ok_or("an empty line")?;
     let mut case = Case::none(Call::Initialize, State::zero());
     let mut i = Instruction { op: 0, x: 0, y: 0, z: 0 };
-    let (mut flags, mut y_val, mut z_val, mut address, mut from, mut to) = (0, 0, 0, 0, 0, 0);
+    let (mut flags, mut y_val, mut z_val, mut address, mut grant, mut from, mut to) = (0, 0, 0, 0, 0, 0, 0);
     for word in words {
         let (field, text) = word.split_once('=').ok_or_else(|| format!("no field: {word}"))?;
         let value = || number(text);
@@ -178,6 +197,7 @@ pub fn parse(line: &str) -> Result<Case, String> {
             "yv" => y_val = value()?,
             "zv" => z_val = value()?,
             "address" => address = value()?,
+            "grant" => grant = value()?,
             "from" => from = value()?,
             "to" => to = value()?,
             "base" => case.windows.b.base = value()?,
@@ -199,6 +219,7 @@ pub fn parse(line: &str) -> Result<Case, String> {
     case.call = match name {
         "initialize" => Call::Initialize,
         "step" => Call::Step(i),
+        "run" => Call::Run { grant },
         "exceptions" => Call::Exceptions { flags, of: i, y_val, z_val },
         "context" => Call::Context { address },
         "branch_field" => Call::Field { kind: Kind::Branch, from, to },

@@ -14,10 +14,12 @@ use crate::subject::{Aim, Found, Subject};
 /// The reference's answer, or in words how a subject differs from it.
 pub fn compare(reference: &mut Reference, subjects: &[Box<dyn Subject>], case: &Case) -> Result<Answer, String> {
     let answer = reference.answer(case)?;
-    for subject in subjects {
+    let runs = matches!(case.call, Call::Run { .. });
+    for subject in subjects.iter().filter(|subject| !runs || subject.runs()) {
         let same = match case.call {
             Call::Initialize => initialize(subject.as_ref(), case, &answer),
             Call::Step(i) => step(subject.as_ref(), case, i, &answer),
+            Call::Run { grant } => run(subject.as_ref(), case, grant, &answer),
             Call::Exceptions { .. } => exceptions(subject.as_ref(), case, &answer),
             Call::Context { .. } => context(subject.as_ref(), case, &answer),
             Call::Field { .. } => field(subject.as_ref(), case, &answer),
@@ -127,6 +129,28 @@ fn step(subject: &dyn Subject, case: &Case, i: Instruction, answer: &Answer) -> 
     same_windows("mmix_step_parts", answer, &windows)
 }
 
+/// The count must be written at every reply.
+fn run(subject: &dyn Subject, case: &Case, grant: u64, answer: &Answer) -> Result<(), String> {
+    let same_count = |entry: &str, done: u64| match done == answer.done {
+        true => Ok(()),
+        false => Err(format!("{entry}: reply {}, {} done against {done}", answer.reply, answer.done)),
+    };
+    let (mut image, mut windows, mut done) = (case.image(), case.windows.clone(), !4);
+    let reply = subject.run(grant, &mut image, windows.lend(), &mut done);
+    same_image("mmix_run", case, answer, reply, &image)?;
+    same_windows("mmix_run", answer, &windows)?;
+    same_count("mmix_run", done)?;
+    if case.image_len != IMAGE_LEN {
+        return Ok(());
+    }
+
+    let (mut state, mut windows, mut done) = (case.state.clone(), case.windows.clone(), !5);
+    let reply = subject.run_parts(grant, (&mut state).into(), windows.lend(), &mut done);
+    same_state("mmix_run_parts", answer, reply, &state)?;
+    same_windows("mmix_run_parts", answer, &windows)?;
+    same_count("mmix_run_parts", done)
+}
+
 fn same_image(entry: &str, case: &Case, answer: &Answer, reply: u64, image: &[u8]) -> Result<(), String> {
     if case.image_len == IMAGE_LEN {
         return same_state(entry, answer, reply, &State::of_image(image));
@@ -170,10 +194,12 @@ fn same_windows(entry: &str, answer: &Answer, windows: &Windows) -> Result<(), S
 fn needs(case: &Case, answer: &Answer) -> Result<(), String> {
     let mut needs = match case.call {
         Call::Step(i) if case.image_len == IMAGE_LEN => compared::needs(i, &case.state, &case.windows),
+        Call::Run { grant } if case.image_len == IMAGE_LEN => compared::run_needs(grant, &case.state, &case.windows),
         Call::Context { .. } => return Ok(()),
         _ => Vec::new(),
     };
     needs.sort_unstable();
+    needs.dedup();
     let outside = |a: &u64| !case.windows.holds(*a);
     let fits = if answer.reply == 6 {
         needs.iter().all(|a| answer.touched.binary_search(a).is_ok()) && needs.iter().any(outside)

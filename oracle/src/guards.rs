@@ -179,6 +179,10 @@ impl Subject for Guarded {
         self.subject.name()
     }
 
+    fn runs(&self) -> bool {
+        self.subject.runs()
+    }
+
     fn initialize(&self, image: &mut [u8]) -> u64 {
         self.call([image], |[image]| self.subject.initialize(image))
     }
@@ -215,6 +219,22 @@ impl Subject for Guarded {
             let (general, special) = (of_bytes(general), of_bytes(special));
             let parts = Parts { general, special, pc: of_bytes(pc), halt: of_bytes(halt), marks };
             self.subject.step_parts(i, parts, Lent { at, a, b })
+        })
+    }
+
+    fn run(&self, grant: u64, image: &mut [u8], lent: Lent, done: &mut u64) -> u64 {
+        let Lent { at, a, b } = lent;
+        let buffers = [image, bytes_of(done), a, b];
+        self.call(buffers, |[image, done, a, b]| self.subject.run(grant, image, Lent { at, a, b }, of_bytes(done)))
+    }
+
+    fn run_parts(&self, grant: u64, parts: Parts, lent: Lent, done: &mut u64) -> u64 {
+        let (Parts { general, special, pc, halt, marks }, Lent { at, a, b }) = (parts, lent);
+        let buffers = [bytes_of(general), bytes_of(special), bytes_of(pc), bytes_of(halt), bytes_of(done), a, b];
+        self.call(buffers, |[general, special, pc, halt, done, a, b]| {
+            let (general, special) = (of_bytes(general), of_bytes(special));
+            let parts = Parts { general, special, pc: of_bytes(pc), halt: of_bytes(halt), marks };
+            self.subject.run_parts(grant, parts, Lent { at, a, b }, of_bytes(done))
         })
     }
 

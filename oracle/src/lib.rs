@@ -2,12 +2,13 @@
 //!
 //! - `state`, `lent`, `opcodes`, `case`: a machine state with its image of bytes; the two windows; opcodes by name; one call
 //!   with all that it is given, and its one-line text.
-//! - `reference`: the Rust's answer to a case, the model's at an added opcode, with the octabytes that it touched.
+//! - `reference`, `fetched`: the Rust's answer to a case, the model's at an added opcode, with the octabytes that it touched; to
+//!   a run, instruction by instruction.
 //! - `subject`: the functions that are compared; `model` (01 as a program) and `library` (C) offer them, and
 //!   `guards` lends each of their buffers in a guarded place.
 //! - `compare`: one case on all sides. `shrink`: a smaller case that still differs.
-//! - `random`, `states`, `windows`, `operands`, `numbers`, `fields`, `rounds`, `chains`, `sweep`: the cases. `starts`, `points`:
-//!   short ones. `tally`, `situations`, `met`, `lendings`: the counts.
+//! - `random`, `states`, `windows`, `operands`, `numbers`, `fields`, `rounds`, `chains`, `programs`, `sweep`: the cases. `starts`, `points`:
+//!   short ones. `tally`, `situations`, `met`, `lendings`, `runs`: the counts.
 
 // The model that is compared: `model`, or a copy with a fault in it (build.rs).
 #[cfg(changed_model)]
@@ -18,6 +19,7 @@ pub use model as compared;
 pub mod case;
 pub mod chains;
 pub mod compare;
+pub mod fetched;
 pub mod fields;
 pub mod guards;
 pub mod lendings;
@@ -30,9 +32,11 @@ pub mod numbers;
 pub mod opcodes;
 pub mod operands;
 pub mod points;
+pub mod programs;
 pub mod random;
 pub mod reference;
 pub mod rounds;
+pub mod runs;
 pub mod shrink;
 pub mod situations;
 pub mod starts;

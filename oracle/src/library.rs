@@ -161,6 +161,18 @@ impl Subject for Library {
         }
     }
 
+    fn runs(&self) -> bool {
+        false
+    }
+
+    fn run(&self, _grant: u64, _image: &mut [u8], _lent: Lent, _done: &mut u64) -> u64 {
+        unimplemented!("the library has no runs yet")
+    }
+
+    fn run_parts(&self, _grant: u64, _parts: Parts, _lent: Lent, _done: &mut u64) -> u64 {
+        unimplemented!("the library has no runs yet")
+    }
+
     #[inline]
     fn exceptions_parts(&self, flags: u8, of: Instruction, y_val: u64, z_val: u64, parts: Parts) -> u64 {
         let Instruction { op, x, y, z } = of;

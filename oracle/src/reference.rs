@@ -9,7 +9,7 @@
 //! the address or does not; 21 is given where it goes there by neither.
 //!
 //! The Rust has no arm for an added opcode (`opcodes::is_added`): from 22 on, the answer there is the model's, and the
-//! library is compared with the model alone.
+//! library is compared with the model alone. A run is answered in `fetched`, step by step.
 
 use std::cell::RefCell;
 use std::ops::Range;
@@ -22,6 +22,7 @@ use taken::mmix::{Host, MMix, SpecialReg, TrapCode};
 use taken::mmixal::Opcode;
 
 use crate::case::{Call, Case, Instruction, Kind};
+use crate::fetched::Fetched;
 use crate::fields;
 use crate::lent::{Window, Windows};
 use crate::model::{self, Model};
@@ -42,6 +43,17 @@ pub struct Answer {
     pub part: Range<usize>,
     /// Backward (1) or not, and the field; both 0 where none was found.
     pub aim: (u8, u32),
+    /// How many instructions a run did, those that it tried, and whether the Rust did all of them alone too.
+    pub done: u64,
+    pub ran: Vec<Fetched>,
+    pub by_the_rust_alone: bool,
+}
+
+impl Answer {
+    fn new(reply: u64, state: State, windows: Windows) -> Self {
+        let (part, aim, ran) = (0..0, (0, 0), Vec::new());
+        Self { reply, state, windows, touched: Vec::new(), which: 0, part, aim, done: 0, ran, by_the_rust_alone: false }
+    }
 }
 
 #[derive(Clone, Copy, PartialEq, Eq, Debug)]
@@ -69,11 +81,11 @@ impl Host for Recorder {
 }
 
 pub struct Reference {
-    machine: MMix,
-    diagnostics: Rc<RefCell<Vec<String>>>,
+    pub(crate) machine: MMix,
+    pub(crate) diagnostics: Rc<RefCell<Vec<String>>>,
     /// What the machine's memory holds: these windows, and nothing else.
-    windows: Windows,
-    touches: Vec<Touch>,
+    pub(crate) windows: Windows,
+    pub(crate) touches: Vec<Touch>,
 }
 
 impl Default for Reference {
@@ -98,16 +110,15 @@ impl Reference {
         if let Some(reply) = judged(case) {
             return Ok(self.unchanged(case, reply));
         }
+        if let Call::Run { grant } = case.call {
+            return self.run(case, grant);
+        }
         if let Call::Step(i) = case.call
             && is_added(i.op)
         {
             return Ok(of_model(case, i));
         }
-        self.lend(&case.windows);
-        let State { general, special, pc, halt, .. } = &case.state;
-        self.machine.place(general, special, *pc, *halt);
-        self.machine.place_loaded(case.loaded());
-        self.diagnostics.borrow_mut().clear();
+        self.place(case);
 
         touches::start();
         let run = panic::catch_unwind(AssertUnwindSafe(|| enter(&mut self.machine, &case.call)));
@@ -147,9 +158,17 @@ impl Reference {
         Ok(answer)
     }
 
-    fn unchanged(&self, case: &Case, reply: u64) -> Answer {
-        let (state, windows) = (case.state.clone(), case.windows.clone());
-        Answer { reply, state, windows, touched: Vec::new(), which: 0, part: 0..0, aim: (0, 0) }
+    pub(crate) fn unchanged(&self, case: &Case, reply: u64) -> Answer {
+        Answer::new(reply, case.state.clone(), case.windows.clone())
+    }
+
+    /// Make the machine the case's: memory, registers, loaded addresses; no diagnostic is sent.
+    pub(crate) fn place(&mut self, case: &Case) {
+        self.lend(&case.windows);
+        let State { general, special, pc, halt, .. } = &case.state;
+        self.machine.place(general, special, *pc, *halt);
+        self.machine.place_loaded(case.loaded());
+        self.diagnostics.borrow_mut().clear();
     }
 
     /// Make the machine's memory hold these windows and nothing else.
@@ -171,7 +190,7 @@ impl Reference {
     }
 
     /// Read back what was written: inside into the windows; outside it is taken away again.
-    fn follow_writes(&mut self) {
+    pub(crate) fn follow_writes(&mut self) {
         for touch in self.touches.iter().filter(|t| t.written) {
             match self.windows.holding_mut(touch.octabyte) {
                 Some(window) => {
@@ -197,7 +216,7 @@ impl Reference {
     }
 
     /// The state of the machine. The marks are read off the loaded addresses.
-    fn state(&self) -> State {
+    pub(crate) fn state(&self) -> State {
         let whole = |k: u64| (0..4).all(|j| self.machine.is_loaded(16 * k + j));
         let marks = (0..9).filter(|k| whole(*k)).map(|k| 1 << k).sum();
         State {
@@ -238,7 +257,7 @@ fn of_model(case: &Case, i: Instruction) -> Answer {
     let (mut state, mut windows) = (case.state.clone(), case.windows.clone());
     let touched = model::needs(i, &state, &windows);
     let reply = Model.step_lent(i, &mut state, windows.lend());
-    Answer { reply, state, windows, touched, which: 0, part: 0..0, aim: (0, 0) }
+    Answer { touched, ..Answer::new(reply, state, windows) }
 }
 
 /// The rule of one window.
@@ -246,7 +265,10 @@ fn obeys(window: &Window) -> bool {
     window.size().is_multiple_of(8) && window.bytes.len() <= WINDOW_MAX && window.base.is_multiple_of(8)
 }
 
-/// Numbers 1 to 5 and 22.
+/// The largest grant.
+pub const GRANT_MOST: u64 = 1_000_000;
+
+/// Numbers 1 to 5, 22 and 25.
 fn judged(case: &Case) -> Option<u64> {
     let bad_state = case.image_len != IMAGE_LEN || !case.state.admissible();
     let Windows { a, b } = &case.windows;
@@ -257,6 +279,10 @@ fn judged(case: &Case) -> Option<u64> {
         Call::Context { .. } if bad_window => Some(2),
         Call::Context { .. } => case.windows.share().then_some(22),
         Call::Field { .. } => None,
+        Call::Run { .. } if bad_state => Some(1),
+        Call::Run { .. } if bad_window => Some(2),
+        Call::Run { .. } if case.windows.share() => Some(22),
+        Call::Run { grant } => (grant > GRANT_MOST).then_some(25),
         Call::Step(Instruction { op, x, y, z }) => {
             if bad_state {
                 Some(1)
@@ -293,7 +319,7 @@ fn enter(machine: &mut MMix, call: &Call) -> bool {
             machine.enter_exceptions(flags, op, x, y, z, y_val, z_val)
         }
         Call::Context { address } => machine.enter_unsave(address),
-        Call::Field { .. } => unreachable!("found by steps"),
+        Call::Field { .. } | Call::Run { .. } => unreachable!("answered by steps"),
     }
 }
 

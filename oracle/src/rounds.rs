@@ -10,11 +10,11 @@ use crate::random::Random;
 use crate::reference::{Answer, has_arm};
 use crate::state::*;
 use crate::windows::{self, Saved};
-use crate::{fields, numbers, operands, states};
+use crate::{fields, numbers, operands, programs, states};
 
 /// Cases a round: refusals by state, by window and by opcode, single steps, exceptions, context reads, a chain. Beside them a
-/// round has two fields, windows that share octabytes, and frames and contexts in two windows, which are not counted among
-/// these.
+/// round has two fields, windows that share octabytes, frames and contexts in two windows, and runs, which are not counted
+/// among these.
 pub const ROUND: u64 = ILL_STATES + ILL_WINDOWS + NO_ARMS + SINGLES + EXCEPTIONS + CONTEXTS + CHAIN;
 const ILL_STATES: u64 = 11;
 const ILL_WINDOWS: u64 = 11;
@@ -25,6 +25,7 @@ const CONTEXTS: u64 = 2;
 const SHARED: u64 = 11;
 const LENT: u64 = 6;
 const READ: u64 = 2;
+const RUNS: u64 = 12;
 
 /// The opcodes of frames and contexts, each as often as it has ways to lie in two windows.
 const FRAMES: [(u8, usize); 7] = [(PUSHJ, 2), (PUSHGO, 1), (PUSHJB, 1), (PUSHGOI, 1), (POP, 5), (SAVE, 4), (UNSAVE, 6)];
@@ -138,6 +139,9 @@ pub fn round(seed: u64, number: u64, run: &mut dyn FnMut(&Case) -> Option<Answer
             windows::share(random, &mut case);
         }
         run(&case)?;
+    }
+    for _ in 0..RUNS {
+        run(&programs::single(random))?;
     }
     Some(())
 }

@@ -72,6 +72,13 @@ fn changes(case: &Case) -> Vec<Change> {
             _ => {}
         }));
     }
+    for by in (0..20).rev() {
+        list.push(Box::new(move |c| {
+            if let Call::Run { grant } = &mut c.call {
+                *grant = grant.saturating_sub(1 << by);
+            }
+        }));
+    }
     for by in (2..64).rev() {
         list.push(Box::new(move |c| {
             if let Call::Field { from, to, .. } = &mut c.call

@@ -1,5 +1,5 @@
 //! The machine that is compared with the Rust: functions that equal those of include/mmix.h. 0 is done,
-//! 1 to 20 are 01's numbers; 21 is request 2's, 22 and 23 are request 5's.
+//! 1 to 20 are 01's numbers; 21 is request 2's, 22 and 23 are request 5's, 24 and 25 request 6's.
 
 use crate::case::{Instruction, Kind};
 use crate::compared::Model;
@@ -40,12 +40,18 @@ pub struct Aim<'a> {
 
 pub trait Subject {
     fn name(&self) -> &'static str;
+    /// Whether it has runs.
+    fn runs(&self) -> bool {
+        true
+    }
     fn initialize(&self, image: &mut [u8]) -> u64;
     fn step(&self, i: Instruction, image: &mut [u8], lent: Lent) -> u64;
     fn exceptions(&self, flags: u8, of: Instruction, y_val: u64, z_val: u64, image: &mut [u8]) -> u64;
     fn context(&self, address: u64, shown: Shown, found: Found) -> u64;
     fn step_lent(&self, i: Instruction, state: &mut State, lent: Lent) -> u64;
     fn step_parts(&self, i: Instruction, parts: Parts, lent: Lent) -> u64;
+    fn run(&self, grant: u64, image: &mut [u8], lent: Lent, done: &mut u64) -> u64;
+    fn run_parts(&self, grant: u64, parts: Parts, lent: Lent, done: &mut u64) -> u64;
     fn exceptions_parts(&self, flags: u8, of: Instruction, y_val: u64, z_val: u64, parts: Parts) -> u64;
     fn decode(&self, image: &[u8], state: &mut State) -> u64;
     fn encode(&self, state: &State, image: &mut [u8]) -> u64;

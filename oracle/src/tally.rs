@@ -4,9 +4,10 @@ use crate::case::{Call, Case, Kind};
 use crate::lendings::{self, LENDINGS};
 use crate::opcodes::*;
 use crate::reference::Answer;
+use crate::runs::{self, RUNS};
 use crate::situations::{self, SITUATIONS};
 
-const REPLIES: usize = 24;
+const REPLIES: usize = 26;
 /// Met less often than this, a pair of opcode and reply, an opcode that is done, or a situation is met too seldom.
 const PAIR_LEAST: u64 = 100;
 const DONE_LEAST: u64 = 500;
@@ -37,11 +38,13 @@ fn replies(op: u8) -> &'static [usize] {
 const EXCEPTION_REPLIES: [usize; 3] = [0, 1, 19];
 const CONTEXT_REPLIES: [usize; 8] = [0, 2, 6, 14, 15, 16, 22, 23];
 const INITIALIZE_REPLIES: [usize; 2] = [0, 1];
+const RUN_REPLIES: [usize; 24] = [0, 1, 2, 3, 4, 5, 6, 7, 8, 9, 10, 11, 12, 13, 14, 15, 16, 17, 18, 19, 20, 22, 24, 25];
 const FIELD_REPLIES: [usize; 2] = [0, 21];
 
 #[derive(Clone)]
 pub struct Tally {
     steps: Vec<[u64; REPLIES]>,
+    runs: [u64; REPLIES],
     exceptions: [u64; REPLIES],
     contexts: [u64; REPLIES],
     initialized: [u64; REPLIES],
@@ -49,6 +52,7 @@ pub struct Tally {
     jump_fields: [u64; REPLIES],
     situations: [u64; SITUATIONS.len()],
     lendings: [u64; LENDINGS.len()],
+    ran: [u64; RUNS.len()],
 }
 
 impl Default for Tally {
@@ -57,6 +61,7 @@ impl Default for Tally {
         let (situations, lendings) = ([0; SITUATIONS.len()], [0; LENDINGS.len()]);
         Self {
             steps: vec![none; 256],
+            runs: none,
             exceptions: none,
             contexts: none,
             initialized: none,
@@ -64,6 +69,7 @@ impl Default for Tally {
             jump_fields: none,
             situations,
             lendings,
+            ran: [0; RUNS.len()],
         }
     }
 }
@@ -72,6 +78,7 @@ impl Tally {
     pub fn count(&mut self, case: &Case, answer: &Answer) {
         let row = match case.call {
             Call::Step(i) => &mut self.steps[i.op as usize],
+            Call::Run { .. } => &mut self.runs,
             Call::Exceptions { .. } => &mut self.exceptions,
             Call::Context { .. } => &mut self.contexts,
             Call::Initialize => &mut self.initialized,
@@ -81,21 +88,23 @@ impl Tally {
         row[answer.reply as usize] += 1;
         situations::count(case, answer, &mut self.situations);
         lendings::count(case, answer, &mut self.lendings);
+        runs::count(case, answer, &mut self.ran);
     }
 
     fn rows(&self) -> impl Iterator<Item = &[u64; REPLIES]> {
-        let Self { exceptions, contexts, initialized, branch_fields, jump_fields, .. } = self;
-        self.steps.iter().chain([exceptions, contexts, initialized, branch_fields, jump_fields])
+        let Self { runs, exceptions, contexts, initialized, branch_fields, jump_fields, .. } = self;
+        self.steps.iter().chain([runs, exceptions, contexts, initialized, branch_fields, jump_fields])
     }
 
     pub fn add(&mut self, other: &Self) {
-        let Self { steps, exceptions, contexts, initialized, branch_fields, jump_fields, .. } = self;
-        let own = steps.iter_mut().chain([exceptions, contexts, initialized, branch_fields, jump_fields]);
+        let Self { steps, runs, exceptions, contexts, initialized, branch_fields, jump_fields, .. } = self;
+        let own = steps.iter_mut().chain([runs, exceptions, contexts, initialized, branch_fields, jump_fields]);
         for (row, more) in own.zip(other.rows()) {
             row.iter_mut().zip(more).for_each(|(a, b)| *a += b);
         }
         self.situations.iter_mut().zip(&other.situations).for_each(|(a, b)| *a += b);
         self.lendings.iter_mut().zip(&other.lendings).for_each(|(a, b)| *a += b);
+        self.ran.iter_mut().zip(&other.ran).for_each(|(a, b)| *a += b);
     }
 
     pub fn cases(&self) -> u64 {
@@ -111,6 +120,7 @@ impl Tally {
     fn named(&self) -> Vec<(String, &[u64; REPLIES], Vec<usize>)> {
         let step = |(op, row)| (format!("{op:02x}"), row, [&[1, 2, 22], replies(op as u8)].concat());
         let mut rows: Vec<_> = self.steps.iter().enumerate().map(step).collect();
+        rows.push(("run".to_string(), &self.runs, RUN_REPLIES.to_vec()));
         rows.push(("exceptions".to_string(), &self.exceptions, EXCEPTION_REPLIES.to_vec()));
         rows.push(("context".to_string(), &self.contexts, CONTEXT_REPLIES.to_vec()));
         rows.push(("initialize".to_string(), &self.initialized, INITIALIZE_REPLIES.to_vec()));
@@ -119,10 +129,11 @@ impl Tally {
         rows
     }
 
-    /// The situations by name, those of the windows among them.
+    /// The situations by name, those of the windows and of runs among them.
     fn met(&self) -> impl Iterator<Item = (&'static str, u64)> {
         let names = SITUATIONS.iter().map(|(name, _)| *name).chain(LENDINGS.iter().map(|(name, _)| *name));
-        names.zip(self.situations.iter().chain(&self.lendings).copied())
+        let names = names.chain(RUNS.iter().map(|(name, _)| *name));
+        names.zip(self.situations.iter().chain(&self.lendings).chain(&self.ran).copied())
     }
 
     /// One line an opcode, `reply:count`; the situations; the pairs met least.

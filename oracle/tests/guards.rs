@@ -72,6 +72,18 @@ impl Subject for Probe {
     fn step_parts(&self, i: Instruction, _: Parts, lent: Lent) -> u64 {
         self.around(if i.x == 0 { lent.a } else { lent.b })
     }
+    /// A grant of 0 or 1 says around which window; any other, around the eight bytes of the count.
+    fn run(&self, grant: u64, _: &mut [u8], lent: Lent, done: &mut u64) -> u64 {
+        match grant {
+            0 => self.around(lent.a),
+            1 => self.around(lent.b),
+            // SAFETY: the eight bytes of the count.
+            _ => self.around(unsafe { std::slice::from_raw_parts_mut(std::ptr::from_mut(done).cast(), 8) }),
+        }
+    }
+    fn run_parts(&self, grant: u64, _: Parts, lent: Lent, done: &mut u64) -> u64 {
+        self.run(grant, &mut [], lent, done)
+    }
     fn exceptions_parts(&self, _: u8, _: Instruction, _: u64, _: u64, _: Parts) -> u64 {
         0
     }
@@ -89,8 +101,8 @@ impl Subject for Probe {
 
 /// Two calls in turn: flush against the page after the buffer, then against the one before it. The buffer is an image;
 /// window A or B of a step by each of its functions, where loads and stores of its last bytes and its first go, the other one
-/// as long as a window may be; the reader's word which window it is; the four bytes of a field.
-fn twice(probe: Probe) -> [[u64; 2]; 9] {
+/// as long as a window may be; the same of a run, and its count; the reader's word which window it is; the four bytes of a field.
+fn twice(probe: Probe) -> [[u64; 2]; 15] {
     let guarded = Guarded::new(Box::new(probe), Guard::Pages);
     let (mut image, mut state) = (vec![0; IMAGE_LEN], State::zero());
     let at = Bases { a: 0, b: 1 << 32 };
@@ -102,25 +114,31 @@ fn twice(probe: Probe) -> [[u64; 2]; 9] {
         match call {
             0 => guarded.step(i, &mut image, lent),
             1 => guarded.step_lent(i, &mut state, lent),
-            _ => guarded.step_parts(i, (&mut state).into(), lent),
+            2 => guarded.step_parts(i, (&mut state).into(), lent),
+            3 => guarded.run(x as u64, &mut image, lent, &mut 0),
+            _ => guarded.run_parts(x as u64, (&mut state).into(), lent, &mut 0),
         }
     };
-    let steps = [(0, 0), (1, 0), (0, 1), (1, 1), (0, 2), (1, 2)].map(|(x, call)| [step(x, call), step(x, call)]);
+    let mut steps = Vec::new();
+    for (x, call) in [(0, 0), (1, 0), (0, 1), (1, 1), (0, 2), (1, 2), (0, 3), (1, 3), (2, 3), (0, 4), (1, 4), (2, 4)] {
+        steps.push([step(x, call), step(x, call)]);
+    }
     let shown = || Shown { at, a: &[0; 16], b: &[0; 24] };
     let context = || guarded.context(0, shown(), Found { which: &mut 0, start: &mut 0, length: &mut 0 });
     let field = || guarded.field(Kind::Jump, 0, 4, Aim { backward: &mut 0, field: &mut 0 });
-    let [s0, s1, s2, s3, s4, s5] = steps;
-    let first = [guarded.initialize(&mut image), guarded.initialize(&mut image)];
-    [first, s0, s1, s2, s3, s4, s5, [context(), context()], [field(), field()]]
+    steps.push([guarded.initialize(&mut image), guarded.initialize(&mut image)]);
+    steps.push([context(), context()]);
+    steps.push([field(), field()]);
+    steps.try_into().expect("fifteen")
 }
 
 #[test]
 fn pages_beside_a_buffer_cannot_be_touched() {
-    assert_eq!(twice(Probe::ReadAround), [[2, 1]; 9]);
+    assert_eq!(twice(Probe::ReadAround), [[2, 1]; 15]);
 }
 
 #[test]
 fn canaries_see_a_byte_written() {
-    assert_eq!(twice(Probe::WriteAfter), [[2, WROTE_OUTSIDE]; 9]);
-    assert_eq!(twice(Probe::WriteBefore), [[WROTE_OUTSIDE, 1]; 9]);
+    assert_eq!(twice(Probe::WriteAfter), [[2, WROTE_OUTSIDE]; 15]);
+    assert_eq!(twice(Probe::WriteBefore), [[WROTE_OUTSIDE, 1]; 15]);
 }

@@ -20,6 +20,7 @@ use oracle::case::{self, Case};
 use oracle::compare::compare;
 use oracle::fields;
 use oracle::guards::{self, Guard};
+use oracle::programs;
 use oracle::reference::{Answer, Reference};
 use oracle::rounds::{ROUND, round};
 use oracle::shrink::shrink;
@@ -125,6 +126,7 @@ impl Runner<'_> {
             sweep::raised(&mut |case| self.run(case))?;
             sweep::distances(&mut |case| self.run(case))?;
             sweep::cuts(&mut |case| self.run(case))?;
+            programs::sweep(&mut |case| self.run(case))?;
         }
         Some(())
     }
@@ -135,7 +137,7 @@ fn replay(line: &str, guard: Option<Guard>) -> Result<bool, String> {
     guards::at_case(&case);
     match compare(&mut Reference::new(), &chosen(guard), &case) {
         Ok(answer) => {
-            println!("same: reply {}, PC {:x}", answer.reply, answer.state.pc);
+            println!("same: reply {}, PC {:x}, {} done by a run", answer.reply, answer.state.pc, answer.done);
             Ok(true)
         }
         Err(difference) => {

@@ -115,6 +115,12 @@ impl Subject for Nothing {
     fn step_parts(&self, _: Instruction, _: Parts, _: Lent) -> u64 {
         0
     }
+    fn run(&self, _: u64, _: &mut [u8], _: Lent, _: &mut u64) -> u64 {
+        0
+    }
+    fn run_parts(&self, _: u64, _: Parts, _: Lent, _: &mut u64) -> u64 {
+        0
+    }
     fn exceptions_parts(&self, _: u8, _: Instruction, _: u64, _: u64, _: Parts) -> u64 {
         0
     }
@@ -132,7 +138,7 @@ impl Subject for Nothing {
 type Entry = fn(&dyn Subject, &mut Buffers);
 
 /// The entries by name; each takes the cases that are its own.
-const ENTRIES: [(&str, Entry); 11] = [
+const ENTRIES: [(&str, Entry); 13] = [
     ("mmix_initialize", |subject, lent| {
         if let Call::Initialize = lent.case.call {
             subject.initialize(&mut lent.image);
@@ -163,6 +169,16 @@ const ENTRIES: [(&str, Entry); 11] = [
     ("mmix_step_parts", |subject, lent| {
         if let Call::Step(i) = lent.case.call {
             subject.step_parts(i, (&mut lent.state).into(), lent.windows.lend());
+        }
+    }),
+    ("mmix_run", |subject, lent| {
+        if let (Call::Run { grant }, true) = (lent.case.call, subject.runs()) {
+            subject.run(grant, &mut lent.image, lent.windows.lend(), &mut 0);
+        }
+    }),
+    ("mmix_run_parts", |subject, lent| {
+        if let (Call::Run { grant }, true) = (lent.case.call, subject.runs()) {
+            subject.run_parts(grant, (&mut lent.state).into(), lent.windows.lend(), &mut 0);
         }
     }),
     ("mmix_exceptions_parts", |subject, lent| {

@@ -1,12 +1,13 @@
 //! Document 01 as a program, written from its sentences and not from the Rust. This file has the entries and
 //! what they judge; `memory` the two windows, `stack` frames and contexts, `loads` loads and stores and `arithmetic` whole-number
-//! arithmetic (Fascicle 1), `arms` the other steps; `fields` which field reaches an address.
+//! arithmetic (Fascicle 1), `arms` the other steps; `runs` instructions that are fetched; `fields` which field reaches an address.
 
 mod arithmetic;
 mod arms;
 mod fields;
 mod loads;
 mod memory;
+mod runs;
 mod stack;
 
 use crate::case::{Instruction, Kind};
@@ -30,7 +31,7 @@ impl Outcome {
         Self { reply: 0, state, stores: Vec::new(), needs: Vec::new() }
     }
 
-    /// Numbers 1 to 6 and 22 change nothing, 7 to 18 set the halt code to 1.
+    /// Numbers 1 to 6, 22 and 24 change nothing, 7 to 18 set the halt code to 1.
     fn refused(reply: u64, state: &State) -> Self {
         let mut state = state.clone();
         if (7..=18).contains(&reply) {
@@ -57,6 +58,8 @@ impl Outcome {
 
 /// What steps do to a state.
 trait Changes {
+    /// Make a marginal register a local one: it and those below it that are marginal become 0.
+    fn claim(&mut self, x: u8);
     /// Write $X: a marginal register is claimed first.
     fn write_register(&mut self, x: u8, value: u64);
     fn go_to(self, pc: u64) -> Self;
@@ -65,12 +68,16 @@ trait Changes {
 }
 
 impl Changes for State {
-    fn write_register(&mut self, x: u8, value: u64) {
+    fn claim(&mut self, x: u8) {
         let (rl, rg, at) = (self.special[RL], self.special[RG], x as u64);
         if rl <= at && at < rg {
             self.general[rl as usize..=at as usize].fill(0);
             self.special[RL] = at + 1;
         }
+    }
+
+    fn write_register(&mut self, x: u8, value: u64) {
+        self.claim(x);
         self.general[x as usize] = value;
     }
 
@@ -189,6 +196,26 @@ impl Subject for Model {
         reply
     }
 
+    fn run(&self, grant: u64, image: &mut [u8], lent: Lent, done: &mut u64) -> u64 {
+        *done = 0;
+        if image.len() != IMAGE_LEN {
+            return 1;
+        }
+        let mut state = State::of_image(image);
+        let reply = self.run_parts(grant, (&mut state).into(), lent, done);
+        image.copy_from_slice(&state.image());
+        reply
+    }
+
+    fn run_parts(&self, grant: u64, parts: Parts, lent: Lent, done: &mut u64) -> u64 {
+        let Parts { general, special, pc, halt, marks } = parts;
+        let mut state = State { general: *general, special: *special, pc: *pc, halt: *halt, marks };
+        let ran = runs::run(grant, &mut state, lent);
+        (*general, *special, *pc, *halt) = (state.general, state.special, state.pc, state.halt);
+        *done = ran.done;
+        ran.reply
+    }
+
     fn exceptions_parts(&self, flags: u8, of: Instruction, y_val: u64, z_val: u64, parts: Parts) -> u64 {
         let Parts { general, special, pc, halt, marks } = parts;
         let state = State { general: *general, special: *special, pc: *pc, halt: *halt, marks };
@@ -226,4 +253,9 @@ impl Subject for Model {
 /// The octabytes that a step needs: in any order, each once.
 pub fn needs(i: Instruction, state: &State, windows: &Windows) -> Vec<u64> {
     step(windows.at(), i, state, &windows.a.bytes, &windows.b.bytes).needs
+}
+
+/// The octabytes that a run needs, each instruction's fetch among them: in any order, each at least once.
+pub fn run_needs(grant: u64, state: &State, windows: &Windows) -> Vec<u64> {
+    runs::run(grant, &mut state.clone(), windows.clone().lend()).needs
 }

@@ -67,6 +67,15 @@ impl MMix {
         self.loaded.contains(&address)
     }
 
+    /// Fetch the instruction at PC and claim its $X.
+    pub fn fetch_and_claim(&mut self) -> (u8, u8, u8, u8) {
+        let (op, x, y, z) = self.fetch_instruction();
+        if Self::writes_general_register_x(op) {
+            self.claim_local(x);
+        }
+        (op, x, y, z)
+    }
+
     /// One fetched instruction: fetch, decode, claim $X, enter the arm. The Rust's own prologue also refuses
     /// some operands and is not to be had; this is the least that any has to do.
     pub fn execute_instruction(&mut self) -> bool {
