@@ -137,6 +137,7 @@ fn grant(random: &mut Random, case: &Case) -> u64 {
     let reply = Model.run_parts(TRIED, (&mut state).into(), windows.lend(), &mut done);
     match random.below(16) {
         0 => random.pick(&[0, 1]),
+        1..=4 if matches!(reply, 1 | 2 | 22) => GRANT_MOST + 1,
         1 => random.pick(&[GRANT_MOST + 1, GRANT_MOST + 1, GRANT_MOST + 2, 1 << 32, 1 << 63, u64::MAX]),
         2 => random.below(done + 2),
         _ if reply == 0 => random.range(1, TRIED),
