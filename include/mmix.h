@@ -1,17 +1,19 @@
-/* mmix.h: the MMIX register machine, one step at a time.
+/* mmix.h: the MMIX register machine, a program or one step at a time.
  *
  * The library keeps nothing between calls, allocates nothing and calls nothing but memcpy and memset. Every function
- * takes any values, ends, and returns MMIX_DONE (0) or the number of a refusal (1 to 23). That each function does what it
+ * takes any values, ends, and returns MMIX_DONE (0) or the number of a refusal (1 to 25). That each function does what it
  * should is proved; README.md says what that means.
  *
  * What the caller owes:
  *  - a pointer is to as many bytes as the length beside it says, or to an object of its type; it may be null only where
  *    that length is 0. It is aligned as C demands of its type;
  *  - no two objects that one call may write to overlap, and none that it writes to overlaps one that it reads: image, the
- *    windows a and b, state, parts, which, start, length, backward and field are apart from each other;
+ *    windows a and b, state, parts, done, which, start, length, backward and field are apart from each other;
  *  - nothing else reads or writes them during the call.
  *
  * What can hurt:
+ *  - A run stops at a refusal, never at the halt code: a host that calls mmix_run again after 7 to 20 comes to the same
+ *    instruction again, or to the next one if it has moved PC.
  *  - The halt code stops nothing by itself. After a refusal by 7 to 20 it is 1, and the next step is done if the host asks
  *    for it. So a host looks at the reply of each call, or at the halt code, and decides whether to go on; no step and no
  *    exception sets the halt code back to 0.
@@ -45,14 +47,16 @@ extern "C" {
  *
  * 2.0: two windows are lent, a and b, each with its base, where 1 had one: mmix_step, mmix_step_lent, mmix_step_parts and
  * mmix_context take both, and mmix_context tells by *which where the context lies. A host with one window lends it as b, and
- * null with length 0 (base 0) as a; its steps then do what they did. MMIX_SHARED and MMIX_ACROSS are new. */
+ * null with length 0 (base 0) as a; its steps then do what they did. MMIX_SHARED and MMIX_ACROSS are new.
+ * 2.1: mmix_run and mmix_run_parts, with MMIX_NOT_FETCHED and MMIX_GRANT_TOO_LARGE. */
 #define MMIX_VERSION_MAJOR 2
-#define MMIX_VERSION_MINOR 0
+#define MMIX_VERSION_MINOR 1
 
-/* The replies. 1 to 6 and 22 leave every byte as it was; 7 to 18 set the halt code to 1 and leave all else; 19 and 20 set the
+/* The replies. 1 to 6, 22, 24 and 25 leave every byte as it was; 7 to 18 set the halt code to 1 and leave all else; 19 and 20 set the
  * halt code to 1 and the trip or trap registers, with PC where it was (an exception refused by 19 has also added to rA; a
  * store refused by 19 is made, and $X, rH and rR of an operation are written). 21 is the number of mmix_branch_field and
- * mmix_jump_field alone, and 23 that of mmix_context alone, which are given no state. */
+ * mmix_jump_field alone, and 23 that of mmix_context alone, which are given no state; 24 and 25 are those of mmix_run and
+ * mmix_run_parts alone. What a reply leaves of a run, it leaves of the instruction at which the run stopped. */
 enum mmix_reply {
     MMIX_DONE = 0,                /* The step or the exception was done. */
     MMIX_NOT_ADMISSIBLE = 1,      /* rG, rL, rA or the marks are out of range, or the image is not MMIX_IMAGE_LEN bytes. */
@@ -77,7 +81,9 @@ enum mmix_reply {
     MMIX_TRAPPED = 20,            /* TRAP that names no system call. */
     MMIX_OUT_OF_REACH = 21,       /* No field of either direction leads from the one address to the other. */
     MMIX_SHARED = 22,             /* The two windows share an octabyte. An empty one shares none. */
-    MMIX_ACROSS = 23              /* mmix_context: the context lies partly in one window and partly in the other. */
+    MMIX_ACROSS = 23,             /* mmix_context: the context lies partly in one window and partly in the other. */
+    MMIX_NOT_FETCHED = 24,        /* mmix_run: the tetra at PC lies in neither window: lend more, and run on. */
+    MMIX_GRANT_TOO_LARGE = 25     /* mmix_run: more than MMIX_GRANT_MAX instructions are granted. */
 };
 
 /* The opcodes that have an arm; every other byte is MMIX_NO_ARM. Of a pair with B at the end, that one goes backward; with I
@@ -136,6 +142,9 @@ enum mmix_flag {
 /* The longest window; each of the two may be so long. */
 #define MMIX_WINDOW_MAX 65536
 
+/* The most instructions that one run may be granted. */
+#define MMIX_GRANT_MAX 1000000
+
 /* Where the register stack starts: rO and rS of a fresh state. */
 #define MMIX_STACK_START UINT64_C(0x6000000000000000)
 
@@ -164,6 +173,16 @@ uint64_t mmix_initialize(uint8_t *image, size_t image_len);
 uint64_t mmix_step(uint64_t base_a, uint64_t base_b, uint8_t op, uint8_t x, uint8_t y, uint8_t z,
                    uint8_t *image, size_t image_len, uint8_t *a, size_t a_len, uint8_t *b, size_t b_len);
 
+/* Runs a program: up to `grant` instructions, one after the other, each fetched from the tetra at PC (whose low two bits are
+ * dropped for that alone). Each is a step, with one difference: an instruction that writes $X claims it before it reads its
+ * operands, and takes the claim back where it is refused by any number but 19.
+ *
+ * MMIX_DONE is the reply where the grant is spent: exactly `grant` instructions were done. Otherwise the reply is the number by
+ * which an instruction was refused, and PC is at it. *done is how many were done before, the refused one not among them. A
+ * program that ends by TRAP 0,Halt,0 is MMIX_NAMED_TRAP. Where 1, 2, 22 or 25 refuses the call as a whole, *done is 0. */
+uint64_t mmix_run(uint64_t base_a, uint64_t base_b, uint64_t grant, uint8_t *image, size_t image_len,
+                  uint8_t *a, size_t a_len, uint8_t *b, size_t b_len, uint64_t *done);
+
 /* The arithmetic exceptions that the instruction with bytes op, x, y, z raised: flags are those of enum mmix_flag, y_val and
  * z_val its operands. The leftmost one that rA enables is taken, a trip; those that rA does not enable are added to rA. With
  * none taken, PC moves to @ + 4. It needs no window. */
@@ -190,6 +209,11 @@ uint64_t mmix_step_parts(uint64_t base_a, uint64_t base_b, uint8_t op, uint8_t x
                          uint8_t *a, size_t a_len, uint8_t *b, size_t b_len);
 uint64_t mmix_exceptions_parts(uint8_t flags, uint8_t op, uint8_t x, uint8_t y, uint8_t z, uint64_t y_val, uint64_t z_val,
                                uint64_t general[256], uint64_t special[32], uint64_t *pc, uint64_t *halt, uint64_t marks);
+
+/* As mmix_run, on the parts of a state: the fastest way to run a program. */
+uint64_t mmix_run_parts(uint64_t base_a, uint64_t base_b, uint64_t grant, uint64_t general[256], uint64_t special[32],
+                        uint64_t *pc, uint64_t *halt, uint64_t marks, uint8_t *a, size_t a_len, uint8_t *b, size_t b_len,
+                        uint64_t *done);
 
 /* ---- saved contexts */
 
@@ -250,6 +274,19 @@ static inline uint64_t mmix_step_parts_in(const struct mmix_windows *lent, uint8
 {
     return mmix_step_parts(lent->base_a, lent->base_b, op, x, y, z, general, special, pc, halt, marks,
                            lent->a, lent->a_len, lent->b, lent->b_len);
+}
+
+static inline uint64_t mmix_run_in(const struct mmix_windows *lent, uint64_t grant, uint8_t *image, size_t image_len,
+                                   uint64_t *done)
+{
+    return mmix_run(lent->base_a, lent->base_b, grant, image, image_len, lent->a, lent->a_len, lent->b, lent->b_len, done);
+}
+
+static inline uint64_t mmix_run_parts_in(const struct mmix_windows *lent, uint64_t grant, uint64_t general[256],
+                                         uint64_t special[32], uint64_t *pc, uint64_t *halt, uint64_t marks, uint64_t *done)
+{
+    return mmix_run_parts(lent->base_a, lent->base_b, grant, general, special, pc, halt, marks,
+                          lent->a, lent->a_len, lent->b, lent->b_len, done);
 }
 
 /* Done, *context is the first of the *length bytes of the context; refused, it is null and *length is 0. */

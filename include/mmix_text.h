@@ -38,6 +38,8 @@ static inline const char *mmix_reply_text(uint64_t reply)
     case MMIX_OUT_OF_REACH: return "no field of either direction reaches that address";
     case MMIX_SHARED: return "the two windows share an octabyte";
     case MMIX_ACROSS: return "the context lies across both windows";
+    case MMIX_NOT_FETCHED: return "the tetra at PC lies in neither window";
+    case MMIX_GRANT_TOO_LARGE: return "more than 1,000,000 instructions are granted";
     default: return "no reply of this version";
     }
 }
