@@ -8,6 +8,7 @@ DEFINED ?= 2000
 SEED ?= 2009
 SCRIPT ?= examples/scripts/first.script
 PREFIX ?= /usr/local
+PROGRAMS ?= ../shared/programs
 ORACLE = build/oracle/release
 RUST_SRC = $(or $(MMIX_RUST_SRC),../shared/docs/src)
 LIB_DIR = $(or $(MMIX_LIB_DIR),build)
@@ -21,13 +22,14 @@ WARNINGS = -Wall -Wextra -Wpedantic -Werror
 HEADERS = build/mmix.h build/mmix_text.h
 VERSION = $(shell sed -n 's/^\#define MMIX_VERSION_[MI].* //p' include/mmix.h | paste -s -d .)
 
-.PHONY: help test prove bench scripts-test lib install host host-test oracle oracle-test differential guards mutants speed replay-list definitions constants clean need-rt need-gcc need-script
+.PHONY: help test prove bench scripts-test lib install host host-test programs oracle oracle-test differential guards mutants speed replay-list definitions constants clean need-rt need-gcc need-script
 
 help:
 	@echo 'make bench SCRIPT=path       the bench program on a script (examples/scripts/first.script)'
-	@echo 'make test                    the gate: all proofs and must-fail edits, the host, the scripts, the comparison with the Rust'
+	@echo 'make test                    the gate: all proofs and must-fail edits, the hosts, compiled programs, the scripts, the comparison with the Rust'
 	@echo 'make lib                     build/libmmix.a with its headers, proved'
 	@echo 'make host                    build and run examples/relay_host.c'
+	@echo 'make programs                run compiled programs (PROGRAMS=folder) by grants, and compare answers and counts'
 	@echo 'make install PREFIX=dir      libmmix.a, its headers and mmix.pc under dir (/usr/local)'
 	@echo 'make prove                   prove every crate, from what is proved already'
 	@echo 'make differential CASES=n    run n cases on the Rust and beside it; SEED=s for others'
@@ -53,7 +55,7 @@ test: need-rt need-gcc
 	@docs/check_contracts
 	@if $(MAKE) --no-print-directory -q build/ci.log; then echo 'proofs and edits: nothing has changed since they passed; make clean to repeat them'; \
 	  else $(MAKE) --no-print-directory build/ci.log; fi
-	@$(MAKE) --no-print-directory host-test scripts-test oracle-test differential
+	@$(MAKE) --no-print-directory host-test programs scripts-test oracle-test differential
 	@tail -n 1 build/ci.log
 
 # It is there only where `rt ci` has passed.
@@ -114,6 +116,14 @@ host-test: need-gcc build/relay_host
 	@for h in $(HEADERS); do gcc -std=c99 $(WARNINGS) -Ibuild -fsyntax-only -x c - < $$h || exit 1; done; echo 'the headers are C99'
 	@if ! command -v g++ >/dev/null 2>&1; then echo 'no test of the headers as C++: g++ is not on the PATH; install the package g++'; \
 	  else for h in $(HEADERS); do g++ -std=c++17 $(WARNINGS) -Ibuild -fsyntax-only -x c++ - < $$h || exit 1; done; echo 'the headers are C++17'; fi
+
+build/run_program: examples/run_program.c build/libmmix.a $(HEADERS)
+	@gcc -O2 -std=c99 $(WARNINGS) -Ibuild -o $@ $< build/libmmix.a
+
+# Programs that a compiler made, each to its end. Without their images it says so, and fails only where CI is true.
+programs: need-gcc build/run_program
+	@if [ -f '$(PROGRAMS)/manifest.json' ]; then build/run_program '$(PROGRAMS)'; \
+	  else echo 'no compiled programs: set PROGRAMS to the folder that has manifest.json and the images'; [ "$${CI:-}" != true ]; fi
 
 install: lib
 	@install -D -m 644 build/libmmix.a '$(DESTDIR)$(PREFIX)/lib/libmmix.a'

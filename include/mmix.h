@@ -52,9 +52,9 @@ extern "C" {
 #define MMIX_VERSION_MAJOR 2
 #define MMIX_VERSION_MINOR 1
 
-/* The replies. 1 to 6, 22, 24 and 25 leave every byte as it was; 7 to 18 set the halt code to 1 and leave all else; 19 and 20 set the
- * halt code to 1 and the trip or trap registers, with PC where it was (an exception refused by 19 has also added to rA; a
- * store refused by 19 is made, and $X, rH and rR of an operation are written). 21 is the number of mmix_branch_field and
+/* The replies. 1 to 6, 22, 24 and 25 leave every byte as it was; 7 to 18 set the halt code to 1 and leave all else; 19 and 20
+ * set the halt code to 1 and the trip or trap registers, with PC where it was (an exception refused by 19 has also added to
+ * rA; a store refused by 19 is made, and $X, rH and rR of an operation are written). 21 is the number of mmix_branch_field and
  * mmix_jump_field alone, and 23 that of mmix_context alone, which are given no state; 24 and 25 are those of mmix_run and
  * mmix_run_parts alone. What a reply leaves of a run, it leaves of the instruction at which the run stopped. */
 enum mmix_reply {
