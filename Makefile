@@ -28,7 +28,7 @@ help:
 	@echo 'make bench SCRIPT=path       the bench program on a script (examples/scripts/first.script)'
 	@echo 'make test                    the gate: all proofs and must-fail edits, the hosts, compiled programs, the scripts, the comparison with the Rust'
 	@echo 'make lib                     build/libmmix.a with its headers, proved'
-	@echo 'make host                    build and run examples/relay_host.c'
+	@echo 'make host                    build and run examples/relay_host.c and grading.c, a program that grades relays'
 	@echo 'make programs                run compiled programs (PROGRAMS=folder) by grants, and compare answers and counts'
 	@echo 'make install PREFIX=dir      libmmix.a, its headers and mmix.pc under dir (/usr/local)'
 	@echo 'make prove                   prove every crate, from what is proved already'
@@ -104,21 +104,23 @@ build/%.h: include/%.h
 	@mkdir -p build
 	@cp $< $@
 
-build/relay_host: examples/relay_host.c build/libmmix.a $(HEADERS)
+HOSTS = build/relay_host build/grading build/run_program
+LISTING = examples/grading/grading.mms
+
+$(HOSTS): build/%: examples/%.c build/libmmix.a $(HEADERS)
 	@gcc -O2 -std=c99 $(WARNINGS) -Ibuild -o $@ $< build/libmmix.a
 
-host: need-gcc build/relay_host
+host: need-gcc build/relay_host build/grading
 	@build/relay_host
+	@build/grading $(LISTING)
 
-# What the host prints is the stored text, and each header serves C99 and C++17 by itself.
-host-test: need-gcc build/relay_host
+# What the hosts print is the stored text, and each header serves C99 and C++17 by itself.
+host-test: need-gcc build/relay_host build/grading
 	@build/relay_host | diff examples/relay_host.out - && echo 'relay_host: prints what it should'
+	@build/grading $(LISTING) | diff examples/grading.out - && echo 'grading: prints what it should'
 	@for h in $(HEADERS); do gcc -std=c99 $(WARNINGS) -Ibuild -fsyntax-only -x c - < $$h || exit 1; done; echo 'the headers are C99'
 	@if ! command -v g++ >/dev/null 2>&1; then echo 'no test of the headers as C++: g++ is not on the PATH; install the package g++'; \
 	  else for h in $(HEADERS); do g++ -std=c++17 $(WARNINGS) -Ibuild -fsyntax-only -x c++ - < $$h || exit 1; done; echo 'the headers are C++17'; fi
-
-build/run_program: examples/run_program.c build/libmmix.a $(HEADERS)
-	@gcc -O2 -std=c99 $(WARNINGS) -Ibuild -o $@ $< build/libmmix.a
 
 # Programs that a compiler made, each to its end. Without their images it says so, and fails only where CI is true.
 programs: need-gcc build/run_program
