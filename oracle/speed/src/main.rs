@@ -9,10 +9,11 @@
 //! checked by the model, and set against a branch; a subject that has no such arm either has no times there. Arithmetic has
 //! in the Rust's column the operation alone, by Rust's own integers; a division there is one of 128 bits by 64, without
 //! the remainder. The window is lent as B; A is empty, or, where the name says so, the bench program's. Finding a field has a
-//! line of its own.
+//! line of its own. Runs have a table of their own (runs.rs).
 
 mod points;
 mod report;
+mod runs;
 
 use std::hint::black_box;
 use std::time::Instant;
@@ -257,11 +258,16 @@ fn main() {
 
     let (mut copy, mut fields) = (f64::INFINITY, [f64::INFINITY; 3]);
     let mut rows = vec![Row::NONE; points.len()];
+    let programs = runs::chosen(&subject, &only);
+    let mut times = vec![runs::Times::NONE; programs.len()];
     for _ in 0..PASSES {
         copy = copy.min(copied());
         fields.iter_mut().zip(found(&subject)).for_each(|(least, time)| *least = least.min(time));
         for (row, point) in rows.iter_mut().zip(&points) {
             *row = row.least(&measured(&subject, point));
+        }
+        for (least, program) in times.iter_mut().zip(&programs) {
+            *least = least.least(&runs::measured(&subject, program));
         }
     }
     println!(
@@ -271,4 +277,6 @@ fn main() {
     let [ahead, behind, none] = fields;
     println!("a jump's field: ahead {ahead:.1}, behind {behind:.1}, out of reach {none:.1}");
     report::print(&points, &rows, copy);
+    let branch = points.iter().position(|point| point.name == BRANCH).map_or(f64::NAN, |k| rows[k].arm);
+    runs::print(&programs, &times, branch);
 }
