@@ -14,8 +14,7 @@ use crate::subject::{Aim, Found, Subject};
 /// The reference's answer, or in words how a subject differs from it.
 pub fn compare(reference: &mut Reference, subjects: &[Box<dyn Subject>], case: &Case) -> Result<Answer, String> {
     let answer = reference.answer(case)?;
-    let runs = matches!(case.call, Call::Run { .. });
-    for subject in subjects.iter().filter(|subject| !runs || subject.runs()) {
+    for subject in subjects {
         let same = match case.call {
             Call::Initialize => initialize(subject.as_ref(), case, &answer),
             Call::Step(i) => step(subject.as_ref(), case, i, &answer),

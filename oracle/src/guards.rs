@@ -179,10 +179,6 @@ impl Subject for Guarded {
         self.subject.name()
     }
 
-    fn runs(&self) -> bool {
-        self.subject.runs()
-    }
-
     fn initialize(&self, image: &mut [u8]) -> u64 {
         self.call([image], |[image]| self.subject.initialize(image))
     }

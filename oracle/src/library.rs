@@ -76,6 +76,33 @@ unsafe extern "C" {
         b: *mut u8,
         b_len: usize,
     ) -> u64;
+    fn mmix_run(
+        base_a: u64,
+        base_b: u64,
+        grant: u64,
+        image: *mut u8,
+        image_len: usize,
+        a: *mut u8,
+        a_len: usize,
+        b: *mut u8,
+        b_len: usize,
+        done: *mut u64,
+    ) -> u64;
+    fn mmix_run_parts(
+        base_a: u64,
+        base_b: u64,
+        grant: u64,
+        general: *mut [u64; 256],
+        special: *mut [u64; 32],
+        pc: *mut u64,
+        halt: *mut u64,
+        marks: u64,
+        a: *mut u8,
+        a_len: usize,
+        b: *mut u8,
+        b_len: usize,
+        done: *mut u64,
+    ) -> u64;
     fn mmix_exceptions_parts(
         flags: u8,
         op: u8,
@@ -161,16 +188,20 @@ impl Subject for Library {
         }
     }
 
-    fn runs(&self) -> bool {
-        false
+    #[inline]
+    fn run(&self, grant: u64, image: &mut [u8], lent: Lent, done: &mut u64) -> u64 {
+        let Lent { at, a, b } = lent;
+        let (bytes, len) = (self.lent_mut(image), image.len());
+        let (in_a, in_b) = (self.lent_mut(a), self.lent_mut(b));
+        unsafe { mmix_run(at.a, at.b, grant, bytes, len, in_a, a.len(), in_b, b.len(), done) }
     }
 
-    fn run(&self, _grant: u64, _image: &mut [u8], _lent: Lent, _done: &mut u64) -> u64 {
-        unimplemented!("the library has no runs yet")
-    }
-
-    fn run_parts(&self, _grant: u64, _parts: Parts, _lent: Lent, _done: &mut u64) -> u64 {
-        unimplemented!("the library has no runs yet")
+    #[inline]
+    fn run_parts(&self, grant: u64, parts: Parts, lent: Lent, done: &mut u64) -> u64 {
+        let (Parts { general, special, pc, halt, marks }, Lent { at, a, b }) = (parts, lent);
+        let (in_a, in_b) = (self.lent_mut(a), self.lent_mut(b));
+        let (a_len, b_len) = (a.len(), b.len());
+        unsafe { mmix_run_parts(at.a, at.b, grant, general, special, pc, halt, marks, in_a, a_len, in_b, b_len, done) }
     }
 
     #[inline]

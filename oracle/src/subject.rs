@@ -40,10 +40,6 @@ pub struct Aim<'a> {
 
 pub trait Subject {
     fn name(&self) -> &'static str;
-    /// Whether it has runs.
-    fn runs(&self) -> bool {
-        true
-    }
     fn initialize(&self, image: &mut [u8]) -> u64;
     fn step(&self, i: Instruction, image: &mut [u8], lent: Lent) -> u64;
     fn exceptions(&self, flags: u8, of: Instruction, y_val: u64, z_val: u64, image: &mut [u8]) -> u64;

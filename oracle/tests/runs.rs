@@ -168,7 +168,7 @@ fn a_claim_comes_before_the_operands() {
 #[test]
 fn the_largest_grant() {
     let case = loaded(&[0xFD00_0000, 0xF1FF_FFFF], &[]);
-    for subject in subjects().iter().filter(|subject| subject.runs()) {
+    for subject in subjects() {
         let (mut state, mut windows, mut done) = (case.state.clone(), case.windows.clone(), 7);
         assert_eq!(subject.run_parts(GRANT_MOST, (&mut state).into(), windows.lend(), &mut done), 0);
         assert_eq!((done, &state), (GRANT_MOST, &case.state));

@@ -172,12 +172,12 @@ const ENTRIES: [(&str, Entry); 13] = [
         }
     }),
     ("mmix_run", |subject, lent| {
-        if let (Call::Run { grant }, true) = (lent.case.call, subject.runs()) {
+        if let Call::Run { grant } = lent.case.call {
             subject.run(grant, &mut lent.image, lent.windows.lend(), &mut 0);
         }
     }),
     ("mmix_run_parts", |subject, lent| {
-        if let (Call::Run { grant }, true) = (lent.case.call, subject.runs()) {
+        if let Call::Run { grant } = lent.case.call {
             subject.run_parts(grant, (&mut lent.state).into(), lent.windows.lend(), &mut 0);
         }
     }),
