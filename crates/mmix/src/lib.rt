@@ -165,7 +165,7 @@ pub extern "C" fn mmix_run(
     b: &mut [u8],
     done: &mut u64,
 ) -> u64
-    ensures { λ r. ⌜ RanImage (now (image .entry)) (lentAt «base_a» «base_b» (now (a .entry)) (now (b .entry))) «grant» r (now (done .exit))
+    ensures { λ r. ⌜ RanImage (now (image .entry)) (lentAt «base_a» «base_b» (now (a .entry)) (now (b .entry))) grant r (now (done .exit))
         (now (image .exit)) (lentAt «base_a» «base_b» (now (a .exit)) (now (b .exit))) ⌝ }
 {
     if image.len() != IMAGE_LEN {
@@ -282,7 +282,7 @@ pub extern "C" fn mmix_run_parts(
     done: &mut u64,
 ) -> u64
     ensures { λ r. ⌜ RanState (lentAt «base_a» «base_b» (now (a .entry)) (now (b .entry)))
-        (made (now (general .entry)) (now (special .entry)) (now (pc .entry)) (now (halt .entry)) marks) «grant» r (now (done .exit))
+        (made (now (general .entry)) (now (special .entry)) (now (pc .entry)) (now (halt .entry)) marks) grant r (now (done .exit))
         (made (now (general .exit)) (now (special .exit)) (now (pc .exit)) (now (halt .exit)) marks)
         (lentAt «base_a» «base_b» (now (a .exit)) (now (b .exit))) ⌝ }
 {
