@@ -2,27 +2,27 @@
 -- refusal leaves of the registers; then the instruction that a tetra says, with a claim and without.
 use mathlib.Core.Path.{_≡_, refl, sym, ap, _∙_}
 use mathlib.Core.Logic.{⊎-elim, inl, inr, _≢_}
-use mathlib.Core.Bool.{Bool, true, false, cond, _&&_, _||_}
+use mathlib.Core.Bool.{Bool, true, false, _&&_}
 use mathlib.Core.List.{List}
 use Prim.Native.Nat.{ℕ, _+_, _≤_, _<_, _^_}
 use native.Mathlib.Omega.{arith}
-use lib.Dec.{leb, ltb, eqb}
+use lib.Dec.{eqb}
 use lib.ListN.{length, getD, set}
 use lib.Seq.{ext-getD, set-getD, set-set}
-use borrow.Author.Tests.{eqb-true, eqb-false, eq-eqb, ne-eqb, leb-true, le-leb, lt-leb, lt-ltb, le-ltb}
+use borrow.Author.Tests.{eqb-false}
 use Rattle.model.specs.Fill.{over}
-use Rattle.model.specs.Registers.{rG, rL, sp, withParts, Sized, admissible, halted, withSpecial, cleared, claimLocal, isMarginal}
+use Rattle.model.specs.Registers.{rL, sp, withParts, Sized, admissible, halted, withSpecial, cleared, claimLocal, isMarginal}
 use Rattle.model.specs.Memory.{Windows, shapesOf}
 use Rattle.model.specs.Plan.{Outcome}
 use Rattle.model.specs.Opcodes.{armOf}
 use Rattle.model.specs.Step.{unruledBy, fromThree, stepOf, claims, opcodeIn, xIn, yIn, zIn, keepsClaim, settledBy, tetraPlan}
 use Rattle.model.specs.Fetched.{settled}
 use Rattle.model.specs.Leaves.{StepLeaves}
-use Rattle.model.specs.Numbers.{numberOf, replyOf}
+use Rattle.model.specs.Numbers.{numberOf}
 use Rattle.model.specs.Parts.{made}
 use Rattle.model.specs.declared.State.{State}
 use Rattle.model.specs.declared.Reply.{Reply}
-use Rattle.model.proofs.Bools.{and-left, and-right, on, or-left, or-right}
+use Rattle.model.proofs.Bools.{on, or-left, or-right}
 use Rattle.model.proofs.Fill.{length-over, over-in, over-below, over-above, lt-or-le}
 use Rattle.model.proofs.Numbers.{step-number}
 use Rattle.model.proofs.ItemInvariant.{Any}
@@ -31,9 +31,9 @@ use Rattle.model.proofs.ArmReplies.{three-replies}
 use Rattle.model.proofs.AdmissibleKept.{adm, claim-good}
 use Rattle.model.proofs.Leaves.{replies-leave}
 use Rattle.model.proofs.FetchedLeaves.{no-trap}
-use Rattle.model.proofs.Fetched.{settled-refused, settled-done, settled-nineteen, step-three, claim-admissible, instruction-claims, instruction-free}
+use Rattle.model.proofs.Fetched.{step-three, claim-admissible, instruction-claims, instruction-free}
 use Rattle.instruction.specs.StepAnswer.{Whole}
-use Rattle.instruction.specs.Arms.{carriedOut}
+use Rattle.instruction.specs.FetchedArms.{claimedOf, saidBy}
 
 -- ---- a claim made
 
@@ -134,9 +134,6 @@ module _ (w : Windows) (c : State) (op x y z : ℕ) (n : Sized c) (a : admissibl
 
 module _ (w : Windows) (s c : State) (op x y z : ℕ) (n : Sized s) (a : admissible s ≡ true) (u : unruledBy (shapesOf w) ≡ 0) (b : op < 256) (k : claims op ≡ true)
     (e : c ≡ claimLocal s x) where
-  abbrev claimedOutcome : Outcome State Windows
-  claimedOutcome = settled s (stepOf w (claimLocal s x) op x y z)
-
   pub claim-judged : admissible c ≡ true
   claim-judged = ap admissible e ∙ claim-admissible s x n a
 
@@ -147,17 +144,17 @@ module _ (w : Windows) (s c : State) (op x y z : ℕ) (n : Sized s) (a : admissi
     claimed-whole : Whole (stepOf w (claimLocal s x) op x y z) r t v
     claimed-whole = rw e at h
 
-    pub claim-kept : keepsClaim (numberOf r) ≡ true → Whole claimedOutcome r t v
+    pub claim-kept : keepsClaim (numberOf r) ≡ true → Whole (claimedOf w s op x y z) r t v
     claim-kept q = keeps w (claimLocal s x) op x y z m (claim-admissible s x n a) u b k r t v claimed-whole s q
 
-    pub claim-gone : keepsClaim (numberOf r) ≡ false → Whole claimedOutcome r (made (s .general) (set (t .special) rL (sp s rL)) (t .pc) (t .halt) (t .marks)) v
+    pub claim-gone : keepsClaim (numberOf r) ≡ false → Whole (claimedOf w s op x y z) r (made (s .general) (set (t .special) rL (sp s rL)) (t .pc) (t .halt) (t .marks)) v
     claim-gone q =
         takes-back w (claimLocal s x) op x y z m (claim-admissible s x n a) u b k r t v claimed-whole s q (s .general) (set (t .special) rL (sp s rL)) refl
         (ap (λ (i : List ℕ). set i rL (sp s rL)) (special-left w (claimLocal s x) op x y z m (claim-admissible s x n a) u b k r t v claimed-whole q) ∙ special-back s x)
 
     -- where the general registers were left alone
     pub claim-gone-clear : keepsClaim (numberOf r) ≡ false → c .general ≡ s .general
-        → Whole claimedOutcome r (made (t .general) (set (t .special) rL (sp s rL)) (t .pc) (t .halt) (t .marks)) v
+        → Whole (claimedOf w s op x y z) r (made (t .general) (set (t .special) rL (sp s rL)) (t .pc) (t .halt) (t .marks)) v
     claim-gone-clear q f =
         takes-back w (claimLocal s x) op x y z m (claim-admissible s x n a) u b k r t v claimed-whole s q (t .general) (set (t .special) rL (sp s rL))
         (general-left w (claimLocal s x) op x y z m (claim-admissible s x n a) u b k r t v claimed-whole q ∙ sym (ap (λ (i : State). i .general) e) ∙ f)
@@ -165,18 +162,9 @@ module _ (w : Windows) (s c : State) (op x y z : ℕ) (n : Sized s) (a : admissi
 
 -- ---- the instruction that a tetra says
 
-pub marginal-low : (s : State) (x : ℕ) → x < sp s rL → isMarginal s x ≡ false
-marginal-low s x l = rw (lt-leb (sp s rL) x l)
-
-pub marginal-high : (s : State) (x : ℕ) → sp s rL ≤ x → sp s rG ≤ x → isMarginal s x ≡ false
-marginal-high s x l g = rw (le-leb (sp s rL) x l, le-ltb x (sp s rG) g)
-
-pub marginal-is : (s : State) (x : ℕ) → sp s rL ≤ x → x < sp s rG → isMarginal s x ≡ true
-marginal-is s x l g = rw (le-leb (sp s rL) x l, lt-ltb x (sp s rG) g)
-
 module _ (w : Windows) (s : State) (n : Sized s) (a : admissible s ≡ true) (u : unruledBy (shapesOf w) ≡ 0) (tetra : ℕ) (b : tetra < 2 ^ 32) (r : Reply) (t : State) (v : Windows) where
-  pub tetra-claims : claims (opcodeIn tetra) ≡ true → Whole (settled s (stepOf w (claimLocal s (xIn tetra)) (opcodeIn tetra) (xIn tetra) (yIn tetra) (zIn tetra))) r t v
-      → Whole (carriedOut w s (tetraPlan s tetra)) r t v
+  pub tetra-claims : claims (opcodeIn tetra) ≡ true → Whole (claimedOf w s (opcodeIn tetra) (xIn tetra) (yIn tetra) (zIn tetra)) r t v
+      → Whole (saidBy w s tetra) r t v
   unfolding tetraPlan
   tetra-claims k h =
       rw (
@@ -186,14 +174,14 @@ module _ (w : Windows) (s : State) (n : Sized s) (a : admissible s ≡ true) (u 
 
   -- an opcode that claims nothing, or a claim that changes nothing
   pub tetra-plain : (isMarginal s (xIn tetra) && claims (opcodeIn tetra)) ≡ false → Whole (stepOf w s (opcodeIn tetra) (xIn tetra) (yIn tetra) (zIn tetra)) r t v
-      → Whole (carriedOut w s (tetraPlan s tetra)) r t v
+      → Whole (saidBy w s tetra) r t v
   tetra-plain e h = go (claims (opcodeIn tetra)) refl
     where
       local : (p q : Bool) → (p && q) ≡ false → q ≡ true → p ≡ false
       local true q f g = sym g ∙ f
       local false q f g = refl
 
-      go : (p : Bool) → claims (opcodeIn tetra) ≡ p → Whole (carriedOut w s (tetraPlan s tetra)) r t v
+      go : (p : Bool) → claims (opcodeIn tetra) ≡ p → Whole (saidBy w s tetra) r t v
       go false k =
           unfold tetraPlan in (rw (instruction-free w s (opcodeIn tetra) (xIn tetra) (yIn tetra) (zIn tetra) k, ← step-three w s (opcodeIn tetra) (xIn tetra) (yIn tetra) (zIn tetra) a u) h)
       go true k = tetra-claims k (rw same (settles (keepsClaim (numberOf r)) refl))

@@ -11,7 +11,7 @@ use Rattle.model.specs.Memory.{shapeOf, Windows, Shapes, shapesOf, holder, both
 use Rattle.model.specs.Plan.{look}
 use Rattle.model.specs.Opcodes.{tetra}
 use Rattle.model.specs.LoadStore.{operandIn}
-use Rattle.model.specs.Step.{unruledBy, tetraAt, tetraPlan, fetchedOf, fetched, mmix}
+use Rattle.model.specs.Step.{unruledBy, tetraAt, fetchedOf, fetched, mmix}
 use Rattle.model.specs.Run.{Stopped, runFor, grantMost, runOf}
 use Rattle.model.specs.Order.{Passes}
 use Rattle.model.specs.Numbers.{numberOf, replyOf}
@@ -28,7 +28,7 @@ use Rattle.model.proofs.RunMeant.{Ready, fetched-shapes, fetched-ready, run-unr
 use Rattle.model.proofs.RunTurns.{Turned, turned-none, turned-done, turned-refused, turned-spent}
 use Rattle.stack.proofs.PassedOctas.{held-inside, held-none}
 use Rattle.instruction.specs.StepAnswer.{Whole, RunWhole}
-use Rattle.instruction.specs.Arms.{carriedOut}
+use Rattle.instruction.specs.FetchedArms.{saidBy}
 
 -- ---- one instruction
 
@@ -39,7 +39,7 @@ module _ (w : Windows) (s : State) (a : admissible s ≡ true) (u : unruledBy (s
 
   -- v is the octabyte at PC, t the tetra there
   pub was-fetched : (h ≡ 2 → ⊥) → (v t : ℕ) → v ≡ look both w (s .pc) → t ≡ operandIn tetra (s .pc) v
-      → (r : Reply) (n : State) (m : Windows) → Whole (carriedOut w s (tetraPlan s t)) r n m → Whole (fetchedOf w s) r n m
+      → (r : Reply) (n : State) (m : Windows) → Whole (saidBy w s t) r n m → Whole (fetchedOf w s) r n m
   was-fetched q v t p f r n m g =
       let same : t ≡ tetraAt s (look both w (s .pc)) = f ∙ (unfold tetraAt in ap (λ (k : ℕ). operandIn tetra (s .pc) k) p) in
       rw (fetched-there w s a u (held-inside (shapesOf w) (s .pc) (λ k. q (e ∙ k))), ← same) g

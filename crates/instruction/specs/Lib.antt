@@ -2,3 +2,4 @@
 pub mod NoMemoryArms
 pub mod StepAnswer
 pub mod Arms
+pub mod FetchedArms

@@ -5,15 +5,14 @@ ghost use mathlib.Core.Bool.{true, _&&_};
 ghost use mathlib.Core.List.{List};
 ghost use Prim.Native.Nat.{ℕ, _^_, _≤_, _<_};
 ghost use lib.ListN.{getD};
-ghost use Rattle.model.specs.Registers.{rL, admissible, isMarginal, claimLocal};
+ghost use Rattle.model.specs.Registers.{rL, admissible, isMarginal};
 ghost use Rattle.model.specs.Memory.{shapesOf, both};
 ghost use Rattle.model.specs.Numbers.{numberOf};
-ghost use Rattle.model.specs.Fetched.{settled};
-ghost use Rattle.model.specs.Step.{unruledBy, stepOf, claims, keepsClaim, tetraPlan, fetchedOf, fetched, mmix};
+ghost use Rattle.model.specs.Step.{unruledBy, claims, keepsClaim, fetchedOf, fetched, mmix};
 ghost use Rattle.model.specs.Run.{runFor, runOf};
 ghost use Rattle.model.specs.Parts.{made, lent};
 ghost use Rattle.instruction.specs.StepAnswer.{Whole, RunWhole};
-ghost use Rattle.instruction.specs.Arms.{carriedOut};
+ghost use Rattle.instruction.specs.FetchedArms.{claimedOf, saidBy};
 use super::step;
 use model::Bases;
 use model::Reply;
@@ -97,9 +96,8 @@ fn claimed_clear(
         × (isMarginal (made (now general) (now special) (now pc) (now halt) marks) x ≡ true)
         × ((k : ℕ) → getD (now special) rL 0 ≤ k → k ≤ x → getD (now general) k 0 ≡ 0) ⌝ }
     ensures { λ r. ⌜ Whole
-        (settled (made (now (general .entry)) (now (special .entry)) (now (pc .entry)) (now (halt .entry)) marks)
-        (stepOf (lent at (now (a .entry)) (now (b .entry)))
-        (claimLocal (made (now (general .entry)) (now (special .entry)) (now (pc .entry)) (now (halt .entry)) marks) x) op x y z))
+        (claimedOf (lent at (now (a .entry)) (now (b .entry)))
+        (made (now (general .entry)) (now (special .entry)) (now (pc .entry)) (now (halt .entry)) marks) op x y z)
         r (made (now (general .exit)) (now (special .exit)) (now (pc .exit)) (now (halt .exit)) marks) (lent at (now (a .exit)) (now (b .exit))) ⌝ }
 {
     stack::pass::counted(general, special);
@@ -133,9 +131,8 @@ fn claimed_kept(
         × (claims op ≡ true)
         × (isMarginal (made (now general) (now special) (now pc) (now halt) marks) x ≡ true) ⌝ }
     ensures { λ r. ⌜ Whole
-        (settled (made (now (general .entry)) (now (special .entry)) (now (pc .entry)) (now (halt .entry)) marks)
-        (stepOf (lent at (now (a .entry)) (now (b .entry)))
-        (claimLocal (made (now (general .entry)) (now (special .entry)) (now (pc .entry)) (now (halt .entry)) marks) x) op x y z))
+        (claimedOf (lent at (now (a .entry)) (now (b .entry)))
+        (made (now (general .entry)) (now (special .entry)) (now (pc .entry)) (now (halt .entry)) marks) op x y z)
         r (made (now (general .exit)) (now (special .exit)) (now (pc .exit)) (now (halt .exit)) marks) (lent at (now (a .exit)) (now (b .exit))) ⌝ }
 {
     stack::pass::counted(general, special);
@@ -171,9 +168,8 @@ fn claimed(
         × (claims op ≡ true)
         × (isMarginal (made (now general) (now special) (now pc) (now halt) marks) x ≡ true) ⌝ }
     ensures { λ r. ⌜ Whole
-        (settled (made (now (general .entry)) (now (special .entry)) (now (pc .entry)) (now (halt .entry)) marks)
-        (stepOf (lent at (now (a .entry)) (now (b .entry)))
-        (claimLocal (made (now (general .entry)) (now (special .entry)) (now (pc .entry)) (now (halt .entry)) marks) x) op x y z))
+        (claimedOf (lent at (now (a .entry)) (now (b .entry)))
+        (made (now (general .entry)) (now (special .entry)) (now (pc .entry)) (now (halt .entry)) marks) op x y z)
         r (made (now (general .exit)) (now (special .exit)) (now (pc .exit)) (now (halt .exit)) marks) (lent at (now (a .exit)) (now (b .exit))) ⌝ }
 {
     let rl = special[State::RL];
@@ -199,9 +195,8 @@ fn attempt(
         × (unruledBy (shapesOf (lent at (now a) (now b))) ≡ 0)
         × (tetra < 2 ^ 32) ⌝ }
     ensures { λ r. ⌜ Whole
-        (carriedOut (lent at (now (a .entry)) (now (b .entry)))
-        (made (now (general .entry)) (now (special .entry)) (now (pc .entry)) (now (halt .entry)) marks)
-        (tetraPlan (made (now (general .entry)) (now (special .entry)) (now (pc .entry)) (now (halt .entry)) marks) tetra))
+        (saidBy (lent at (now (a .entry)) (now (b .entry)))
+        (made (now (general .entry)) (now (special .entry)) (now (pc .entry)) (now (halt .entry)) marks) tetra)
         r (made (now (general .exit)) (now (special .exit)) (now (pc .exit)) (now (halt .exit)) marks) (lent at (now (a .exit)) (now (b .exit))) ⌝ }
 {
     stack::pass::counted(general, special);

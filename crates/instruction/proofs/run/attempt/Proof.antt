@@ -1,7 +1,6 @@
 -- `attempt` meets its contract: a claim of a marginal register, or the arm alone.
 use mathlib.Core.Path.{_≡_, sym, _∙_}
 use mathlib.Core.Bool.{true, _&&_}
-use native.Mathlib.Omega.{arith}
 use borrow.Author.Needs.{needs}
 use Rattle.model.specs.Registers.{Sized, isMarginal}
 use Rattle.model.specs.Step.{claims, opcodeIn, xIn}

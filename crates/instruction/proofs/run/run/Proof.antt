@@ -1,6 +1,5 @@
 -- `run` meets its contract: 1, 2, 22 and 25 are the four tests, and else it is the turns.
 use mathlib.Core.Path.{sym, _∙_}
-use native.Mathlib.Omega.{arith}
 use borrow.Author.Needs.{needs}
 use borrow.Author.Tests.{not-true, not-false}
 use Rattle.model.specs.Parts.{made, lent}

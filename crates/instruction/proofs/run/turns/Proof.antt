@@ -1,5 +1,5 @@
 -- `turns` meets its contract. The loop's invariant: i turns are done, and the rest of the grant is to be run from here.
-use mathlib.Core.Path.{_≡_, refl, sym, ap, _∙_}
+use mathlib.Core.Path.{_≡_, refl, sym, _∙_}
 use Prim.Native.Nat.{_-_}
 use native.Mathlib.Omega.{arith}
 use lib.ListN.{length}
