@@ -27,9 +27,9 @@
  * Threads: a function touches only what it is handed, so threads may call any of them at the same time, each on objects of
  * its own.
  *
- * Stack, most that was measured, in bytes: mmix_step_lent 5,100; mmix_decode 4,700; mmix_step, mmix_exceptions,
- * mmix_initialize and mmix_encode 2,900; mmix_step_parts, mmix_exceptions_parts and mmix_context 400; mmix_branch_field and
- * mmix_jump_field none. There is no recursion.
+ * Stack, most that was measured, in bytes: mmix_step_lent 5,800; mmix_run 5,600; mmix_decode 4,700; mmix_step 3,500;
+ * mmix_run_parts 3,100; mmix_exceptions, mmix_initialize and mmix_encode 2,500; mmix_step_parts 1,000; mmix_context,
+ * mmix_exceptions_parts 300; mmix_branch_field and mmix_jump_field none. There is no recursion.
  */
 #ifndef MMIX_H
 #define MMIX_H
