@@ -2,7 +2,7 @@
 -- refusal leaves of the registers; then the instruction that a tetra says, with a claim and without.
 use mathlib.Core.Path.{_≡_, refl, sym, ap, _∙_}
 use mathlib.Core.Logic.{⊎-elim, inl, inr, _≢_}
-use mathlib.Core.Bool.{Bool, true, false, _&&_}
+use mathlib.Core.Bool.{Bool, true, false, not, _&&_}
 use mathlib.Core.List.{List}
 use Prim.Native.Nat.{ℕ, _+_, _≤_, _<_, _^_}
 use native.Mathlib.Omega.{arith}
@@ -14,7 +14,7 @@ use Rattle.model.specs.Fill.{over}
 use Rattle.model.specs.Registers.{rL, sp, withParts, Sized, admissible, halted, withSpecial, cleared, claimLocal, isMarginal}
 use Rattle.model.specs.Memory.{Windows, shapesOf}
 use Rattle.model.specs.Plan.{Outcome}
-use Rattle.model.specs.Opcodes.{armOf}
+use Rattle.model.specs.Opcodes.{firstBranch, lastBranch, among, armOf}
 use Rattle.model.specs.Step.{unruledBy, fromThree, stepOf, claims, opcodeIn, xIn, yIn, zIn, keepsClaim, settledBy, tetraPlan}
 use Rattle.model.specs.Fetched.{settled}
 use Rattle.model.specs.Leaves.{StepLeaves}
@@ -22,7 +22,7 @@ use Rattle.model.specs.Numbers.{numberOf}
 use Rattle.model.specs.Parts.{made}
 use Rattle.model.specs.declared.State.{State}
 use Rattle.model.specs.declared.Reply.{Reply}
-use Rattle.model.proofs.Bools.{on, or-left, or-right}
+use Rattle.model.proofs.Bools.{on, each, at-each, or-left, or-right}
 use Rattle.model.proofs.Fill.{length-over, over-in, over-below, over-above, lt-or-le}
 use Rattle.model.proofs.Numbers.{step-number}
 use Rattle.model.proofs.ItemInvariant.{Any}
@@ -162,6 +162,19 @@ module _ (w : Windows) (s c : State) (op x y z : ℕ) (n : Sized s) (a : admissi
 
 -- ---- the instruction that a tetra says
 
+-- a branch claims nothing
+branches-free : each 256 (λ op. not (among firstBranch lastBranch op && claims op)) ≡ true
+unfolding each claims
+branches-free = refl
+
+branch-free : (op : ℕ) → op < 256 → among firstBranch lastBranch op ≡ true → claims op ≡ false
+branch-free op l h = go (among firstBranch lastBranch op) (claims op) h (at-each 256 (λ k. not (among firstBranch lastBranch k && claims k)) branches-free op l)
+  where
+    go : (p q : Bool) → p ≡ true → not (p && q) ≡ true → q ≡ false
+    go true true e f = sym f
+    go true false e f = refl
+    go false q e f = (cc)
+
 module _ (w : Windows) (s : State) (n : Sized s) (a : admissible s ≡ true) (u : unruledBy (shapesOf w) ≡ 0) (tetra : ℕ) (b : tetra < 2 ^ 32) (r : Reply) (t : State) (v : Windows) where
   pub tetra-claims : claims (opcodeIn tetra) ≡ true → Whole (claimedOf w s (opcodeIn tetra) (xIn tetra) (yIn tetra) (zIn tetra)) r t v
       → Whole (saidBy w s tetra) r t v
@@ -195,3 +208,10 @@ module _ (w : Windows) (s : State) (n : Sized s) (a : admissible s ≡ true) (u 
               takes-back w s (opcodeIn tetra) (xIn tetra) (yIn tetra) (zIn tetra) n a u (omega arith) k r t v h s f (t .general) (t .special)
               (general-left w s (opcodeIn tetra) (xIn tetra) (yIn tetra) (zIn tetra) n a u (omega arith) k r t v h f)
               (special-left w s (opcodeIn tetra) (xIn tetra) (yIn tetra) (zIn tetra) n a u (omega arith) k r t v h f)
+
+  pub tetra-branch : among firstBranch lastBranch (opcodeIn tetra) ≡ true → Whole (stepOf w s (opcodeIn tetra) (xIn tetra) (yIn tetra) (zIn tetra)) r t v → Whole (saidBy w s tetra) r t v
+  tetra-branch e h = tetra-plain (none (isMarginal s (xIn tetra)) (claims (opcodeIn tetra)) (branch-free (opcodeIn tetra) (omega arith) e)) h
+    where
+      none : (p q : Bool) → q ≡ false → (p && q) ≡ false
+      none true q f = f
+      none false q f = refl

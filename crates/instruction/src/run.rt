@@ -13,7 +13,9 @@ ghost use Rattle.model.specs.Run.{runFor, runOf};
 ghost use Rattle.model.specs.Parts.{made, lent};
 ghost use Rattle.instruction.specs.StepAnswer.{Whole, RunWhole};
 ghost use Rattle.instruction.specs.FetchedArms.{claimedOf, saidBy};
+use super::control;
 use super::step;
+use decode::opcode;
 use model::Bases;
 use model::Reply;
 use model::State;
@@ -57,7 +59,7 @@ fn is_claimed(special: &[u64; 32], op: u8, x: u8) -> bool
     if rg <= reg {
         return false;
     }
-    decode::opcode::claims(op)
+    opcode::claims(op)
 }
 
 /// Whether the registers from `from` up to $x are all zero.
@@ -179,7 +181,7 @@ fn claimed(
     claimed_kept(general, special, pc, halt, marks, a, b, at, op, x, y, z)
 }
 
-/// The instruction that a tetra says, from 3 on.
+/// The instruction that a tetra says, from 3 on. A branch claims nothing, and is done here: what a loop does most is not to wait for the choice.
 fn attempt(
     general: &mut [u64; 256],
     special: &mut [u64; 32],
@@ -204,6 +206,9 @@ fn attempt(
     let x = (tetra / 0x1_0000 % 0x100) as u8;
     let y = (tetra / 0x100 % 0x100) as u8;
     let z = (tetra % 0x100) as u8;
+    if opcode::is_among(op, opcode::FIRST_BRANCH, opcode::LAST_BRANCH) {
+        return control::branch(general, pc, op, x, y, z);
+    }
     if is_claimed(special, op, x) {
         return claimed(general, special, pc, halt, marks, a, b, at, op, x, y, z);
     }

@@ -1,12 +1,15 @@
--- `attempt` meets its contract: a claim of a marginal register, or the arm alone.
+-- `attempt` meets its contract: a branch, which claims nothing; a claim of a marginal register; or the arm alone.
 use mathlib.Core.Path.{_≡_, sym, _∙_}
 use mathlib.Core.Bool.{true, _&&_}
 use borrow.Author.Needs.{needs}
 use Rattle.model.specs.Registers.{Sized, isMarginal}
-use Rattle.model.specs.Step.{claims, opcodeIn, xIn}
+use Rattle.model.specs.Opcodes.{firstBranch, lastBranch, among}
+use Rattle.model.specs.Step.{claims, opcodeIn, xIn, yIn, zIn}
 use Rattle.model.specs.Parts.{made, lent}
 use Rattle.model.proofs.Bools.{and-left, and-right}
-use Rattle.instruction.proofs.ClaimTakenBack.{tetra-claims, tetra-plain}
+use Rattle.decode.proofs.Groups.{branch-arm}
+use Rattle.instruction.proofs.ControlArms.{step-branch}
+use Rattle.instruction.proofs.ClaimTakenBack.{tetra-claims, tetra-plain, tetra-branch}
 use Rattle.instruction.proofs.run.attempt.Statement.{statement}
 use Rattle.instruction.proofs.run.attempt.Tie as tie
 
@@ -25,16 +28,35 @@ cast-y c = search needs
 cast-z : tie.Need-cast-z
 cast-z c = search needs
 
+is-among-requires : tie.Need-is-among-requires
+is-among-requires c κs = search needs
+
+branch-requires : tie.Need-branch-requires
+branch-requires c κs = search needs
+
+returns : tie.Need-returns
+returns c =
+    let then = c .before .before .before in
+    let counted = then .before .before in
+    let start = counted .before .before .before .before .before in
+    let a = start .args in
+    let w = lent (a .at) (a .a .now) (a .b .now) in
+    let s = made (a .general .now) (a .special .now) (a .pc .now) (a .halt .now) (a .marks) in
+    let n : Sized s = record { generals = counted .counted .ensures .0; specials = counted .counted .ensures .1 } in
+    let is : among firstBranch lastBranch (opcodeIn (a .tetra)) ≡ true = sym (then .before .is-among .ensures) ∙ then .if1 .taken in
+    tetra-branch w s n (start .pre .0) (start .pre .1) (a .tetra) (start .pre .2) _ (made _ _ _ _ _) _ is
+    (step-branch w s (start .pre .0) (start .pre .1) (opcodeIn (a .tetra)) (xIn (a .tetra)) (yIn (a .tetra)) (zIn (a .tetra)) _ (made _ _ _ _ _) (branch-arm (opcodeIn (a .tetra)) is) (c .branch .ensures _ _ _))
+
 is-claimed-requires : tie.Need-is-claimed-requires
 is-claimed-requires c κs = search needs
 
 claimed-requires : tie.Need-claimed-requires
 claimed-requires c κs =
     let then = c .before .before .before .before .before .before in
-    let start = then .before .before .before .before .before .before .before .before in
+    let start = then .before .before .before .before .before .before .before .before .before .before in
     let a = start .args in
     let s = made (a .general .now) (a .special .now) (a .pc .now) (a .halt .now) (a .marks) in
-    let both : (isMarginal s (xIn (a .tetra)) && claims (opcodeIn (a .tetra))) ≡ true = sym (then .before .is-claimed .ensures (a .general .now) (a .pc .now) (a .halt .now) (a .marks)) ∙ then .if1 .taken in
+    let both : (isMarginal s (xIn (a .tetra)) && claims (opcodeIn (a .tetra))) ≡ true = sym (then .before .is-claimed .ensures (a .general .now) (a .pc .now) (a .halt .now) (a .marks)) ∙ then .if2 .taken in
     (start .pre .0, start .pre .1, and-right (isMarginal s (xIn (a .tetra))) (claims (opcodeIn (a .tetra))) both, and-left (isMarginal s (xIn (a .tetra))) (claims (opcodeIn (a .tetra))) both)
 
 same-length : tie.Need-same-length
@@ -43,17 +65,17 @@ same-length c = search needs
 same-length-2 : tie.Need-same-length-2
 same-length-2 c = search needs
 
-returns : tie.Need-returns
-returns c =
+returns-2 : tie.Need-returns-2
+returns-2 c =
     let call = c .before .before .before .before in
     let then = call .before .before .before .before .before .before .before in
-    let counted = then .before .before .before in
+    let counted = then .before .before .before .before .before in
     let start = counted .before .before .before .before .before in
     let a = start .args in
     let w = lent (a .at) (a .a .now) (a .b .now) in
     let s = made (a .general .now) (a .special .now) (a .pc .now) (a .halt .now) (a .marks) in
     let n : Sized s = record { generals = counted .counted .ensures .0; specials = counted .counted .ensures .1 } in
-    let both : (isMarginal s (xIn (a .tetra)) && claims (opcodeIn (a .tetra))) ≡ true = sym (then .before .is-claimed .ensures (a .general .now) (a .pc .now) (a .halt .now) (a .marks)) ∙ then .if1 .taken in
+    let both : (isMarginal s (xIn (a .tetra)) && claims (opcodeIn (a .tetra))) ≡ true = sym (then .before .is-claimed .ensures (a .general .now) (a .pc .now) (a .halt .now) (a .marks)) ∙ then .if2 .taken in
     tetra-claims w s n (start .pre .0) (start .pre .1) (a .tetra) (start .pre .2) _ (made _ _ _ _ _) _ (and-right (isMarginal s (xIn (a .tetra))) (claims (opcodeIn (a .tetra))) both) (call .claimed .ensures)
 
 dispatch-requires : tie.Need-dispatch-requires
@@ -65,17 +87,17 @@ same-length-3 c = search needs
 same-length-4 : tie.Need-same-length-4
 same-length-4 c = search needs
 
-returns-2 : tie.Need-returns-2
-returns-2 c =
+returns-3 : tie.Need-returns-3
+returns-3 c =
     let call = c .before .before .before .before in
     let then = call .before .before .before .before .before .before .before in
-    let counted = then .before .before .before in
+    let counted = then .before .before .before .before .before in
     let start = counted .before .before .before .before .before in
     let a = start .args in
     let w = lent (a .at) (a .a .now) (a .b .now) in
     let s = made (a .general .now) (a .special .now) (a .pc .now) (a .halt .now) (a .marks) in
     let n : Sized s = record { generals = counted .counted .ensures .0; specials = counted .counted .ensures .1 } in
-    tetra-plain w s n (start .pre .0) (start .pre .1) (a .tetra) (start .pre .2) _ (made _ _ _ _ _) _ (sym (then .before .is-claimed .ensures (a .general .now) (a .pc .now) (a .halt .now) (a .marks)) ∙ then .if1 .left) (call .dispatch .ensures)
+    tetra-plain w s n (start .pre .0) (start .pre .1) (a .tetra) (start .pre .2) _ (made _ _ _ _ _) _ (sym (then .before .is-claimed .ensures (a .general .now) (a .pc .now) (a .halt .now) (a .marks)) ∙ then .if2 .left) (call .dispatch .ensures)
 
 pub attempt-spec : {M : Type 1} → statement M
 attempt-spec =
@@ -86,12 +108,15 @@ attempt-spec =
     cast-x
     cast-y
     cast-z
+    is-among-requires
+    branch-requires
+    returns
     is-claimed-requires
     claimed-requires
     same-length
     same-length-2
-    returns
+    returns-2
     dispatch-requires
     same-length-3
     same-length-4
-    returns-2)
+    returns-3)
