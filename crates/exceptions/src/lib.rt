@@ -2,10 +2,9 @@
 ghost use mathlib.Core.Path.{_≡_};
 ghost use mathlib.Core.Bool.{_&&_};
 ghost use mathlib.Core.List.{List};
-ghost use Prim.Native.Nat.{ℕ, _+_, _/_, _%_, _^_, _<_, _≤_};
+ghost use Prim.Native.Nat.{ℕ, _/_, _%_, _^_, _<_, _≤_};
 ghost use lib.Dec.{eqb};
-ghost use lib.Count.{leadingZeros};
-ghost use Rattle.model.specs.Trips.{interrupted, tripTo, withAdded, raised};
+ghost use Rattle.model.specs.Trips.{interrupted, tripTo, vectorOf, leftmost, withAdded, raised};
 ghost use Rattle.model.specs.Step.{isNamed, exceptionOf};
 ghost use Rattle.model.specs.Parts.{made};
 ghost use Rattle.exceptions.specs.Interrupts.{tripOf, trapStep};
@@ -168,23 +167,34 @@ pub fn trap_arm(
     Reply::Trapped
 }
 
-/// The flags raised and disabled are added to rA.
-fn add_disabled(special: &mut [u64; 32], flags: u8)
+/// The leftmost of some flags, 0 where there is none.
+fn leftmost_flag(flags: u8) -> u8
+    ensures { λ r. ⌜ r ≡ leftmost flags ⌝ }
+{
+    if flags == 0 {
+        return 0;
+    }
+    0x80 >> u8::leading_zeros(flags)
+}
+
+/// The flags raised but the taken one are added to rA, enabled or not.
+fn add_untaken(special: &mut [u64; 32], flags: u8)
     ensures { λ _. ⌜ ((general : List ℕ) (pc halt marks : ℕ) → made general (now (special .exit)) pc halt marks
         ≡ withAdded (made general (now (special .entry)) pc halt marks) flags) ⌝ }
 {
     let ra = special[State::RA];
-    let enables = ((ra / 256) % 256) as u8;
-    let off = flags & (255 - enables);
-    special[State::RA] = ra | (off as u64);
+    let enabled = flags & (((ra / 256) % 256) as u8);
+    let taken = leftmost_flag(enabled);
+    let others = flags & (255 - taken);
+    special[State::RA] = ra | (others as u64);
 }
 
 /// The vector of the leftmost of some flags.
-fn vector_of(taken: u8) -> u64
-    requires { ⌜ 0 < taken ⌝ }
-    ensures { λ r. ⌜ (r ≡ leadingZeros 8 taken + 1) × (r ≤ 8) ⌝ }
+fn vector_of(enabled: u8) -> u64
+    requires { ⌜ 0 < enabled ⌝ }
+    ensures { λ r. ⌜ (r ≡ vectorOf enabled) × (r ≤ 8) ⌝ }
 {
-    u8::leading_zeros(taken) as u64 + 1
+    u8::leading_zeros(enabled) as u64 + 1
 }
 
 /// A byte of flags is raised by an instruction of word `word` with two operands.
@@ -204,13 +214,13 @@ pub fn raise(
         r (made (now (general .exit)) (now (special .exit)) (now (pc .exit)) (now (halt .exit)) marks) ⌝ }
 {
     let ra = special[State::RA];
-    let taken = flags & (((ra / 256) % 256) as u8);
-    add_disabled(special, flags);
-    if taken == 0 {
+    let enabled = flags & (((ra / 256) % 256) as u8);
+    add_untaken(special, flags);
+    if enabled == 0 {
         *pc = decode::target::following(*pc);
         return Reply::Done;
     }
-    let k = vector_of(taken);
+    let k = vector_of(enabled);
     trip(general, special, pc, halt, marks, k, word, u, v)
 }
 

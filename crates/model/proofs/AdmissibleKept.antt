@@ -13,7 +13,7 @@ use Rattle.model.specs.Fill.{over}
 use Rattle.model.specs.Registers.{withParts, rJ, rO, rS, rG, rL, rA, sp, following, Sized, admissible, goes, halted, withSpecial, cleared, claimLocal, stored, setRegister, putLocals, putGlobals, spilled}
 use Rattle.model.specs.Frames.{slid, slide, pushedRule, pushed, countOf, restored, unslide, popped}
 use Rattle.model.specs.Contexts.{savedUnspilled, savedState, unsavedSpecial, unsavedGeneral, unsavedUnspilled, unsaved}
-use Rattle.model.specs.Trips.{interrupted, tripped, trapped, enables, added, withAdded}
+use Rattle.model.specs.Trips.{interrupted, tripped, trapped, taken, added, withAdded}
 use Rattle.model.specs.declared.State.{State}
 use Rattle.model.proofs.Fill.{length-over, over-in}
 use Rattle.model.proofs.Bools.{and-left, and-right}
@@ -203,7 +203,7 @@ trapped-good s word u v h = good-l s (trapped s word u v) (length-set (s .genera
 -- what is added to rA is a byte
 pub added-byte : (s : State) (f : ℕ) → added s f ≤ 255
 unfolding added
-added-byte s f = let c : bitAnd (f % 256) (255 - enables s) ≤ 255 - enables s = and-le-r (f % 256) (255 - enables s) in omega arith
+added-byte s f = let c : bitAnd (f % 256) (255 - taken s f) ≤ 255 - taken s f = and-le-r (f % 256) (255 - taken s f) in omega arith
 
 pub added-good : (s : State) (f : ℕ) → Good s → Good (withAdded s f)
 unfolding withAdded

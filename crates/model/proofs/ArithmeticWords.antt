@@ -1,6 +1,6 @@
 -- Laws of an operation's results: of octabytes they are octabytes, and at most one flag is raised.
 use mathlib.Core.Path.{_≡_, refl, subst}
-use mathlib.Core.Logic.{_⊎_, inl, inr}
+use mathlib.Core.Logic.{inl, inr}
 use Prim.Native.Nat.{ℕ, _+_, _-_, _*_, _/_, _%_, _^_, _≤_, _<_}
 use native.Mathlib.Omega.{arith}
 use native.Mathlib.Nat.{mod-lt, div-le-self, div-lt-iff-lt-mul, div-le-of-le-mul, mul-le-mul-left, mul-le-mul-right, mul-comm, le-of-lt}
@@ -8,8 +8,8 @@ use lib.Dec.{leb, eqb}
 use lib.IntN.{ℤ, pos, negsuc}
 use borrow.Author.Tests.{leb-false}
 use Rattle.model.specs.Whole.{octaOf, isSigned, wideOf, productHigh, productLow, powerOf}
-use Rattle.model.specs.LoadStore.{flagV}
 use Rattle.model.specs.Arithmetic.{flagD, overflowOf, plain, exact, parted, divided, dividedWide, resultsOf}
+use Rattle.model.specs.OneRaised.{OneFlag}
 use Rattle.model.specs.declared.Operation.{Operation}
 use Rattle.model.specs.declared.Operation.the-variants.{Mul, Mulu, Div, Divu, Add, Addu, Sub, Subu, Addu2, Addu4, Addu8, Addu16, Cmp, Cmpu, Neg, Negu, Sl, Slu, Sr, Sru}
 use Rattle.model.specs.declared.Operands.{Operands}
@@ -91,10 +91,6 @@ module _ (a : Operands) (w : OperandWords a) where
   results-words Sru = let b : a .y < 2 ^ 64 = w .y-word in let l : a .y / powerOf (a .z) ≤ a .y = div-le-self (a .y) (powerOf (a .z)) in as-plain _ (omega arith)
 
 -- ---- flags
-
--- none, V or D
-abbrev pub OneFlag : ℕ → Type 0
-OneFlag n = (n ≡ 0) ⊎ ((n ≡ flagV) ⊎ (n ≡ flagD))
 
 overflow-one : (n : ℤ) → OneFlag (overflowOf n)
 overflow-one n = on OneFlag (isSigned n) (λ e. inl refl) (λ e. inr (inl refl))

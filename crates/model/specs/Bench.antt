@@ -146,7 +146,7 @@ points =
     ∷ does (goes (stored start 255 (2 ^ 63)) 0x40000) (step 0x41 255 255 255) (goes (stored start 255 (2 ^ 63)) 0x3fffc)
     -- P12, P13
     ∷ does (withSpecial start rA 0x4000) (exception 0xC0 0 0 0 0 0 0) (goes (withSpecial (afterTrip start) rA 0x4080) 0x20)
-    ∷ does (withSpecial start rA 0xC000) (exception 0xC0 0 0 0 0 0 0) (goes (withSpecial (afterTrip start) rA 0xC000) 0x10)
+    ∷ does (withSpecial start rA 0xC000) (exception 0xC0 0 0 0 0 0 0) (goes (withSpecial (afterTrip start) rA 0xC040) 0x10)
     -- P14: "in P14, whose window reaches address 0, A is empty"
     ∷ point (withSpecial (two 7 9) rO 0xFFFFFFFFFFFFFFF8) (stackAlone (record { base = 0xFFFFFFFFFFFFFFF8; bytes = replicate 16 0 })) (step 0xF2 1 0 1 ∷ []) (0 ∷ [])
     (goes (withSpecial (withSpecial (withSpecial start rO 8) rS 8) rJ 4) 4)

@@ -17,7 +17,7 @@ use Rattle.model.specs.Control.{xyzOf, sumOf, operandOf, isNegative}
 use Rattle.model.specs.Frames.{hole, framed, framedRule, noFrame, misplaced, popRule, popFrame}
 use Rattle.model.specs.Contexts.{below, unsaveContext, countBelow}
 use Rattle.model.specs.System.{putRefusal, got, gotRule}
-use Rattle.model.specs.Trips.{isLoaded, tripRule, tripTo, trapRule, trapOf, enabled, leftmost, added, exactUnderflow, addedRule}
+use Rattle.model.specs.Trips.{isLoaded, tripRule, tripTo, trapRule, trapOf, enabled, added, exactUnderflow, addedRule}
 use Rattle.model.specs.LoadStore.{fits, flagV}
 use Rattle.model.specs.ArithmeticStep.{resultsIn, withResults}
 use Rattle.model.specs.Step.{refusing, stepOf, exceptionOf}
@@ -118,8 +118,6 @@ pub record Outside (w : Windows) (s : State) (a : Arm) (x y z : ℕ) : Type 0 wh
 
 -- The same of an exception
 pub record OutsideException (s : State) (f : ℕ) : Type 0 where
-  -- at most one flag is raised and enabled
-  pub one-enabled : enabled s f ≡ leftmost (enabled s f)
   -- U is not raised without X, or is enabled
   pub inexact : exactUnderflow s f ≡ false
   -- its vector is loaded
@@ -157,8 +155,8 @@ pub record Departures : Type 0 where
       → perform both (refusing (shapesOf w)) s (unsaveContext s p) w ≡ perform both (refusing (shapesOf w)) s (unsaveRule s p) w
   -- GET of rL into a marginal register
   pub get-local : (s : State) (x z : ℕ) → (eqb z rL && isMarginal s x) ≡ false → got s x z ≡ gotRule s x z
-  -- enabled exceptions after the taken one, and U without X: only where there are any
-  pub added-one : (s : State) (f : ℕ) → enabled s f ≡ leftmost (enabled s f) → exactUnderflow s f ≡ false → added s f ≡ addedRule s f
+  -- U without X: only where it is raised so
+  pub added-inexact : (s : State) (f : ℕ) → exactUnderflow s f ≡ false → added s f ≡ addedRule s f
   -- a trip through a vector that is not loaded
   pub trip-loaded : (s : State) (k word u v : ℕ) → isLoaded s k ≡ true → tripTo s k word u v ≡ say 0 (tripRule s k word u v)
   -- a trap halts: the registers that a handler would find are Knuth's, but rK

@@ -42,6 +42,7 @@ pub mod ArithmeticStepPoints
 pub mod Roundtrip
 pub mod Departures
 pub mod DepartureExamples
+pub mod OneRaised
 pub mod Order
 pub mod Fetched
 pub mod RunMeant

@@ -5,7 +5,6 @@ use Prim.Native.Nat.{ℕ, _+_, _-_, _*_, _/_, _%_, _^_, min}
 use mathlib.Core.Bool.{cond, _&&_}
 use mathlib.Core.List.{List, [], _∷_}
 use lib.Dec.{leb, ltb, eqb}
-use lib.Count.{leadingZeros}
 use lib.ListN.{getD}
 use Rattle.model.specs.Fill.{over, tab}
 use Rattle.model.specs.Octa.{octa}
@@ -18,7 +17,7 @@ use Rattle.model.specs.Control.{near, far, yzOf, xyzOf, isNegative, hold
 use Rattle.model.specs.Frames.{hole, framedRule, pushedRule, unslide}
 use Rattle.model.specs.Contexts.{extent, saved, savedState, below, unsavedSpecial, packedAt, octasOf, countBelow}
 use Rattle.model.specs.System.{putRefusal, putState, gotRule}
-use Rattle.model.specs.Trips.{wordOf, tripRule, trapRule, enabled, addedRule, flagged}
+use Rattle.model.specs.Trips.{wordOf, tripRule, trapRule, enabled, vectorOf, addedRule, flagged}
 use Rattle.model.specs.LoadStore.{merged, fits, loadFrom, flagV}
 use Rattle.model.specs.ArithmeticStep.{resultsIn, withResults}
 use Rattle.model.specs.Step.{refusing, guarded}
@@ -96,7 +95,7 @@ unsaveCountRule s q g a = read 6 (below q (countBelow g)) 1 (λ v. unsaveRestRul
 unfoldable pub unsaveRule : State → ℕ → Plan State
 unsaveRule s p = read 6 (octa p) 1 (λ v. unsaveCountRule s (octa p) (getD v 0 0 / 2 ^ 56) (getD v 0 0 % 2 ^ 18))
 
--- ---- flags: "every exception but the taken one is added", and the trip is taken whatever is at the vector
+-- ---- flags: every exception but the taken one is added, and U without X isn't; the trip is taken whatever is at the vector
 
 unfoldable pub withAddedRule : State → ℕ → State
 withAddedRule s f = flagged s (addedRule s f)
@@ -104,7 +103,7 @@ withAddedRule s f = flagged s (addedRule s f)
 unfoldable pub raisedRule : State → ℕ → ℕ → ℕ → ℕ → State
 raisedRule s f word u v =
     cond (eqb (enabled s f) 0) (next (withAddedRule s f))
-    (tripRule (withAddedRule s f) (leadingZeros 8 (enabled s f) + 1) word u v)
+    (tripRule (withAddedRule s f) (vectorOf (enabled s f)) word u v)
 
 -- ---- loads and stores: an address of 2^63 or more is the kernel's, an interrupt
 

@@ -56,22 +56,29 @@ enables s = sp s rA / 256 % 256
 abbrev pub enabled : State → ℕ → ℕ
 enabled s f = bitAnd (f % 256) (enables s)
 
--- what is added to rA: "Disabled ones are added to rA. Enabled ones after the taken one leave no mark"
-unfoldable pub added : State → ℕ → ℕ
-added s f = bitAnd (f % 256) (255 - enables s)
+-- "its vector 16 × (leading zeros + 1)": the number of the vector of the leftmost of some flags, 1 of D to 8 of X
+abbrev pub vectorOf : ℕ → ℕ
+vectorOf e = leadingZeros 8 e + 1
 
--- the leftmost flag of e, 0 where e has none
+-- the leftmost of some flags, 0x80 of vector 1 to 0x01 of vector 8; 0 where there is none
 unfoldable pub leftmost : ℕ → ℕ
-leftmost e = cond (eqb e 0) 0 (2 ^ (7 - leadingZeros 8 e))
+leftmost e = cond (eqb e 0) 0 (2 ^ (8 - vectorOf e))
+
+-- "The taken exception is the leftmost enabled one": its flag, 0 where none is taken
+abbrev pub taken : State → ℕ → ℕ
+taken s f = leftmost (enabled s f)
+
+-- what is added to rA: "every exception but the taken one is added, enabled or not"; with none taken all are
+unfoldable pub added : State → ℕ → ℕ
+added s f = bitAnd (f % 256) (255 - taken s f)
 
 -- U is raised without X and is not enabled: the result is exact
 unfoldable pub exactUnderflow : State → ℕ → Bool
 exactUnderflow s f = eqb (f / 4 % 2) 1 && (eqb (f % 2) 0 && eqb (enables s / 4 % 2) 0)
 
--- Knuth's: mmix-sim drops U then, takes the leftmost enabled one and adds all others.
--- Departure: `added` leaves out all that are enabled, and keeps U; they differ only where two or more are raised and enabled, or U so.
+-- Knuth's: mmix-sim drops U then, and adds all others but the taken one. Departure: `added` keeps U
 unfoldable pub addedRule : State → ℕ → ℕ
-addedRule s f = bitAnd (cond (exactUnderflow s f) (f % 256 - 4) (f % 256)) (255 - leftmost (enabled s f))
+addedRule s f = bitAnd (cond (exactUnderflow s f) (f % 256 - 4) (f % 256)) (255 - taken s f)
 
 -- rA with more flags
 abbrev pub flagged : State → ℕ → State
@@ -80,8 +87,8 @@ flagged s n = withSpecial s rA (bitOr (sp s rA) n)
 unfoldable pub withAdded : State → ℕ → State
 withAdded s f = flagged s (added s f)
 
--- "The taken exception is the leftmost enabled one, its vector 16 × (leading zeros + 1)"; "With none taken, PC is @ + 4"
+-- the exception step: what is added to rA, then the taken trip; "With none taken, PC is @ + 4"
 unfoldable pub raised : State → ℕ → ℕ → ℕ → ℕ → Said
 raised s f word u v =
     cond (eqb (enabled s f) 0) (say 0 (next (withAdded s f)))
-    (tripTo (withAdded s f) (leadingZeros 8 (enabled s f) + 1) word u v)
+    (tripTo (withAdded s f) (vectorOf (enabled s f)) word u v)

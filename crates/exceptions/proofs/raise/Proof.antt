@@ -11,8 +11,8 @@ element-copy-out-ra c = search needs
 cast-taken : tie.Need-cast-taken
 cast-taken c = search needs
 
-add-disabled-requires : tie.Need-add-disabled-requires
-add-disabled-requires c κs = search needs
+add-untaken-requires : tie.Need-add-untaken-requires
+add-untaken-requires c κs = search needs
 
 following-requires : tie.Need-following-requires
 following-requires c κs = search needs
@@ -24,7 +24,7 @@ returns c =
     let start = adds .before .before .before in
     let a = start .args in
     let s = made (a .general .now) (a .special .now) (a .pc .now) (a .halt .now) (a .marks) in
-    none-taken s _ _ _ _ (start .fits .flags .fits) _ (adds .add-disabled .ensures (s .general) (s .pc) (s .halt) (s .marks)) _ (then .if1 .taken) (c .following .ensures)
+    none-taken s _ _ _ _ (start .fits .flags .fits) _ (adds .add-untaken .ensures (s .general) (s .pc) (s .halt) (s .marks)) _ (then .if1 .taken) (c .following .ensures)
 
 vector-of-requires : tie.Need-vector-of-requires
 vector-of-requires c κs = search needs
@@ -42,7 +42,7 @@ returns-2 c =
     let s = made (a .general .now) (a .special .now) (a .pc .now) (a .halt .now) (a .marks) in
     let last = c .trip .last in
     let t = made (last .0) (last .1 .0) (last .1 .1 .0) (last .1 .1 .1 .0) (a .marks) in
-    one-taken s _ _ _ _ (start .fits .flags .fits) _ (adds .add-disabled .ensures (s .general) (s .pc) (s .halt) (s .marks)) (vector .vector-of .result) (c .trip .result) t (else .if1 .left) (vector .vector-of .ensures .0) (c .trip .ensures)
+    one-taken s _ _ _ _ (start .fits .flags .fits) _ (adds .add-untaken .ensures (s .general) (s .pc) (s .halt) (s .marks)) (vector .vector-of .result) (c .trip .result) t (else .if1 .left) (vector .vector-of .ensures .0) (c .trip .ensures)
 
 pub raise-spec : {M : Type 1} → statement M
-raise-spec = tie.close (tie.spec element-copy-out-ra cast-taken add-disabled-requires following-requires returns vector-of-requires trip-requires returns-2)
+raise-spec = tie.close (tie.spec element-copy-out-ra cast-taken add-untaken-requires following-requires returns vector-of-requires trip-requires returns-2)
