@@ -8,7 +8,7 @@
 use std::fmt::{self, Display, Write};
 
 use crate::lent::{Window, Windows};
-use crate::state::{IMAGE_LEN, State};
+use crate::state::{IMAGE_LEN, RA, State};
 
 #[derive(Clone, Copy, PartialEq, Eq, Debug)]
 pub struct Instruction {
@@ -82,6 +82,15 @@ impl Case {
     /// A call with no window at all.
     pub fn none(call: Call, state: State) -> Self {
         Self::new(call, state, Windows::default())
+    }
+
+    /// An exception with two or more flags raised and enabled: the Rust forgets all of them but the taken one, which the
+    /// definition adds to rA.
+    pub fn two_enabled(&self) -> bool {
+        match self.call {
+            Call::Exceptions { flags, .. } => (flags & (self.state.special[RA] >> 8) as u8).count_ones() > 1,
+            _ => false,
+        }
     }
 
     /// The image as lent: cut or lengthened where its length is wrong.

@@ -9,7 +9,8 @@
 //! the address or does not; 21 is given where it goes there by neither.
 //!
 //! The Rust has no arm for an added opcode (`opcodes::is_added`): from 22 on, the answer there is the model's, and the
-//! library is compared with the model alone. A run is answered in `fetched`, step by step.
+//! library is compared with the model alone. So it is, from 1 on, at flags of which two or more are raised and enabled
+//! (`Case::two_enabled`), where the definition departs from the Rust. A run is answered in `fetched`, step by step.
 
 use std::cell::RefCell;
 use std::ops::Range;
@@ -30,7 +31,7 @@ use crate::opcodes::{GET, RESUME, TRAP, is_added};
 use crate::state::{IMAGE_LEN, RG, RL, RO, State, WINDOW_MAX, octabyte};
 use crate::subject::Subject;
 
-/// What the Rust leaves, or the model at an added opcode. The windows are as before where the reply is 1 to 6 or 22.
+/// What the Rust leaves, or the model at an added opcode or two enabled flags. The windows are as before where the reply is 1 to 6 or 22.
 #[derive(Clone)]
 pub struct Answer {
     pub reply: u64,
@@ -113,10 +114,12 @@ impl Reference {
         if let Call::Run { grant } = case.call {
             return self.run(case, grant);
         }
-        if let Call::Step(i) = case.call
-            && is_added(i.op)
-        {
-            return Ok(of_model(case, i));
+        match case.call {
+            Call::Step(i) if is_added(i.op) => return Ok(of_model(case, i)),
+            Call::Exceptions { flags, of, y_val, z_val } if case.two_enabled() => {
+                return Ok(raised_by_model(case, flags, of, y_val, z_val));
+            }
+            _ => {}
         }
         self.place(case);
 
@@ -258,6 +261,13 @@ fn of_model(case: &Case, i: Instruction) -> Answer {
     let touched = model::needs(i, &state, &windows);
     let reply = Model.step_lent(i, &mut state, windows.lend());
     Answer { touched, ..Answer::new(reply, state, windows) }
+}
+
+/// The model's answer to an exception.
+fn raised_by_model(case: &Case, flags: u8, of: Instruction, y_val: u64, z_val: u64) -> Answer {
+    let mut state = case.state.clone();
+    let reply = Model.exceptions_parts(flags, of, y_val, z_val, (&mut state).into());
+    Answer::new(reply, state, case.windows.clone())
 }
 
 /// The rule of one window.

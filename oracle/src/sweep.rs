@@ -1,4 +1,4 @@
-//! Cases that are run in full and not drawn: all flags with all enables, vectors loaded and not; PUSH and POP
+//! Cases that are run in full and not drawn: all 65,536 pairs of flags and enables, vectors loaded and not; PUSH and POP
 //! with every X at the thresholds' limits; loads and stores at every byte of the octabytes at a window's edges, and stores
 //! of values that just fit and just don't; arithmetic of all numbers at limits, and its flags; short windows A and B at all
 //! distances from each other, and frames and contexts cut in two at every octabyte.

@@ -53,6 +53,7 @@ pub struct Tally {
     situations: [u64; SITUATIONS.len()],
     lendings: [u64; LENDINGS.len()],
     ran: [u64; RUNS.len()],
+    two_enabled: u64,
 }
 
 impl Default for Tally {
@@ -70,6 +71,7 @@ impl Default for Tally {
             situations,
             lendings,
             ran: [0; RUNS.len()],
+            two_enabled: 0,
         }
     }
 }
@@ -86,6 +88,7 @@ impl Tally {
             Call::Field { kind: Kind::Jump, .. } => &mut self.jump_fields,
         };
         row[answer.reply as usize] += 1;
+        self.two_enabled += (case.two_enabled() && answer.reply != 1) as u64;
         situations::count(case, answer, &mut self.situations);
         lendings::count(case, answer, &mut self.lendings);
         runs::count(case, answer, &mut self.ran);
@@ -102,6 +105,7 @@ impl Tally {
         for (row, more) in own.zip(other.rows()) {
             row.iter_mut().zip(more).for_each(|(a, b)| *a += b);
         }
+        self.two_enabled += other.two_enabled;
         self.situations.iter_mut().zip(&other.situations).for_each(|(a, b)| *a += b);
         self.lendings.iter_mut().zip(&other.lendings).for_each(|(a, b)| *a += b);
         self.ran.iter_mut().zip(&other.ran).for_each(|(a, b)| *a += b);
@@ -114,6 +118,11 @@ impl Tally {
     /// The cases of opcodes for which the model stands in for the Rust.
     pub fn added(&self) -> u64 {
         added().flat_map(|op| &self.steps[op as usize]).sum()
+    }
+
+    /// The exceptions with two or more flags raised and enabled, for which it stands in too.
+    pub fn two_enabled(&self) -> u64 {
+        self.two_enabled
     }
 
     /// The rows by name, each with the replies that it can have.

@@ -1,11 +1,11 @@
-//! Figures of Knuth's texts for the register stack, for SAVE and for loads and stores, on the Rust, where it has the arms, and
+//! Figures of Knuth's texts for the register stack, for SAVE, for loads and stores and for exceptions, on the Rust, where it has the arms, and
 //! on the subjects. Each names its place in mmix-doc (MMIXware, "Definition of MMIX"), whose words are given as we know
 //! them; Fascicle 1 has the same rules in sections 1.3.1' and 1.4.1', and the figures of loads and stores.
 
 mod common;
 
-use common::{special, start, step};
-use oracle::case::Case;
+use common::{run, special, start, step};
+use oracle::case::{Call, Case, Instruction};
 use oracle::lent::Windows;
 use oracle::opcodes::*;
 use oracle::state::*;
@@ -290,4 +290,33 @@ fn a_store_into_the_frame_changes_a_local() {
     done(&mut case, STO + 1, 0, 254, 8);
     done(&mut case, POP, 0, 0, 0);
     assert_eq!(locals(&case), [10, 13]);
+}
+
+/// mmix-sim, "Check for trip interrupt": `for (k=0; !(j&H_BIT); j<<=1, k++) ; exc&=~(H_BIT>>k); /* trips taken are not logged as
+/// events */`, where j has the exceptions that are enabled, and then `g[rA].l |= exc>>8`. All flags with all enables, the vectors
+/// loaded or not; U without X, which mmix-sim drops where it is not enabled, is logged here.
+#[test]
+fn trips_taken_are_not_logged() {
+    let of = Instruction { op: 0x20, x: 1, y: 2, z: 3 };
+    for (flags, enables) in (0..=255u8).flat_map(|flags| (0..=255u8).map(move |enables| (flags, enables))) {
+        let (mut exc, mut j, mut k) = (flags, flags & enables, 0);
+        if j != 0 {
+            while j & 0x80 == 0 {
+                j <<= 1;
+                k += 1;
+            }
+            exc &= !(0x80 >> k);
+        }
+        for marks in [0, MARKS_MAX] {
+            let mut case = Case::none(Call::Exceptions { flags, of, y_val: 4, z_val: 5 }, routine(&[]).state);
+            (case.state.special[RA], case.state.marks) = ((enables as u64) << 8, marks);
+            let (reply, pc) = match (j, marks) {
+                (0, _) => (0, 0x1004),
+                (_, 0) => (19, 0x1000),
+                _ => (0, 16 + 16 * k),
+            };
+            assert_eq!(run(&mut case).reply, reply);
+            assert_eq!((case.state.pc, special(&case, RA)), (pc, (enables as u64) << 8 | exc as u64));
+        }
+    }
 }

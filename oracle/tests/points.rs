@@ -96,7 +96,7 @@ fn p11_backward_branch() {
 
 #[test]
 fn p12_p13_exceptions() {
-    for (ra, pc, after) in [(0x4000, 0x20, 0x4080), (0xC000, 0x10, 0xC000)] {
+    for (ra, pc, after) in [(0x4000, 0x20, 0x4080), (0xC000, 0x10, 0xC040)] {
         let mut case = start();
         case.state.special[RA] = ra;
         let of = Instruction { op: 0x20, x: 1, y: 2, z: 3 };

@@ -1,7 +1,7 @@
 -- Laws of trips, traps and exceptions, over plain variables and in this order: what each tells, from what its callees ensure.
 -- The other arms that touch no memory: NoMemoryReplies of crate instruction.
 use mathlib.Core.Path.{_≡_, refl, ap, _∙_}
-use mathlib.Core.Bool.{true, false, _&&_}
+use mathlib.Core.Bool.{Bool, true, false, _&&_}
 use mathlib.Core.List.{List}
 use Prim.Native.Nat.{ℕ, _+_, _-_, _*_, _/_, _%_, _^_, _≤_, _<_}
 use native.Mathlib.Omega.{arith}
@@ -11,13 +11,14 @@ use lib.Bits.{bitAnd, bitOr, and-le-l}
 use lib.Count.{leadingZeros, leading-le, leading-top, trailingZeros, trailing-le}
 use mir.Syntax.{w64}
 use mir.Val.{Fits}
-use borrow.Author.Tests.{ne-eqb}
+use borrow.Author.Tests.{eqb-true, ne-eqb}
 use Rattle.model.specs.Registers.{withParts, rA, reg, withSpecial, admissible}
-use Rattle.model.specs.Trips.{wordOf, interrupted, tripped, trapped, tripRule, isLoaded, tripTo, trapOf, enables, added, withAdded, raised}
+use Rattle.model.specs.Trips.{wordOf, interrupted, tripped, trapped, tripRule, isLoaded, tripTo, trapOf, enables, leftmost, added, withAdded, raised}
 use Rattle.model.specs.Step.{isNamed, exceptionOf}
 use Rattle.model.specs.Parts.{made}
 use Rattle.model.specs.Numbers.{replyOf}
 use Rattle.model.specs.declared.State.{State}
+use Rattle.model.proofs.Bools.{each, at-each}
 use Rattle.model.specs.declared.Reply.{Reply}
 use Rattle.model.specs.declared.Reply.the-variants.{Done, NotAdmissible, NamedTrap, NotLoaded, Trapped}
 use Rattle.exceptions.specs.Interrupts.{tripOf, trapStep}
@@ -61,17 +62,19 @@ module _ (s : State) (op x y z : ℕ) where
 
 -- ---- exceptions
 
--- flags that are raised and disabled, as code masks them
+-- flags, as code masks them
 pub added-fits : (f e : ℕ) → f < 256 → Fits w64 (bitAnd f e)
 added-fits f e h = let b : bitAnd f e ≤ f = and-le-l f e in record { fits = omega arith }
 
-pub added-is : (g l : List ℕ) (pc halt marks f e : ℕ) → f < 256 → e ≡ getD l rA 0 / 256 % 256
-    → made g (set l rA (bitOr (getD l rA 0) (bitAnd f (255 - e)))) pc halt marks ≡ withAdded (made g l pc halt marks) f
+-- what is added, of a byte of flags
+pub added-is : (g l : List ℕ) (pc halt marks f t : ℕ) → f < 256 → t ≡ leftmost (bitAnd f (getD l rA 0 / 256 % 256))
+    → made g (set l rA (bitOr (getD l rA 0) (bitAnd f (255 - t)))) pc halt marks ≡ withAdded (made g l pc halt marks) f
 unfolding withAdded withSpecial added
-added-is g l pc halt marks f e h q =
+added-is g l pc halt marks f t h q =
     let b : f ≡ f % 256 = omega arith in
-    ap (λ (n : ℕ). made g (set l rA (bitOr (getD l rA 0) (bitAnd f (255 - n)))) pc halt marks) q
-    ∙ ap (λ (n : ℕ). made g (set l rA (bitOr (getD l rA 0) (bitAnd n (255 - getD l rA 0 / 256 % 256)))) pc halt marks) b
+    let r = getD l rA 0 in
+    ap (λ (n : ℕ). made g (set l rA (bitOr r (bitAnd f (255 - n)))) pc halt marks) q
+    ∙ ap (λ (n : ℕ). made g (set l rA (bitOr r (bitAnd n (255 - leftmost (bitAnd n (r / 256 % 256)))))) pc halt marks) b
 
 -- the zeros of a byte, counted from either end
 pub zeros-small : (n : ℕ) → (leadingZeros 8 n ≤ 8) × (trailingZeros 8 n ≤ 8)
@@ -80,6 +83,24 @@ zeros-small n = (leading-le 8 n, trailing-le 8 n)
 -- the leftmost flag names one of vectors 1 to 8
 pub vector-small : (n : ℕ) → n < 256 → 0 < n → leadingZeros 8 n + 1 ≤ 8
 vector-small n h p = let top = leading-top 8 n p h in omega (arith, top .1)
+
+-- the leftmost flag, as code shifts it
+halves : ℕ → Bool
+halves k = eqb (128 / 2 ^ k) (2 ^ (8 - (k + 1)))
+
+halves-are : each 8 halves ≡ true
+unfolding each halves
+halves-are = refl
+
+pub leftmost-none : (n : ℕ) → n ≡ 0 → 0 ≡ leftmost n
+unfolding leftmost
+leftmost-none n e = rw e
+
+pub leftmost-is : (n : ℕ) → n < 256 → (n ≡ 0 → ⊥) → 128 / 2 ^ leadingZeros 8 n ≡ leftmost n
+unfolding leftmost halves
+leftmost-is n h q =
+    let small : leadingZeros 8 n + 1 ≤ 8 = vector-small n h (omega (arith, q)) in
+    rw (ne-eqb n 0 q) (eqb-true _ _ (at-each 8 halves halves-are (leadingZeros 8 n) (omega arith)))
 
 module _ (s : State) (f word u v : ℕ) (b : f < 256) (l : List ℕ) (e : withParts s (s .general) l ≡ withAdded s f) where
   byte : f % 256 ≡ f

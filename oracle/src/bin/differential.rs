@@ -1,5 +1,6 @@
 //! Compare with the Rust on many cases: the library where it is linked, and the model. For loads, stores and whole-number
-//! arithmetic the Rust has no arm: there the library is compared with the model alone.
+//! arithmetic the Rust has no arm, and flags two of which are raised and enabled it forgets: there the library is compared with
+//! the model alone.
 //!
 //!     differential [--cases N] [--seed S] [--threads T] [--guards pages|heap]
 //!     differential --replay LINE [--guards pages|heap]
@@ -175,9 +176,11 @@ fn differential(options: &Options) -> bool {
     found.iter().for_each(|difference| println!("DIFFERS: {difference}"));
     let names: Vec<&str> = chosen(options.guard).iter().map(|subject| subject.name()).collect();
     println!(
-        "{} cases, {} of them loads, stores and arithmetic by the model, seed {}, Rust against {}, {:.1} s: {}",
+        "{} cases, {} of them loads, stores and arithmetic and {} two enabled flags by the model, seed {}, Rust against {}, \
+         {:.1} s: {}",
         total.cases(),
         total.added(),
+        total.two_enabled(),
         options.seed,
         names.join(" and "),
         began.elapsed().as_secs_f64(),

@@ -149,14 +149,16 @@ fn trip(state: State, vector: u64, i: Instruction, y_val: u64, z_val: u64) -> Ou
     Outcome::done(after.go_to(vector))
 }
 
-/// The state is admissible. Bits from left: D V W I O U Z X; the enables are rA's next eight bits.
+/// The state is admissible. Bits from left: D V W I O U Z X; the enables are rA's next eight bits. Every flag but the taken one
+/// is added.
 pub fn exceptions(state: &State, flags: u8, of: Instruction, y_val: u64, z_val: u64) -> Outcome {
     let enables = (state.special[RA] / 256 % 256) as u8;
+    let taken = (0..8).find(|k| flags & enables & (0x80 >> k) != 0);
+    let others = taken.map_or(flags, |k| flags & !(0x80 >> k));
     let mut after = state.clone();
-    after.special[RA] |= (flags & !enables) as u64;
-    let taken = (flags & enables).leading_zeros() as u64;
-    if taken == 8 {
-        return Outcome::done(after.go_on());
+    after.special[RA] |= others as u64;
+    match taken {
+        Some(k) => trip(after, 16 * (k + 1), of, y_val, z_val),
+        None => Outcome::done(after.go_on()),
     }
-    trip(after, 16 * (taken + 1), of, y_val, z_val)
 }

@@ -8,22 +8,25 @@ use Rattle.exceptions.proofs.add_untaken.Tie as tie
 element-copy-out-ra : tie.Need-element-copy-out-ra
 element-copy-out-ra c = search needs
 
-cast-enables : tie.Need-cast-enables
-cast-enables c = search needs
+cast-enabled : tie.Need-cast-enabled
+cast-enabled c = search needs
 
-sub-off : tie.Need-sub-off
-sub-off c = search needs
+leftmost-flag-requires : tie.Need-leftmost-flag-requires
+leftmost-flag-requires c κs = search needs
+
+sub-others : tie.Need-sub-others
+sub-others c = search needs
 
 cast-special : tie.Need-cast-special
-cast-special c = added-fits _ _ (c .before .fits .flags .fits)
+cast-special c = added-fits _ _ (c .before .before .fits .flags .fits)
 
 element-write-special : tie.Need-element-write-special
 element-write-special c = search needs
 
 returns : tie.Need-returns
-returns c = λ general pc halt marks. added-is _ _ _ _ _ _ _ (c .before .fits .flags .fits) (omega arith)
+returns c = λ general pc halt marks. added-is _ _ _ _ _ _ _ (c .before .before .fits .flags .fits) (c .leftmost-flag .ensures)
 
 pub add-untaken-spec : {M : Type 1} → statement M
 add-untaken-spec =
     tie.close
-    (tie.spec element-copy-out-ra cast-enables sub-off cast-special element-write-special returns)
+    (tie.spec element-copy-out-ra cast-enabled leftmost-flag-requires sub-others cast-special element-write-special returns)

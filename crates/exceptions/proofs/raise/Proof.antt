@@ -1,4 +1,4 @@
--- `raise` meets its contract: the disabled flags are added, and with a flag left its vector is taken.
+-- `raise` meets its contract: all flags but the taken one are added, and where one is enabled its vector is taken.
 use borrow.Author.Needs.{needs}
 use Rattle.model.specs.Parts.{made}
 use Rattle.exceptions.proofs.Interrupts.{none-taken, one-taken}
@@ -8,8 +8,8 @@ use Rattle.exceptions.proofs.raise.Tie as tie
 element-copy-out-ra : tie.Need-element-copy-out-ra
 element-copy-out-ra c = search needs
 
-cast-taken : tie.Need-cast-taken
-cast-taken c = search needs
+cast-enabled : tie.Need-cast-enabled
+cast-enabled c = search needs
 
 add-untaken-requires : tie.Need-add-untaken-requires
 add-untaken-requires c κs = search needs
@@ -45,4 +45,4 @@ returns-2 c =
     one-taken s _ _ _ _ (start .fits .flags .fits) _ (adds .add-untaken .ensures (s .general) (s .pc) (s .halt) (s .marks)) (vector .vector-of .result) (c .trip .result) t (else .if1 .left) (vector .vector-of .ensures .0) (c .trip .ensures)
 
 pub raise-spec : {M : Type 1} → statement M
-raise-spec = tie.close (tie.spec element-copy-out-ra cast-taken add-untaken-requires following-requires returns vector-of-requires trip-requires returns-2)
+raise-spec = tie.close (tie.spec element-copy-out-ra cast-enabled add-untaken-requires following-requires returns vector-of-requires trip-requires returns-2)

@@ -5,13 +5,13 @@ use Rattle.exceptions.proofs.vector_of.Statement.{statement}
 use Rattle.exceptions.proofs.vector_of.Tie as tie
 
 cast-result : tie.Need-cast-result
-cast-result c = record { fits = omega (arith, zeros-small (c .args .taken)) }
+cast-result c = record { fits = omega (arith, zeros-small (c .args .enabled)) }
 
 add-result : tie.Need-add-result
-add-result c = record { fits = omega (arith, zeros-small (c .args .taken)) }
+add-result c = record { fits = omega (arith, zeros-small (c .args .enabled)) }
 
 returns : tie.Need-returns
-returns c = (omega arith, omega (arith, vector-small (c .args .taken) (c .fits .taken .fits) (c .pre)))
+returns c = (omega arith, omega (arith, vector-small (c .args .enabled) (c .fits .enabled .fits) (c .pre)))
 
 pub vector-of-spec : {M : Type 1} → statement M
 vector-of-spec = tie.close (tie.spec cast-result add-result returns)
