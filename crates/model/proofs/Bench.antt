@@ -28,7 +28,8 @@ use Rattle.model.specs.Points.{ruledShapes, numbered, freshIs, readerPoi
 use Rattle.model.specs.LoadStorePoints.{loadStorePoints, LoadStorePointsMet}
 use Rattle.model.specs.WindowPoints.{windowReads, windowPoints, WindowPointsMet}
 use Rattle.model.specs.FieldPoints.{fieldPoints, allFound, FieldPointsMet}
-use Rattle.model.specs.DepartureExamples.{shown, allShown, shownException, allShownExceptions, examples, exceptionExamples, cutExamples, countExample, ExamplesShown}
+use Rattle.model.specs.ExceptionExamples.{shownException, allShownExceptions, exceptionExamples}
+use Rattle.model.specs.DepartureExamples.{shown, allShown, examples, cutExamples, countExample, ExamplesShown}
 use Rattle.model.specs.ArithmeticStep.{withResults, arithmeticSays}
 use Rattle.model.specs.ArithmeticStepPoints.{arithmeticStepPoints, ArithmeticStepPointsMet}
 use Rattle.model.specs.ArithmeticPoints.{allSame, arithmeticPoints, ArithmeticPointsMet}

@@ -5,13 +5,13 @@ use mathlib.Core.Bool.{Bool, true, false, _&&_}
 use mathlib.Core.List.{List, [], _∷_, _++_}
 use lib.Dec.{eqb}
 use lib.ListN.{replicate}
-use Rattle.model.specs.Registers.{rB, rJ, rR, rO, rS, rT, rK, rG, rL, rA, rW, rX, rY, rZ, rWW, rXX, stackStart, sp, fresh, goes, halted, withSpecial, stored, rC, rI, rU}
+use Rattle.model.specs.Registers.{rB, rJ, rR, rO, rS, rT, rK, rG, rL, rA, rY, rZ, rWW, rXX, stackStart, sp, fresh, goes, halted, withSpecial, stored, rC, rI, rU}
 use Rattle.model.specs.Memory.{Windows, putOcta}
 use Rattle.model.specs.Plan.{Outcome}
-use Rattle.model.specs.NoMemory.{Said}
-use Rattle.model.specs.Step.{stepOf, exceptionOf}
-use Rattle.model.specs.Rules.{After, goesOn, interrupts, unsavedGeneralRule, unsavedSpecialRule, stepRule, exceptionRule, counted}
+use Rattle.model.specs.Step.{stepOf}
+use Rattle.model.specs.Rules.{After, goesOn, interrupts, unsavedGeneralRule, unsavedSpecialRule, stepRule, counted}
 use Rattle.model.specs.Bench.{start, stackAlone, sameState, sameWindows}
+use Rattle.model.specs.ExceptionExamples.{tripRegisters, allShownExceptions, exceptionExamples}
 use Rattle.model.specs.declared.State.{State}
 
 -- a step: what it leaves here, and in Knuth's machine
@@ -28,14 +28,6 @@ pub record Example : Type 0 where
   pub knuth-reply : ℕ
   pub knuth : After
   pub knuth-left : Windows
-
--- an exception with these flags, of an instruction 0 with operands 0
-pub record ExampleException : Type 0 where
-  pub begin : State
-  pub flags : ℕ
-  pub reply : ℕ
-  pub end : State
-  pub knuth : State
 
 -- ---- what it is to be met
 
@@ -59,18 +51,6 @@ shown e =
 unfoldable pub allShown : List Example → Bool
 allShown [] = true
 allShown (e ∷ es) = shown e && allShown es
-
-abbrev said : Said → ℕ → State → Bool
-said d r s = eqb (d .reply) r && sameState (d .state) s
-
-unfoldable pub shownException : ExampleException → Bool
-shownException e =
-    said (exceptionOf (e .begin) (e .flags) 0 0 0 0 0 0) (e .reply) (e .end)
-    && said (exceptionRule (e .begin) (e .flags) 0 0 0 0 0 0) 0 (e .knuth)
-
-unfoldable pub allShownExceptions : List ExampleException → Bool
-allShownExceptions [] = true
-allShownExceptions (e ∷ es) = shownException e && allShownExceptions es
 
 -- ---- the examples
 
@@ -196,9 +176,6 @@ interruptExamples =
     ∷ plain start nowhere 0xFE 255 0 32 5 start interrupts ∷ []
 
 -- TRIP 0,0,0 with no vector loaded; TRAP 1,0,0 and the named TRAP 0,0,0
-abbrev tripRegisters : State → ℕ → State
-tripRegisters s word = withSpecial (withSpecial s rW 4) rX (2 ^ 63 + word)
-
 abbrev trapRegisters : State → ℕ → State
 trapRegisters s word = withSpecial (withSpecial s rWW 4) rXX (2 ^ 63 + word)
 
@@ -245,52 +222,6 @@ unfoldable pub examples : List Example
 examples =
     spillExample ∷ getExample ∷ thresholdExample ∷ arithmeticExample
     ∷ (popExamples ++ (marginalExamples ++ (unsaveExamples ++ (byteExamples ++ (interruptExamples ++ (tripExamples ++ loadStoreExamples))))))
-
--- flags of which none is enabled, rA before, and rA after here and there
-abbrev adding : ℕ → ℕ → ℕ → ℕ → ExampleException
-adding f a r k = record {
-  begin = withSpecial start rA a;
-  flags = f;
-  reply = 0;
-  end = goes (withSpecial start rA r) 4;
-  knuth = goes (withSpecial start rA k) 4;
-}
-
--- flags of which one is taken, through the vector v
-abbrev taking : ℕ → ℕ → ℕ → ℕ → ℕ → ExampleException
-taking f a v r k = record {
-  begin = withSpecial start rA a;
-  flags = f;
-  reply = 0;
-  end = goes (tripRegisters (withSpecial start rA r) 0) v;
-  knuth = goes (tripRegisters (withSpecial start rA k) 0) v;
-}
-
-unfoldable pub exceptionExamples : List ExampleException
-exceptionExamples =
-    -- U without X, not enabled, alone and beside others; with X; enabled; where its neighbours are enabled
-    adding 0x04 0 0x04 0
-    ∷ adding 0x0C 0 0x0C 0x08
-    ∷ adding 0x06 0 0x06 0x02
-    ∷ adding 0x10C 0 0x0C 0x08
-    ∷ adding 0x05 0 0x05 0x05
-    ∷ adding 0x01 0 0x01 0x01
-    ∷ taking 0x84 0x8000 0x10 0x8004 0x8000
-    ∷ adding 0x04 0x0800 0x0804 0x0800
-    ∷ adding 0x04 0x0300 0x0304 0x0300
-    -- two enabled flags, and one: no departure
-    ∷ taking 0xC0 0xC000 0x10 0xC040 0xC040
-    ∷ taking 0x0C 0x0C00 0x50 0x0C04 0x0C04
-    ∷ taking 0xC0 0x4000 0x20 0x4080 0x4080
-    ∷ taking 0x01 0x0100 0x80 0x0100 0x0100
-    -- a vector that is not loaded
-    ∷ record {
-      begin = withSpecial fresh rA 0x8000;
-      flags = 0x80;
-      reply = 19;
-      end = halted (tripRegisters (withSpecial fresh rA 0x8000) 0);
-      knuth = goes (tripRegisters (withSpecial fresh rA 0x8000) 0) 0x10;
-    } ∷ []
 
 -- Knuth's UNSAVE with more locals than rG, two where rG is 1, and with fewer: rL is cut to rG, and globals follow all that was saved
 abbrev saves : List ℕ

@@ -41,6 +41,7 @@ pub mod ArithmeticPoints
 pub mod ArithmeticStepPoints
 pub mod Roundtrip
 pub mod Departures
+pub mod ExceptionExamples
 pub mod DepartureExamples
 pub mod OneRaised
 pub mod Order
