@@ -48,9 +48,11 @@ extern "C" {
  * 2.0: two windows are lent, a and b, each with its base, where 1 had one: mmix_step, mmix_step_lent, mmix_step_parts and
  * mmix_context take both, and mmix_context tells by *which where the context lies. A host with one window lends it as b, and
  * null with length 0 (base 0) as a; its steps then do what they did. MMIX_SHARED and MMIX_ACROSS are new.
- * 2.1: mmix_run and mmix_run_parts, with MMIX_NOT_FETCHED and MMIX_GRANT_TOO_LARGE. */
-#define MMIX_VERSION_MAJOR 2
-#define MMIX_VERSION_MINOR 1
+ * 2.1: mmix_run and mmix_run_parts, with MMIX_NOT_FETCHED and MMIX_GRANT_TOO_LARGE.
+ * 3.0: mmix_exceptions and mmix_exceptions_parts add to rA also the flags that rA enables and that are not taken: these are all
+ * but the leftmost one. Flags of which rA enables at most one, and all steps and runs, do what they did. */
+#define MMIX_VERSION_MAJOR 3
+#define MMIX_VERSION_MINOR 0
 
 /* The replies. 1 to 6, 22, 24 and 25 leave every byte as it was; 7 to 18 set the halt code to 1 and leave all else; 19 and 20
  * set the halt code to 1 and the trip or trap registers, with PC where it was (an exception refused by 19 has also added to
@@ -184,8 +186,8 @@ uint64_t mmix_run(uint64_t base_a, uint64_t base_b, uint64_t grant, uint8_t *ima
                   uint8_t *a, size_t a_len, uint8_t *b, size_t b_len, uint64_t *done);
 
 /* The arithmetic exceptions that the instruction with bytes op, x, y, z raised: flags are those of enum mmix_flag, y_val and
- * z_val its operands. The leftmost one that rA enables is taken, a trip; those that rA does not enable are added to rA. With
- * none taken, PC moves to @ + 4. It needs no window. */
+ * z_val its operands. The leftmost one that rA enables is taken, a trip; all others are added to rA, enabled or not. With
+ * none taken, all are added and PC moves to @ + 4. It needs no window. */
 uint64_t mmix_exceptions(uint8_t flags, uint8_t op, uint8_t x, uint8_t y, uint8_t z, uint64_t y_val, uint64_t z_val,
                          uint8_t *image, size_t image_len);
 
