@@ -39,6 +39,7 @@ pub mod Rules
 pub mod RaisedRule
 pub mod RuleStep
 pub mod Departures
+pub mod AddedFlags
 pub mod OneRaised
 pub mod Order
 pub mod StepByArm

@@ -1,8 +1,8 @@
 -- Theorem. Change 7 leaves loads, stores and arithmetic as they were: a step raises at most one flag, and what is added to rA is as before wherever
 -- at most one flag is raised and enabled. So every step, every fetched instruction and every run is as before; exceptions alone are not.
-use Prim.Native.Nat.{ℕ, _+_, _-_, _%_}
+use Prim.Native.Nat.{ℕ, _+_, _-_, _%_, _<_}
 use mathlib.Core.Path.{_≡_}
-use mathlib.Core.Logic.{_⊎_}
+use mathlib.Core.Logic.{_⊎_, _≢_}
 use mathlib.Core.Bool.{cond}
 use mathlib.Core.List.{[], _∷_}
 use lib.Dec.{eqb}
@@ -130,8 +130,9 @@ pub record RaisesOne : Type 0 where
   pub by-raised : (s : State) (w : Shapes) (i : Item) → itemBy raised s w i ≡ itemPlan s w i
   -- the taken exception and those added are all that are raised, each once
   pub all-told : (s : State) (f : ℕ) → taken s f + added s f ≡ f % 256
-  -- an exception is as before where at most one flag is raised and enabled; and differs from it where two are
+  -- an exception is as before where at most one flag is raised and enabled; where two are, more is added
   pub exception-before : (s : State) (f word u v : ℕ) → enabled s f ≡ taken s f → raisedBefore s f word u v ≡ raised s f word u v
+  pub added-differs : (s : State) (f : ℕ) → enabled s f ≢ taken s f → addedBefore s f < added s f
   pub smallest : (added bothEnabled 0xC0 ≡ 0x40) × (addedBefore bothEnabled 0xC0 ≡ 0)
   -- a step is as before: its plan, so its needs too, and with it its outcome
   pub step-plan-before : (s : State) (w : Shapes) (op x y z : ℕ) → itemBy raisedBefore s w (step op x y z) ≡ itemPlan s w (step op x y z)
