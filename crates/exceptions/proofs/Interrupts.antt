@@ -102,18 +102,20 @@ leftmost-is n h q =
     let small : leadingZeros 8 n + 1 ≤ 8 = vector-small n h (omega (arith, q)) in
     rw (ne-eqb n 0 q) (eqb-true _ _ (at-each 8 halves halves-are (leadingZeros 8 n) (omega arith)))
 
-module _ (s : State) (f word u v : ℕ) (b : f < 256) (l : List ℕ) (e : withParts s (s .general) l ≡ withAdded s f) where
+module _ (s : State) (f word u v : ℕ) (b : f < 256) (l : List ℕ) (same : withParts s (s .general) l ≡ withAdded s f) where
   byte : f % 256 ≡ f
   byte = omega arith
 
-  pub none-taken : (n : ℕ) → bitAnd f (enables s) ≡ 0 → n ≡ (s .pc + 4) % 2 ^ 64 → Told (raised s f word u v) Done (made (s .general) l n (s .halt) (s .marks))
+  -- e are the flags raised and enabled
+  pub none-taken : (n e : ℕ) → e ≡ bitAnd f (enables s) → e ≡ 0 → n ≡ (s .pc + 4) % 2 ^ 64
+      → Told (raised s f word u v) Done (made (s .general) l n (s .halt) (s .marks))
   unfolding raised replyOf
-  none-taken n q h = rw (byte, q) (record { reply-is = refl; state-is = next-is s _ (s .general) l e n h })
+  none-taken n e w q h = rw (byte, ← w, q) (record { reply-is = refl; state-is = next-is s _ (s .general) l same n h })
 
-  pub one-taken : (k : ℕ) (r : Reply) (t : State) → (bitAnd f (enables s) ≡ 0 → ⊥) → k ≡ leadingZeros 8 (bitAnd f (enables s)) + 1
+  pub one-taken : (k e : ℕ) (r : Reply) (t : State) → e ≡ bitAnd f (enables s) → (e ≡ 0 → ⊥) → k ≡ leadingZeros 8 e + 1
       → Told (tripTo (withParts s (s .general) l) k word u v) r t → Told (raised s f word u v) r t
   unfolding raised
-  one-taken k r t q i h = rw (byte, ne-eqb _ 0 q) (rw (e, i) at h)
+  one-taken k e r t w q i h = rw (byte, ← w, ne-eqb _ 0 q) (rw (same, i) at h)
 
 -- the entry: 1, then what is raised
 module _ (s : State) (f op x y z u v : ℕ) where

@@ -4,6 +4,7 @@ ghost use mathlib.Core.Bool.{_&&_};
 ghost use mathlib.Core.List.{List};
 ghost use Prim.Native.Nat.{ℕ, _/_, _%_, _^_, _<_, _≤_};
 ghost use lib.Dec.{eqb};
+ghost use lib.Bits.{bitAnd};
 ghost use Rattle.model.specs.Trips.{interrupted, tripTo, vectorOf, leftmost, withAdded, raised};
 ghost use Rattle.model.specs.Step.{isNamed, exceptionOf};
 ghost use Rattle.model.specs.Parts.{made};
@@ -167,6 +168,13 @@ pub fn trap_arm(
     Reply::Trapped
 }
 
+/// The flags raised and enabled.
+fn enabled_of(ra: u64, flags: u8) -> u8
+    ensures { λ r. ⌜ r ≡ bitAnd flags (ra / 256 % 256) ⌝ }
+{
+    flags & (((ra / 256) % 256) as u8)
+}
+
 /// The leftmost of some flags, 0 where there is none.
 fn leftmost_flag(flags: u8) -> u8
     ensures { λ r. ⌜ r ≡ leftmost flags ⌝ }
@@ -183,7 +191,7 @@ fn add_untaken(special: &mut [u64; 32], flags: u8)
         ≡ withAdded (made general (now (special .entry)) pc halt marks) flags) ⌝ }
 {
     let ra = special[State::RA];
-    let enabled = flags & (((ra / 256) % 256) as u8);
+    let enabled = enabled_of(ra, flags);
     let taken = leftmost_flag(enabled);
     let others = flags & (255 - taken);
     special[State::RA] = ra | (others as u64);
@@ -214,7 +222,7 @@ pub fn raise(
         r (made (now (general .exit)) (now (special .exit)) (now (pc .exit)) (now (halt .exit)) marks) ⌝ }
 {
     let ra = special[State::RA];
-    let enabled = flags & (((ra / 256) % 256) as u8);
+    let enabled = enabled_of(ra, flags);
     add_untaken(special, flags);
     if enabled == 0 {
         *pc = decode::target::following(*pc);

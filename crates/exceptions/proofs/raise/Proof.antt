@@ -8,8 +8,8 @@ use Rattle.exceptions.proofs.raise.Tie as tie
 element-copy-out-ra : tie.Need-element-copy-out-ra
 element-copy-out-ra c = search needs
 
-cast-enabled : tie.Need-cast-enabled
-cast-enabled c = search needs
+enabled-of-requires : tie.Need-enabled-of-requires
+enabled-of-requires c κs = search needs
 
 add-untaken-requires : tie.Need-add-untaken-requires
 add-untaken-requires c κs = search needs
@@ -21,10 +21,11 @@ returns : tie.Need-returns
 returns c =
     let then = c .before .before in
     let adds = then .before in
-    let start = adds .before .before .before in
+    let asked = adds .before .before in
+    let start = asked .before .before in
     let a = start .args in
     let s = made (a .general .now) (a .special .now) (a .pc .now) (a .halt .now) (a .marks) in
-    none-taken s _ _ _ _ (start .fits .flags .fits) _ (adds .add-untaken .ensures (s .general) (s .pc) (s .halt) (s .marks)) _ (then .if1 .taken) (c .following .ensures)
+    none-taken s _ _ _ _ (start .fits .flags .fits) _ (adds .add-untaken .ensures (s .general) (s .pc) (s .halt) (s .marks)) _ _ (asked .enabled-of .ensures) (then .if1 .taken) (c .following .ensures)
 
 vector-of-requires : tie.Need-vector-of-requires
 vector-of-requires c κs = search needs
@@ -37,12 +38,13 @@ returns-2 c =
     let vector = c .before .before .before .before .before in
     let else = vector .before in
     let adds = else .before in
-    let start = adds .before .before .before in
+    let asked = adds .before .before in
+    let start = asked .before .before in
     let a = start .args in
     let s = made (a .general .now) (a .special .now) (a .pc .now) (a .halt .now) (a .marks) in
     let last = c .trip .last in
     let t = made (last .0) (last .1 .0) (last .1 .1 .0) (last .1 .1 .1 .0) (a .marks) in
-    one-taken s _ _ _ _ (start .fits .flags .fits) _ (adds .add-untaken .ensures (s .general) (s .pc) (s .halt) (s .marks)) (vector .vector-of .result) (c .trip .result) t (else .if1 .left) (vector .vector-of .ensures .0) (c .trip .ensures)
+    one-taken s _ _ _ _ (start .fits .flags .fits) _ (adds .add-untaken .ensures (s .general) (s .pc) (s .halt) (s .marks)) (vector .vector-of .result) _ (c .trip .result) t (asked .enabled-of .ensures) (else .if1 .left) (vector .vector-of .ensures .0) (c .trip .ensures)
 
 pub raise-spec : {M : Type 1} → statement M
-raise-spec = tie.close (tie.spec element-copy-out-ra cast-enabled add-untaken-requires following-requires returns vector-of-requires trip-requires returns-2)
+raise-spec = tie.close (tie.spec element-copy-out-ra enabled-of-requires add-untaken-requires following-requires returns vector-of-requires trip-requires returns-2)
