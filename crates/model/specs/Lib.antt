@@ -22,6 +22,7 @@ pub mod Reader
 pub mod Numbers
 pub mod Field
 pub mod Parts
+pub mod Kept
 -- Knuth's rules where the steps depart from them
 pub mod Rules
 -- theorems: statements; proofs/ has the proofs
