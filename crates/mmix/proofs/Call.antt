@@ -15,10 +15,11 @@ use Rattle.model.specs.Run.{runOf}
 use Rattle.model.specs.declared.State.{State}
 use Rattle.model.proofs.Numbers.{step-number, run-number}
 use Rattle.model.proofs.Leaves.{replies-leave}
-use Rattle.mmix.specs.Image.{imageLength, imageOf, stateOf}
+use Rattle.model.specs.Kept.{imageLength}
+use Rattle.image.specs.Image.{imageOf, stateOf}
 use Rattle.mmix.specs.Calls.{Held, image, struct, heldState, HeldIs, HeldFits, Entry, on-image, run-image, on-lent, on-parts, run-parts, decode, encode, triedItems, triedAnswers, askedBy, answeredBy, MovedBy, ImageCall, StateCall, AsImage, AsStruct, MeetsBy}
 use Rattle.mmix.specs.Entries.{RanImage, RanState}
-use Rattle.mmix.proofs.RoundTrips.{round-trips}
+use Rattle.image.proofs.RoundTrips.{round-trips}
 use Rattle.mmix.proofs.Entries.{if-image}
 use Rattle.mmix.proofs.Tried.{RunListed, run-tried}
 

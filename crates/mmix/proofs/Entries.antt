@@ -18,7 +18,8 @@ use Rattle.model.specs.declared.Reply.{Reply}
 use Rattle.model.specs.declared.Reach.{Reach}
 use Rattle.exceptions.specs.Told.{Told}
 use Rattle.instruction.specs.StepAnswer.{Whole, RunWhole}
-use Rattle.mmix.specs.Image.{imageLength, imageOf, stateOf}
+use Rattle.model.specs.Kept.{imageLength}
+use Rattle.image.specs.Image.{imageOf, stateOf}
 use Rattle.mmix.specs.Entries.{isImage, Decoded, Encoded, Initialized, Stepped, SteppedState, RanImage, RanState, Raised, RaisedState, FieldTold}
 
 -- ---- on the parts of a state

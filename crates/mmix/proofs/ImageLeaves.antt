@@ -16,9 +16,9 @@ use Rattle.model.specs.Leaves.{Interrupted, Trapped, TripLeaves, StoreLeaves, A
 use Rattle.model.proofs.Leaves.{added-sized, results-sized}
 use Rattle.model.specs.declared.State.{State}
 use Rattle.model.specs.declared.Results.{Results}
-use Rattle.mmix.specs.Image.{imageOf, stateOf}
+use Rattle.image.specs.Image.{imageOf, stateOf}
 use Rattle.mmix.specs.Leaves.{replaced, atSpecial, atHalt, haltBytes, tripOctas, trapOctas, NotLoadedLeaves}
-use Rattle.mmix.proofs.RoundTrips.{halt-bytes, round-trips}
+use Rattle.image.proofs.RoundTrips.{halt-bytes, round-trips}
 use Rattle.mmix.proofs.Writes.{halted-image, special-sized, interrupt-image, after-special}
 
 module _ (l : List ℕ) (back : imageOf (stateOf l) ≡ l) where

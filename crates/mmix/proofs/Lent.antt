@@ -7,9 +7,9 @@ use denote.Struct.Laws as LL
 use Rattle.model.specs.declared.State.{State}
 use Rattle.model.proofs.State as T
 use Rattle.model.proofs.State.Laws as T′
-use Rattle.mmix.specs.declared.image.Answer.{Answer}
-use Rattle.mmix.proofs.image.Answer as O
-use Rattle.mmix.proofs.image.Answer.Laws as O′
+use Rattle.image.specs.declared.Answer.{Answer}
+use Rattle.image.proofs.Answer as O
+use Rattle.image.proofs.Answer.Laws as O′
 
 -- the machine value of a state
 abbrev pub sv : State → Val

@@ -16,9 +16,9 @@ use Rattle.model.specs.Leaves.{Interrupted}
 use Rattle.model.specs.declared.State.{State}
 use Rattle.model.proofs.Octa.{written-nil}
 use Rattle.machine.specs.Octabytes.{flat}
-use Rattle.mmix.specs.Image.{imageOf}
+use Rattle.image.specs.Image.{imageOf}
 use Rattle.mmix.specs.Leaves.{replaced, atSpecial, atHalt, interruptOctas}
-use Rattle.mmix.proofs.Codec.{numbers}
+use Rattle.image.proofs.Codec.{numbers}
 
 -- ---- writes of a state
 

@@ -18,7 +18,8 @@ use Rattle.model.specs.Step.{Item, step, exception, fetched, mmix}
 use Rattle.model.specs.Invariants.{InstructionFits, Fits, Bytes}
 use Rattle.model.specs.Demand.{Within, Call, opcodeOf, Alike, SameOutside, AtPop}
 use Rattle.model.specs.declared.State.{State}
-use Rattle.mmix.specs.Image.{imageLength, imageOf, stateOf}
+use Rattle.model.specs.Kept.{imageLength}
+use Rattle.image.specs.Image.{imageOf, stateOf}
 use Rattle.mmix.specs.Entries.{Decoded, Encoded, Stepped, Raised, RanImage, SteppedState, RaisedState, RanState}
 
 -- ---- what a host holds

@@ -15,23 +15,11 @@ use Rattle.model.specs.Reader.{readContext}
 use Rattle.model.specs.Numbers.{numberOf, replyOf}
 use Rattle.model.specs.Field.{FieldAnswer}
 use Rattle.model.specs.declared.State.{State}
-use Rattle.mmix.specs.Image.{imageLength, imageOf, stateOf}
-
-abbrev pub isImage : List ℕ → Bool
-isImage l = eqb (length l) imageLength
+use Rattle.image.specs.Image.{isImage, imageOf, stateOf, Encoded}
 
 -- the two windows as C lends them: the base of each, and its bytes
 abbrev pub lentAt : ℕ → ℕ → List ℕ → List ℕ → Windows
 lentAt base-a base-b a b = lent (record { a = base-a; b = base-b }) a b
-
--- the state of an image, and the image of a state
-pub record Decoded (l : List ℕ) (s : State) (r : ℕ) (t : State) : Type 0 where
-  pub reply-is : r ≡ cond (isImage l) 0 1
-  pub state-is : t ≡ cond (isImage l) (stateOf l) s
-
-pub record Encoded (s : State) (l : List ℕ) (r : ℕ) (m : List ℕ) : Type 0 where
-  pub reply-is : r ≡ cond (isImage l) 0 1
-  pub image-is : m ≡ cond (isImage l) (imageOf s) l
 
 abbrev pub Initialized : List ℕ → ℕ → List ℕ → Type 0
 Initialized l r m = Encoded fresh l r m

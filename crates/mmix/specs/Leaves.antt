@@ -25,7 +25,8 @@ use Rattle.model.specs.Numbers.{Early, Lost, Missed, Halting}
 use Rattle.model.specs.Field.{fieldOf, answerOf}
 use Rattle.model.specs.Leaves.{Sharing, StepLeaves, RunLeaves, ExceptionLeaves, FieldLeaves}
 use Rattle.model.specs.declared.State.{State}
-use Rattle.mmix.specs.Image.{imageLength, stateOf, imageOf}
+use Rattle.model.specs.Kept.{imageLength}
+use Rattle.image.specs.Image.{stateOf, imageOf}
 use Rattle.mmix.specs.Entries.{Stepped, RanImage, Raised, SteppedState, RanState, RaisedState, ContextAt, FieldTold}
 use Rattle.model.specs.declared.Operation.{Operation}
 

@@ -70,7 +70,7 @@ byte-at v (suc (suc (suc (suc (suc (suc zero)))))) h = refl
 byte-at v (suc (suc (suc (suc (suc (suc (suc zero))))))) h = ap (λ (n : ℕ). n % 256) (div-one v)
 byte-at v (suc (suc (suc (suc (suc (suc (suc (suc j)))))))) h = absurd (omega arith)
 
-getD-part : (l : List ℕ) (o n j : ℕ) → j < n → getD (part l o n) j 0 ≡ getD l (o + j) 0
+pub getD-part : (l : List ℕ) (o n j : ℕ) → j < n → getD (part l o n) j 0 ≡ getD l (o + j) 0
 unfolding part
 getD-part l o zero j h = absurd (omega arith)
 getD-part l o (suc n) zero h = ap (λ (k : ℕ). getD l k 0) (omega arith)

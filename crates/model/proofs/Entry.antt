@@ -9,7 +9,7 @@ use native.Mathlib.Decide.{decLt}
 use lib.ListN.{length, getD, List·getD-eq-default}
 use lib.Dec.{eqb}
 use borrow.Author.Tests.{eqb-true, ne-eqb, le-leb}
-use Rattle.model.specs.Octa.{octa, part}
+use Rattle.model.specs.Octa.{octa}
 use Rattle.model.specs.Memory.{Window, Shape, shapeOf, offset, has, octaBytes, Windows, Shapes, shapesOf, inside, octaAt, both, ruled, shares}
 use Rattle.model.specs.Plan.{Plan, answer, Outcome, perform, worst, clear, puts, Off, Agree}
 use Rattle.model.specs.Registers.{admissible}
@@ -19,6 +19,7 @@ use Rattle.model.specs.Demand.{SameBytes, SameOutside}
 use Rattle.model.specs.declared.State.{State}
 use Rattle.model.proofs.Bools.{on}
 use Rattle.model.proofs.Fill.{lt-or-le}
+use Rattle.model.proofs.Bytes.{getD-part}
 use Rattle.model.proofs.Plan.{Sound}
 use Rattle.model.proofs.Apart.{Ruled, ruled-a, ruled-b, apart}
 
@@ -136,12 +137,6 @@ mmix-sound s w i = sound w
 
 -- ---- bytes
 
-getD-part : (n : ℕ) (l : List ℕ) (o k : ℕ) → k < n → getD (part l o n) k 0 ≡ getD l (o + k) 0
-unfolding part
-getD-part zero l o k h = absurd (omega arith)
-getD-part (suc n) l o zero h = ap (λ (i : ℕ). getD l i 0) (omega arith)
-getD-part (suc n) l o (suc k) h = getD-part n l (suc o) k (omega arith) ∙ ap (λ (i : ℕ). getD l i 0) (omega arith)
-
 -- the distance back from an octabyte d places past the base, in octabytes; the sum may pass 2^61
 distance : (c d : ℕ) → c < 2 ^ 61 → d < 2 ^ 57 → Dec (c + d < 2 ^ 61) → (8 * ((c + d) % 2 ^ 61) + (2 ^ 64 - 8 * c)) % 2 ^ 64 ≡ 8 * d
 distance c d p q (yes l) = let e : (c + d) % 2 ^ 61 ≡ c + d = omega arith in rw e (omega arith)
@@ -160,7 +155,7 @@ unfolding octaBytes shapeOf
 byte-of w i r l =
     let n : length (w .bytes) < 2 ^ 60 = r .size-most in
     let e : offset (w .base) (w .base + i) ≡ 8 * (i / 8) = offset-byte (w .base) i (r .base-aligned) (r .base-word) (omega arith) in
-    ap (λ (k : ℕ). getD (w .bytes) k 0) (omega arith) ∙ sym (getD-part 8 (w .bytes) (offset (w .base) (w .base + i)) (i % 8) (omega arith))
+    ap (λ (k : ℕ). getD (w .bytes) k 0) (omega arith) ∙ sym (getD-part (w .bytes) (offset (w .base) (w .base + i)) 8 (i % 8) (omega arith))
 
 byte-has : (w : Window) (i : ℕ) → Ruled (shapeOf w) → i < length (w .bytes) → has (shapeOf w) (w .base + i) ≡ true
 unfolding has shapeOf

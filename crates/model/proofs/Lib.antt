@@ -3,6 +3,7 @@ pub mod Bools
 pub mod Fill
 pub mod Octa
 pub mod Bytes
+pub mod Slices
 pub mod Memory
 pub mod Apart
 pub mod Plan

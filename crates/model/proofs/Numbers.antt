@@ -8,7 +8,7 @@ use lib.Dec.{eqb}
 use borrow.Author.Tests.{eqb-true}
 use Rattle.model.specs.Numbers.{numberOf, replyOf, Numbered}
 use Rattle.model.specs.declared.Reply.{Reply}
-use Rattle.model.specs.declared.Reply.the-variants.{Done, NotAdmissible, WindowRule, NoArm, NamedTrap, NoSpecial, Missing, PutUnknown, PutPrivileged, PutIllegal, PutThreshold, PutStatus, Misplaced, SaveLocal, SavedThreshold, SavedStatus, SavedCount, SyncPrivileged, SyncIllegal, NotLoaded, Trapped, OutOfReach, Shared, Across, NotFetched, GrantTooLarge}
+use Rattle.model.specs.declared.Reply.the-variants.{Done, NotAdmissible, WindowRule, NoArm, NamedTrap, NoSpecial, Missing, PutUnknown, PutPrivileged, PutIllegal, PutThreshold, PutStatus, Misplaced, SaveLocal, SavedThreshold, SavedStatus, SavedCount, SyncPrivileged, SyncIllegal, NotLoaded, Trapped, OutOfReach, Shared, Across, NotFetched, GrantTooLarge, StoreTooShort, NoPoint, OtherPoint}
 use Rattle.model.proofs.Bools.{each, at-each}
 
 there : (r : Reply) → replyOf (numberOf r) ≡ r
@@ -39,13 +39,16 @@ there Shared = refl
 there Across = refl
 there NotFetched = refl
 there GrantTooLarge = refl
+there StoreTooShort = refl
+there NoPoint = refl
+there OtherPoint = refl
 
-all : each 26 (λ n. eqb (numberOf (replyOf n)) n) ≡ true
+all : each 29 (λ n. eqb (numberOf (replyOf n)) n) ≡ true
 unfolding each numberOf replyOf
 all = refl
 
 pub numbered : Numbered
-numbered = record { reply-number = there; number-reply = λ n l. eqb-true (numberOf (replyOf n)) n (at-each 26 (λ k. eqb (numberOf (replyOf k)) k) all n (omega arith)) }
+numbered = record { reply-number = there; number-reply = λ n l. eqb-true (numberOf (replyOf n)) n (at-each 29 (λ k. eqb (numberOf (replyOf k)) k) all n (omega arith)) }
 
 -- a step's number is one of 0 to 20, or 22
 pub step-number : (n : ℕ) → (n ≤ 20) ⊎ (n ≡ 22) → numberOf (replyOf n) ≡ n

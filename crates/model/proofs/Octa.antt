@@ -40,7 +40,7 @@ sets-none : (vs : List ℕ) (o : ℕ) → sets [] o vs ≡ []
 sets-none [] o = refl
 sets-none (v ∷ vs) o = sets-none vs (suc o)
 
-written-sets : (l : List ℕ) (o : ℕ) (vs : List ℕ) → written l o vs ≡ sets l o vs
+pub written-sets : (l : List ℕ) (o : ℕ) (vs : List ℕ) → written l o vs ≡ sets l o vs
 unfolding written
 written-sets [] o vs = sym (sets-none vs o)
 written-sets (x ∷ xs) (suc o) vs = ap (λ (r : List ℕ). x ∷ r) (written-sets xs o vs) ∙ sym (sets-cons vs x xs o)

@@ -57,6 +57,11 @@ pub enum Reply {
     NotFetched,
     // A run's alone: a grant above 1,000,000, judged after 22; the call is refused whole.
     GrantTooLarge,
+    // 26 to 28 are those of points to return to, and leave everything as it was: a store shorter than sixteen rooms; a name above 15, or on
+    // going back one under which nothing is taken; a point of other bases or lengths than those lent, or whose state is not admissible.
+    StoreTooShort,
+    NoPoint,
+    OtherPoint,
 }
 
 /// An octabyte that was read, and which window holds it: 0 for A, 1 for B, 2 for neither.

@@ -11,7 +11,7 @@ use Rattle.model.specs.Octa.{part, written, valueOf, bytesOf}
 use Rattle.model.specs.Registers.{rO, rS, rG, rL, rA}
 use Rattle.model.specs.Memory.{Windows}
 use Rattle.model.specs.Parts.{lent}
-use Rattle.mmix.specs.Image.{imageLength}
+use Rattle.model.specs.Kept.{imageLength}
 use Rattle.mmix.specs.Entries.{Stepped, Raised}
 
 -- octabyte i of some bytes, high byte first

@@ -113,8 +113,8 @@ module _ (w : Windows) (p : ℕ) where
 
   pub place-unruled : (n : ℕ) → n ≡ unruledBy (shapesOf w) → (n ≡ 0 → ⊥) → (q : Reply) → q ≡ replyOf n → (k : Place) → k ≡ placed q 0 0 0 → PlaceIs w p k
   place-unruled n e f q d k z =
-      let most : n ≤ 25 = ⊎-elim (λ two. omega arith) (λ shared. omega arith) (unruled-by w n e f) in
-      rw z (refused n q d (ap numberOf d ∙ numbered .number-reply n most)
+      let most : n ≤ 22 = ⊎-elim (λ two. omega arith) (λ shared. omega arith) (unruled-by w n e f) in
+      rw z (refused n q d (ap numberOf d ∙ numbered .number-reply n (omega arith))
       (reader-unruled w p (λ none. f (e ∙ none)) ∙ ap (λ (m : ℕ). record { reply = m; state = emptyPart; memory = w }) (sym e)))
 
   module _ (u : unruledBy (shapesOf w) ≡ 0) (at : Located) (h : LocatedIs w p at) where

@@ -35,6 +35,9 @@ pub fn number_of(reply: Reply) -> u64
         Reply::Across => 23,
         Reply::NotFetched => 24,
         Reply::GrantTooLarge => 25,
+        Reply::StoreTooShort => 26,
+        Reply::NoPoint => 27,
+        Reply::OtherPoint => 28,
     }
 }
 

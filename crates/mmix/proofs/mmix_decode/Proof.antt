@@ -43,18 +43,18 @@ use denote.Triple.Clauses.{ensured, lasts}
 use denote.Triple.Table.{entered, cited}
 use denote.Triple.Walked.{says, Stays, stay-ref, stay-dropped, walkOf, AllGo, goes-ref, goes-dropped, Walks, ends-at, walked, walk-meets}
 use denote.Exit.{yes}
-use Rattle.mmix.specs.Entries.{Decoded}
+use Rattle.image.specs.Image.{Decoded}
 use Rattle.model.specs.declared.State.{State}
-use Rattle.mmix.specs.declared.image.Answer.{Answer}
+use Rattle.image.specs.declared.Answer.{Answer}
 use Rattle.mmix.proofs.Lent.{sv, state-is, reply-fits}
 use Rattle.model.proofs.State as T
 use Rattle.model.proofs.State.Laws as T′
-use Rattle.mmix.proofs.image.Answer as O
-use Rattle.mmix.proofs.image.Answer.Laws as O′
-use Rattle.mmix.proofs.image.decode as decode
-use Rattle.mmix.proofs.image.decode.Symbol as decode-def
-use Rattle.mmix.proofs.image.decode.Symbol.{name as #decode}
-use Rattle.mmix.proofs.image.decode.Met as decode-thm
+use Rattle.image.proofs.Answer as O
+use Rattle.image.proofs.Answer.Laws as O′
+use Rattle.image.proofs.decode as decode
+use Rattle.image.proofs.decode.Symbol as decode-def
+use Rattle.image.proofs.decode.Symbol.{name as #decode}
+use Rattle.image.proofs.decode.Met as decode-thm
 use Rattle.mmix.proofs.mmix_decode.Key.{name as #lent}
 use Rattle.mmix.proofs.mmix_decode as f
 use Rattle.mmix.proofs.mmix_decode.Statement as stated

@@ -40,15 +40,15 @@ use denote.Triple.Clauses.{ensured, lasts}
 use denote.Triple.Table.{entered, cited}
 use denote.Triple.Walked.{says, Stays, stay-dropped, gave-slice, walkOf, AllGo, goes-dropped, goes-gave-slice, Walks, ends-at, walked, walk-meets}
 use denote.Exit.{yes}
-use Rattle.mmix.specs.Entries.{Encoded}
+use Rattle.image.specs.Image.{Encoded}
 use Rattle.model.specs.declared.State.{State}
 use Rattle.mmix.proofs.Lent.{sv}
 use Rattle.model.proofs.State as T
 use Rattle.model.proofs.State.Laws as T′
-use Rattle.mmix.proofs.image.encode as encode
-use Rattle.mmix.proofs.image.encode.Symbol as encode-def
-use Rattle.mmix.proofs.image.encode.Symbol.{name as #encode}
-use Rattle.mmix.proofs.image.encode.Met as encode-thm
+use Rattle.image.proofs.encode as encode
+use Rattle.image.proofs.encode.Symbol as encode-def
+use Rattle.image.proofs.encode.Symbol.{name as #encode}
+use Rattle.image.proofs.encode.Met as encode-thm
 use Rattle.mmix.proofs.mmix_encode.Key.{name as #lent}
 use Rattle.mmix.proofs.mmix_encode as f
 use Rattle.mmix.proofs.mmix_encode.Statement as stated

@@ -45,12 +45,12 @@ use denote.Triple.Walked.{says, Stays, stay-ref, gave-slice, stay-none, walkOf, 
 use denote.Exit.{yes}
 use Rattle.mmix.specs.Entries.{lentAt, SteppedState}
 use Rattle.model.specs.declared.State.{State}
-use Rattle.mmix.specs.declared.image.Answer.{Answer}
+use Rattle.image.specs.declared.Answer.{Answer}
 use Rattle.mmix.proofs.Lent.{sv, state-is, reply-fits}
 use Rattle.model.proofs.State as T
 use Rattle.model.proofs.State.Laws as T′
-use Rattle.mmix.proofs.image.Answer as O
-use Rattle.mmix.proofs.image.Answer.Laws as O′
+use Rattle.image.proofs.Answer as O
+use Rattle.image.proofs.Answer.Laws as O′
 use Rattle.mmix.proofs.step as step
 use Rattle.mmix.proofs.step.Symbol as step-def
 use Rattle.mmix.proofs.step.Symbol.{name as #step}

@@ -83,6 +83,15 @@ enum-told-25 c = search needs
 enum-told-26 : tie.Need-enum-told-26
 enum-told-26 c = search needs
 
+enum-told-27 : tie.Need-enum-told-27
+enum-told-27 c = search needs
+
+enum-told-28 : tie.Need-enum-told-28
+enum-told-28 c = search needs
+
+enum-told-29 : tie.Need-enum-told-29
+enum-told-29 c = search needs
+
 returns : tie.Need-returns
 unfolding numberOf
 returns c = sym (ap numberOf (c .enum-told .given .1))
@@ -187,6 +196,18 @@ returns-26 : tie.Need-returns-26
 unfolding numberOf
 returns-26 c = sym (ap numberOf (c .enum-told26 .given .1))
 
+returns-27 : tie.Need-returns-27
+unfolding numberOf
+returns-27 c = sym (ap numberOf (c .enum-told27 .given .1))
+
+returns-28 : tie.Need-returns-28
+unfolding numberOf
+returns-28 c = sym (ap numberOf (c .enum-told28 .given .1))
+
+returns-29 : tie.Need-returns-29
+unfolding numberOf
+returns-29 c = sym (ap numberOf (c .enum-told29 .given .1))
+
 pub number-of-spec : {M : Type 1} → statement M
 number-of-spec =
     tie.close
@@ -217,6 +238,9 @@ number-of-spec =
     enum-told-24
     enum-told-25
     enum-told-26
+    enum-told-27
+    enum-told-28
+    enum-told-29
     returns
     returns-2
     returns-3
@@ -242,4 +266,7 @@ number-of-spec =
     returns-23
     returns-24
     returns-25
-    returns-26)
+    returns-26
+    returns-27
+    returns-28
+    returns-29)

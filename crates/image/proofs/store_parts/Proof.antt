@@ -1,9 +1,9 @@
--- `store_state` meets its contract: each part of the state is stored at its place, and together they fill the image.
+-- `store_parts` meets its contract: each part of the state is stored at its place, and together they fill the image.
 use native.Mathlib.Omega.{arith}
-use Rattle.mmix.proofs.Codec.{image-stored}
+use Rattle.image.proofs.Codec.{image-stored}
 use borrow.Author.Needs.{needs}
-use Rattle.mmix.proofs.image.store_state.Statement.{statement}
-use Rattle.mmix.proofs.image.store_state.Tie as tie
+use Rattle.image.proofs.store_parts.Statement.{statement}
+use Rattle.image.proofs.store_parts.Tie as tie
 
 store-octas-requires : tie.Need-store-octas-requires
 store-octas-requires c κs = search needs
@@ -29,8 +29,8 @@ returns c =
     image-stored (start .args .image .now) _ _ _ _ (omega arith) (record { generals = omega arith; specials = omega arith })
     (first .store-octas .ensures) (second .store-octas2 .ensures) (third .store-octas3 .ensures)
 
-pub store-state-spec : {M : Type 1} → statement M
-store-state-spec =
+pub store-parts-spec : {M : Type 1} → statement M
+store-parts-spec =
     tie.close
     (tie.spec
     store-octas-requires

@@ -11,15 +11,16 @@ use Rattle.model.specs.Registers.{Sized, Words}
 use Rattle.model.specs.declared.State.{State}
 use Rattle.model.proofs.Octa.{value-bytes}
 use Rattle.machine.specs.Octabytes.{flat, octas}
-use Rattle.mmix.specs.Image.{imageLength, imageOf, stateOf, RoundTrips}
+use Rattle.model.specs.Kept.{imageLength}
+use Rattle.image.specs.Image.{imageOf, stateOf, RoundTrips}
 use Rattle.model.proofs.Bytes.{value-below}
 use Rattle.machine.proofs.OctabyteRuns.{length-octas, octas-append}
-use Rattle.mmix.proofs.Codec.{numbers, length-numbers, length-image}
+use Rattle.image.proofs.Codec.{numbers, length-numbers, length-image}
 
 -- ---- the state of its image
 
 -- octabyte k of a list of numbers
-part-flat : (vs : List ℕ) (k : ℕ) → k < length vs → part (flat vs) (8 * k) 8 ≡ bytesOf (getD vs k 0)
+pub part-flat : (vs : List ℕ) (k : ℕ) → k < length vs → part (flat vs) (8 * k) 8 ≡ bytesOf (getD vs k 0)
 unfolding part flat bytesOf
 part-flat [] k h = absurd (omega arith)
 part-flat (v ∷ vs) zero h = refl

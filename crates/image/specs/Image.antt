@@ -1,15 +1,15 @@
 -- 01, 'Host': "a state image of 291 octabytes (general, special, PC, halt code, marks)", high byte first.
 use Prim.Native.Nat.{ℕ, _+_, _<_}
 use mathlib.Core.Path.{_≡_}
+use mathlib.Core.Bool.{Bool, cond}
 use mathlib.Core.List.{List, [], _∷_, _++_}
+use lib.Dec.{eqb}
 use lib.ListN.{length, getD}
 use Rattle.model.specs.Octa.{part, valueOf}
+use Rattle.model.specs.Kept.{imageLength}
 use Rattle.model.specs.Registers.{Sized, Words}
 use Rattle.model.specs.declared.State.{State}
 use Rattle.machine.specs.Octabytes.{flat, octas}
-
-abbrev pub imageLength : ℕ
-imageLength = 2328
 
 -- the image of a state
 unfoldable pub imageOf : State → List ℕ
@@ -24,6 +24,18 @@ stateOf l = record {
   halt = valueOf 0 (part l 2312 8);
   marks = valueOf 0 (part l 2320 8);
 }
+
+abbrev pub isImage : List ℕ → Bool
+isImage l = eqb (length l) imageLength
+
+-- the state of an image, and the image of a state
+pub record Decoded (l : List ℕ) (s : State) (r : ℕ) (t : State) : Type 0 where
+  pub reply-is : r ≡ cond (isImage l) 0 1
+  pub state-is : t ≡ cond (isImage l) (stateOf l) s
+
+pub record Encoded (s : State) (l : List ℕ) (r : ℕ) (m : List ℕ) : Type 0 where
+  pub reply-is : r ≡ cond (isImage l) 0 1
+  pub image-is : m ≡ cond (isImage l) (imageOf s) l
 
 -- both round trips
 pub record RoundTrips : Type 0 where

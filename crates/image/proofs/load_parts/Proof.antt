@@ -1,9 +1,9 @@
--- `load_state` meets its contract: each part of the state is loaded from its place.
+-- `load_parts` meets its contract: each part of the state is loaded from its place.
 use native.Mathlib.Omega.{arith}
-use Rattle.mmix.proofs.Codec.{state-loaded}
+use Rattle.image.proofs.Codec.{state-loaded}
 use borrow.Author.Needs.{needs}
-use Rattle.mmix.proofs.image.load_state.Statement.{statement}
-use Rattle.mmix.proofs.image.load_state.Tie as tie
+use Rattle.image.proofs.load_parts.Statement.{statement}
+use Rattle.image.proofs.load_parts.Tie as tie
 
 load-octas-requires : tie.Need-load-octas-requires
 load-octas-requires c κs = search needs
@@ -35,8 +35,8 @@ returns c =
     state-loaded (start .args .image .now) (start .args .general .now) _ (start .args .special .now) _ _ _
     (omega arith) (omega arith) (omega arith) (omega arith) (first .load-octas .ensures) (second .load-octas2 .ensures) (third .load-octas3 .ensures)
 
-pub load-state-spec : {M : Type 1} → statement M
-load-state-spec =
+pub load-parts-spec : {M : Type 1} → statement M
+load-parts-spec =
     tie.close
     (tie.spec
     load-octas-requires

@@ -1,4 +1,4 @@
--- What `load_state` and `store_state` come to, from what their calls leave.
+-- What `load_parts` and `store_parts` come to, from what their calls leave.
 use mathlib.Core.Path.{_≡_, refl, sym, ap, _∙_}
 use mathlib.Core.List.{List, [], _∷_, _++_, append-assoc}
 use Prim.Native.Nat.{ℕ, _+_}
@@ -8,7 +8,8 @@ use Rattle.model.specs.Octa.{part, written, valueOf}
 use Rattle.model.specs.Registers.{Sized}
 use Rattle.model.specs.declared.State.{State}
 use Rattle.machine.specs.Octabytes.{flat, octas, loadedOctas, storedOctas}
-use Rattle.mmix.specs.Image.{imageLength, imageOf, stateOf}
+use Rattle.model.specs.Kept.{imageLength}
+use Rattle.image.specs.Image.{imageOf, stateOf}
 use Rattle.model.proofs.Bytes.{written-append}
 use Rattle.machine.proofs.OctabyteRuns.{length-flat, flat-append, written-all, loaded-fits, stored-fits}
 use Rattle.model.proofs.Octa.{length-written}

@@ -1,0 +1,4 @@
+-- The laws of the image.
+pub mod Coded
+pub mod Codec
+pub mod RoundTrips

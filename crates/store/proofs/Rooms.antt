@@ -1,0 +1,121 @@
+-- A room: filled, and read back; what a fill leaves.
+use mathlib.Core.Path.{_≡_, refl, sym, ap, _∙_}
+use mathlib.Core.Bool.{true}
+use mathlib.Core.List.{List}
+use mathlib.Core.Logic.{inl}
+use Prim.Native.Nat.{ℕ, _+_, _*_, _≤_, _<_, _^_}
+use native.Mathlib.Omega.{arith}
+use lib.ListN.{length, getD}
+use Rattle.model.specs.Octa.{part, written, valueOf}
+use Rattle.model.specs.Kept.{imageLength, Point, Fits}
+use Rattle.model.proofs.Octa.{length-written, written-below, written-above, part-written, value-bytes}
+use Rattle.model.proofs.Slices.{part-apart, part-inside}
+use Rattle.machine.specs.Octabytes.{flat}
+use Rattle.machine.proofs.OctabyteRuns.{length-flat}
+use Rattle.image.proofs.RoundTrips.{part-flat}
+use Rattle.store.specs.Store.{numbersAt, aAt, bAt, roomLength, numbersOf, filled, numberAt, isTaken, pointOf}
+
+length-numbers : (p : Point) → length (numbersOf p) ≡ 5
+unfolding numbersOf
+length-numbers p = refl
+
+forty : (p : Point) → length (flat (numbersOf p)) ≡ 40
+forty p = omega (arith, length-flat (numbersOf p), length-numbers p)
+
+pub length-filled : (r : List ℕ) (p : Point) → length (filled r p) ≡ length r
+unfolding filled
+length-filled r p =
+    length-written _ bAt (p .b) ∙ length-written _ aAt (p .a) ∙ length-written _ numbersAt (flat (numbersOf p)) ∙ length-written r 0 (p .image)
+
+module _ (r : List ℕ) (p : Point) where
+  -- the room as it is filled, place by place
+  abbrev w1 : List ℕ
+  w1 = written r 0 (p .image)
+
+  abbrev w2 : List ℕ
+  w2 = written w1 numbersAt (flat (numbersOf p))
+
+  abbrev w3 : List ℕ
+  w3 = written w2 aAt (p .a)
+
+  -- ---- what lies behind a window in its place
+
+  module _ (n : length (p .image) ≡ imageLength) where
+    pub behind-a : (i : ℕ) → aAt + length (p .a) ≤ i → i < bAt → getD (filled r p) i 0 ≡ getD r i 0
+    unfolding filled
+    behind-a i h m =
+        written-below w3 bAt (p .b) i m
+        ∙ written-above w2 aAt (p .a) i h
+        ∙ written-above w1 numbersAt (flat (numbersOf p)) i (omega (arith, forty p))
+        ∙ written-above r 0 (p .image) i (omega arith)
+
+    pub behind-b : (i : ℕ) → bAt + length (p .b) ≤ i → aAt + length (p .a) ≤ bAt → getD (filled r p) i 0 ≡ getD r i 0
+    unfolding filled
+    behind-b i h m =
+        written-above w3 bAt (p .b) i h
+        ∙ written-above w2 aAt (p .a) i (omega arith)
+        ∙ written-above w1 numbersAt (flat (numbersOf p)) i (omega (arith, forty p))
+        ∙ written-above r 0 (p .image) i (omega arith)
+
+  -- ---- what is read back
+
+  module _ (h : length r ≡ roomLength) (g : Fits p) where
+    l1 : length w1 ≡ roomLength
+    l1 = length-written r 0 (p .image) ∙ h
+
+    l2 : length w2 ≡ roomLength
+    l2 = length-written w1 numbersAt (flat (numbersOf p)) ∙ l1
+
+    l3 : length w3 ≡ roomLength
+    l3 = length-written w2 aAt (p .a) ∙ l2
+
+    pub image-back : part (filled r p) 0 imageLength ≡ p .image
+    unfolding filled
+    image-back =
+        part-apart w3 bAt (p .b) 0 imageLength (inl (omega arith))
+        ∙ part-apart w2 aAt (p .a) 0 imageLength (inl (omega arith))
+        ∙ part-apart w1 numbersAt (flat (numbersOf p)) 0 imageLength (inl (omega arith))
+        ∙ ap (part w1 0) (sym (g .image-long))
+        ∙ part-written r 0 (p .image) (omega (arith, g .image-long))
+
+    pub number-back : (k : ℕ) → k < 5 → getD (numbersOf p) k 0 < 2 ^ 64 → numberAt (filled r p) k ≡ getD (numbersOf p) k 0
+    unfolding numberAt filled
+    number-back k m b =
+        ap (valueOf 0) (
+          part-apart w3 bAt (p .b) (numbersAt + 8 * k) 8 (inl (omega arith))
+          ∙ part-apart w2 aAt (p .a) (numbersAt + 8 * k) 8 (inl (omega arith))
+          ∙ part-inside w1 numbersAt (flat (numbersOf p)) (8 * k) 8 (numbersAt + 8 * k) (omega (arith, forty p, l1)) (omega (arith, forty p)) refl
+          ∙ part-flat (numbersOf p) k (omega (arith, length-numbers p)))
+        ∙ value-bytes (getD (numbersOf p) k 0) b
+
+    a-back : part (filled r p) aAt (length (p .a)) ≡ p .a
+    unfolding filled
+    a-back =
+        part-apart w3 bAt (p .b) aAt (length (p .a)) (inl (omega (arith, g .long-a)))
+        ∙ part-written w2 aAt (p .a) (omega (arith, l2, g .long-a))
+
+    b-back : part (filled r p) bAt (length (p .b)) ≡ p .b
+    unfolding filled
+    b-back = part-written w3 bAt (p .b) (omega (arith, l3, g .long-b))
+
+    octas-a : 8 * numberAt (filled r p) 2 ≡ length (p .a)
+    unfolding numbersOf
+    octas-a = ap (λ (n : ℕ). 8 * n) (number-back 2 (omega arith) (omega (arith, g .long-a, g .whole-a))) ∙ g .whole-a
+
+    octas-b : 8 * numberAt (filled r p) 3 ≡ length (p .b)
+    unfolding numbersOf
+    octas-b = ap (λ (n : ℕ). 8 * n) (number-back 3 (omega arith) (omega (arith, g .long-b, g .whole-b))) ∙ g .whole-b
+
+    pub point-back : pointOf (filled r p) ≡ p
+    unfolding pointOf numbersOf
+    point-back = λ i. record {
+      image = image-back i;
+      baseA = number-back 0 (omega arith) (g .base-a) i;
+      baseB = number-back 1 (omega arith) (g .base-b) i;
+      a = (ap (part (filled r p) aAt) octas-a ∙ a-back) i;
+      b = (ap (part (filled r p) bAt) octas-b ∙ b-back) i;
+    }
+
+    pub taken-back : isTaken (filled r p) ≡ true
+    unfolding isTaken numbersOf
+    taken-back = rw (number-back 4 (omega arith) (omega arith))
