@@ -26,9 +26,9 @@ part-same (suc n) k l p q h =
     let q0 : q + 0 ≡ q = omega arith in
     let e : getD k p 0 ≡ getD l q 0 = ap (λ (i : ℕ). getD k i 0) (sym p0) ∙ h 0 (omega arith) ∙ ap (λ (i : ℕ). getD l i 0) q0 in
     let r : part k (suc p) n ≡ part l (suc q) n = part-same n k l (suc p) (suc q) (λ j m.
-        let pj : suc p + j ≡ p + suc j = omega arith in
-        let qj : q + suc j ≡ suc q + j = omega arith in
-        ap (λ (i : ℕ). getD k i 0) pj ∙ h (suc j) (omega arith) ∙ ap (λ (i : ℕ). getD l i 0) qj) in
+    let pj : suc p + j ≡ p + suc j = omega arith in
+    let qj : q + suc j ≡ suc q + j = omega arith in
+    ap (λ (i : ℕ). getD k i 0) pj ∙ h (suc j) (omega arith) ∙ ap (λ (i : ℕ). getD l i 0) qj) in
     cc
 
 -- ---- of what was written

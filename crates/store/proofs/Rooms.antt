@@ -82,10 +82,10 @@ module _ (r : List ℕ) (p : Point) where
     unfolding numberAt filled
     number-back k m b =
         ap (valueOf 0) (
-          part-apart w3 bAt (p .b) (numbersAt + 8 * k) 8 (inl (omega arith))
-          ∙ part-apart w2 aAt (p .a) (numbersAt + 8 * k) 8 (inl (omega arith))
-          ∙ part-inside w1 numbersAt (flat (numbersOf p)) (8 * k) 8 (numbersAt + 8 * k) (omega (arith, forty p, l1)) (omega (arith, forty p)) refl
-          ∙ part-flat (numbersOf p) k (omega (arith, length-numbers p)))
+        part-apart w3 bAt (p .b) (numbersAt + 8 * k) 8 (inl (omega arith))
+        ∙ part-apart w2 aAt (p .a) (numbersAt + 8 * k) 8 (inl (omega arith))
+        ∙ part-inside w1 numbersAt (flat (numbersOf p)) (8 * k) 8 (numbersAt + 8 * k) (omega (arith, forty p, l1)) (omega (arith, forty p)) refl
+        ∙ part-flat (numbersOf p) k (omega (arith, length-numbers p)))
         ∙ value-bytes (getD (numbersOf p) k 0) b
 
     a-back : part (filled r p) aAt (length (p .a)) ≡ p .a

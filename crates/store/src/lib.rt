@@ -43,7 +43,14 @@ pub fn take(at: Bases, name: u64, image: &[u8], a: &[u8], b: &[u8], store: &mut 
 }
 
 /// State and windows become those kept under a name: 1 of the image's length, 2, 22, 26, 27 and 28 are judged before the first byte is written.
-pub fn go_back(at: Bases, name: u64, image: &mut [u8], a: &mut [u8], b: &mut [u8], store: &[u8]) -> Reply
+pub fn go_back(
+    at: Bases,
+    name: u64,
+    image: &mut [u8],
+    a: &mut [u8],
+    b: &mut [u8],
+    store: &[u8],
+) -> Reply
     ensures { λ r. ⌜ GoneBack (now (store .entry)) name (pointIn (now (image .entry)) (at .a) (at .b) (now (a .entry)) (now (b .entry))) (numberOf r)
         (pointIn (now (image .exit)) (at .a) (at .b) (now (a .exit)) (now (b .exit))) ⌝ }
 {

@@ -1,49 +1,52 @@
+-- `copy_in` meets its contract. The loop's invariant: the first i bytes stand in `to` from `at` up, and nothing else has changed.
+use mathlib.Core.Path.{_≡_, refl}
+use Prim.Native.Nat.{_-_, _≤_}
+use native.Mathlib.Omega.{arith}
+use borrow.Author.Needs.{needs}
+use lib.ListN.{length, take}
+use Rattle.model.specs.Octa.{written}
+use Rattle.model.proofs.Slices.{in-none, in-turn, in-all}
 use Rattle.store.proofs.room.copy_in.Statement.{statement}
 use Rattle.store.proofs.room.copy_in.Tie as tie
-use Rattle.store.proofs.room.copy_in.Reads as reads
-use Rattle.store.proofs.room.copy_in.Lts as lts
 
 abbrev Inv-loop : tie.InvT-loop
-Inv-loop to₀ at from i₀ to i = ?
+Inv-loop to₀ at from i₀ to i = (i ≤ length from) × (length to ≡ length to₀) × (to ≡ written to₀ at (take i from))
 
 abbrev μ-loop : tie.MeasureT-loop
-μ-loop to₀ at from i₀ to i = ?
+μ-loop to₀ at from i₀ to i = length from - i
 
--- src/room.rt:33:5
 loop-holds : tie.Need-loop-holds Inv-loop μ-loop
-loop-holds c = ?
+loop-holds c = (omega arith, refl, in-none (c .args .to .now) (c .args .at) (c .args .from .now))
 
--- src/room.rt:34:22
 shared-slice-read-to : tie.Need-shared-slice-read-to Inv-loop μ-loop
-shared-slice-read-to c = ?
+shared-slice-read-to c = search needs
 
--- src/room.rt:34:12
 add-to : tie.Need-add-to Inv-loop μ-loop
-add-to c = ?
+add-to c = search needs
 
--- src/room.rt:34:9
 slice-write-to : tie.Need-slice-write-to Inv-loop μ-loop
-slice-write-to c = ?
+slice-write-to c = search needs
 
--- src/room.rt:35:9
 add-i : tie.Need-add-i Inv-loop μ-loop
-add-i c = ?
+add-i c = search needs
 
--- src/room.rt:33:5
 loop-less : tie.Need-loop-less Inv-loop μ-loop
-loop-less c = ?
+loop-less c = search needs
 
--- src/room.rt:33:5
 loop-again : tie.Need-loop-again Inv-loop μ-loop
-loop-again c = ?
+loop-again c =
+    let in-loop = c .before .before in
+    let a = in-loop .before .args in (
+      omega arith,
+      search needs,
+      in-turn (in-loop .loop .to) (a .to .now) (a .from .now) (a .at) (in-loop .loop .i) (omega arith) (in-loop .loop .inv .2),
+    )
 
--- src/room.rt:28:1
 same-length : tie.Need-same-length Inv-loop μ-loop
-same-length c = ?
+same-length c = search needs
 
--- src/room.rt:28:1
 returns : tie.Need-returns Inv-loop μ-loop
-returns c = ?
+returns c = in-all _ _ _ _ (c .before .loop .i) (omega arith) (c .before .loop .inv .2)
 
 pub copy-in-spec : {M : Type 1} → statement M
 copy-in-spec =

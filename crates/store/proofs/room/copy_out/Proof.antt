@@ -1,49 +1,52 @@
+-- `copy_out` meets its contract. The loop's invariant: the first i bytes are those of `from` from `at` up.
+use mathlib.Core.Path.{_≡_, refl}
+use Prim.Native.Nat.{_-_, _≤_}
+use native.Mathlib.Omega.{arith}
+use borrow.Author.Needs.{needs}
+use lib.ListN.{length, take}
+use Rattle.model.specs.Octa.{part}
+use Rattle.model.proofs.Slices.{out-none, out-turn, out-all}
 use Rattle.store.proofs.room.copy_out.Statement.{statement}
 use Rattle.store.proofs.room.copy_out.Tie as tie
-use Rattle.store.proofs.room.copy_out.Reads as reads
-use Rattle.store.proofs.room.copy_out.Lts as lts
 
 abbrev Inv-loop : tie.InvT-loop
-Inv-loop from at to₀ i₀ to i = ?
+Inv-loop from at to₀ i₀ to i = (i ≤ length to₀) × (length to ≡ length to₀) × (take i to ≡ part from at i)
 
 abbrev μ-loop : tie.MeasureT-loop
-μ-loop from at to₀ i₀ to i = ?
+μ-loop from at to₀ i₀ to i = length to₀ - i
 
--- src/room.rt:45:5
 loop-holds : tie.Need-loop-holds Inv-loop μ-loop
-loop-holds c = ?
+loop-holds c = (omega arith, refl, out-none (c .args .from .now) (c .args .to .now) (c .args .at))
 
--- src/room.rt:46:22
 add-to : tie.Need-add-to Inv-loop μ-loop
-add-to c = ?
+add-to c = search needs
 
--- src/room.rt:46:17
 shared-slice-read-to : tie.Need-shared-slice-read-to Inv-loop μ-loop
-shared-slice-read-to c = ?
+shared-slice-read-to c = search needs
 
--- src/room.rt:46:9
 slice-write-to : tie.Need-slice-write-to Inv-loop μ-loop
-slice-write-to c = ?
+slice-write-to c = search needs
 
--- src/room.rt:47:9
 add-i : tie.Need-add-i Inv-loop μ-loop
-add-i c = ?
+add-i c = search needs
 
--- src/room.rt:45:5
 loop-less : tie.Need-loop-less Inv-loop μ-loop
-loop-less c = ?
+loop-less c = search needs
 
--- src/room.rt:45:5
 loop-again : tie.Need-loop-again Inv-loop μ-loop
-loop-again c = ?
+loop-again c =
+    let in-loop = c .before .before in
+    let a = in-loop .before .args in (
+      omega (arith, in-loop .loop .inv .1),
+      search needs,
+      out-turn (a .from .now) (in-loop .loop .to) (a .at) (in-loop .loop .i) (omega arith) (in-loop .loop .inv .2),
+    )
 
--- src/room.rt:40:1
 same-length : tie.Need-same-length Inv-loop μ-loop
-same-length c = ?
+same-length c = search needs
 
--- src/room.rt:40:1
 returns : tie.Need-returns Inv-loop μ-loop
-returns c = ?
+returns c = out-all _ _ _ (c .before .loop .i) _ (omega arith) (omega (arith, c .before .loop .inv .1)) (c .before .loop .inv .2)
 
 pub copy-out-spec : {M : Type 1} → statement M
 copy-out-spec =

@@ -1,26 +1,36 @@
+-- `is_admissible` meets its contract: the registers that are judged are those of the image's state.
+use mathlib.Core.Path.{ap, sym, _∙_}
+use mathlib.Core.Bool.{Bool, _&&_}
+use native.Mathlib.Omega.{arith}
+use lib.ListN.{length}
+use borrow.Author.Tests.{eq-eqb, ne-eqb}
 use borrow.Author.Needs.{needs}
+use Rattle.model.specs.Registers.{admissible}
+use Rattle.model.specs.Kept.{imageLength}
+use Rattle.model.specs.declared.State.{State}
+use Rattle.image.specs.Image.{stateOf}
+use Rattle.image.proofs.Coded.{of-image}
 use Rattle.store.proofs.room.is_admissible.Statement.{statement}
 use Rattle.store.proofs.room.is_admissible.Tie as tie
-use Rattle.store.proofs.room.is_admissible.Reads as reads
-use Rattle.store.proofs.room.is_admissible.Lts as lts
-use Rattle.image.proofs.load_state.Reads as load-state-reads
-use Rattle.machine.proofs.registers.admissible.Reads as admissible-reads
 
--- src/room.rt:89:9
 returns : tie.Need-returns
-returns c = ?
+returns c =
+    let l = c .before .before .args .image .now in
+    sym (ap (λ (t : Bool). t && admissible (stateOf l)) (ne-eqb (length l) imageLength (λ e. omega arith)))
 
--- src/room.rt:93:9
 load-state-requires : tie.Need-load-state-requires
 load-state-requires c κs = search needs
 
--- src/room.rt:94:5
 admissible-requires : tie.Need-admissible-requires
 admissible-requires c κs = search needs
 
--- src/room.rt:85:1
 returns-2 : tie.Need-returns-2
-returns-2 c = ?
+returns-2 c =
+    let loading = c .before .before in
+    let l = loading .before .before .before .before .before .args .image .now in
+    c .admissible .ensures _ _ _
+    ∙ ap admissible (of-image l (omega arith) _ _ _ (loading .load-state .ensures))
+    ∙ sym (ap (λ (t : Bool). t && admissible (stateOf l)) (eq-eqb (length l) imageLength (omega arith)))
 
 pub is-admissible-spec : {M : Type 1} → statement M
 is-admissible-spec = tie.close (tie.spec returns load-state-requires admissible-requires returns-2)

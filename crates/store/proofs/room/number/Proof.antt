@@ -1,33 +1,43 @@
+-- `number` meets its contract: a run of one octabyte.
+use mathlib.Core.Path.{_≡_, refl, ap, _∙_}
+use mathlib.Core.List.{List, [], _∷_}
+use Prim.Native.Nat.{ℕ, _+_, _*_}
+use native.Mathlib.Omega.{arith}
+use lib.ListN.{getD}
 use borrow.Author.Needs.{needs}
+use Rattle.model.specs.Octa.{part, valueOf}
+use Rattle.machine.specs.Octabytes.{octas, loadedOctas}
+use Rattle.machine.proofs.OctabyteRuns.{loaded-fits}
+use Rattle.store.specs.Store.{numbersAt, numberAt}
 use Rattle.store.proofs.room.number.Statement.{statement}
 use Rattle.store.proofs.room.number.Tie as tie
-use Rattle.store.proofs.room.number.Reads as reads
-use Rattle.store.proofs.room.number.Lts as lts
-use Rattle.machine.proofs.octabytes.load_octas.Reads as load-octas-reads
 
--- src/room.rt:69:55
+one-octa : (l : List ℕ) (o : ℕ) → getD (octas l o 1) 0 0 ≡ valueOf 0 (part l o 8)
+unfolding octas
+one-octa l o = refl
+
 mul-load-octas : tie.Need-mul-load-octas
 mul-load-octas c = search needs
 
--- src/room.rt:69:42
 add-load-octas : tie.Need-add-load-octas
 add-load-octas c = search needs
 
--- src/room.rt:69:62
 slice-aggregate-load-octas : tie.Need-slice-aggregate-load-octas
 slice-aggregate-load-octas c = search needs
 
--- src/room.rt:69:5
 load-octas-requires : tie.Need-load-octas-requires
 load-octas-requires c κs = search needs
 
--- src/room.rt:70:5
 array-read-result : tie.Need-array-read-result
 array-read-result c = search needs
 
--- src/room.rt:64:1
 returns : tie.Need-returns
-returns c = ?
+unfolding numberAt
+returns c =
+    let loading = c .before in
+    let a = loading .before .before .before .args in
+    ap (λ (v : List ℕ). getD v 0 0) (loading .load-octas .ensures ∙ loaded-fits (a .room .now) (numbersAt + 8 * a .k) (0 ∷ []) (omega arith))
+    ∙ one-octa (a .room .now) (numbersAt + 8 * a .k)
 
 pub number-spec : {M : Type 1} → statement M
 number-spec =
