@@ -20,7 +20,7 @@ use Rattle.image.specs.Image.{imageOf, stateOf}
 use Rattle.mmix.specs.Calls.{Held, image, struct, heldState, HeldIs, HeldFits, Entry, on-image, run-image, on-lent, on-parts, run-parts, decode, encode, triedItems, triedAnswers, askedBy, answeredBy, MovedBy, ImageCall, StateCall, AsImage, AsStruct, MeetsBy}
 use Rattle.mmix.specs.Entries.{RanImage, RanState}
 use Rattle.image.proofs.RoundTrips.{round-trips}
-use Rattle.mmix.proofs.Entries.{if-image}
+use Rattle.image.proofs.Coded.{if-image}
 use Rattle.mmix.proofs.Tried.{RunListed, run-tried}
 
 -- ---- what is held

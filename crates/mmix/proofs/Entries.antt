@@ -4,7 +4,6 @@ use mathlib.Core.Bool.{Bool, cond}
 use mathlib.Core.List.{List}
 use Prim.Native.Nat.{ℕ}
 use lib.ListN.{length}
-use borrow.Author.Tests.{eq-eqb, ne-eqb}
 use Rattle.model.specs.Registers.{fresh}
 use Rattle.model.specs.Memory.{Windows}
 use Rattle.model.specs.NoMemory.{Said}
@@ -19,8 +18,9 @@ use Rattle.model.specs.declared.Reach.{Reach}
 use Rattle.exceptions.specs.Told.{Told}
 use Rattle.instruction.specs.StepAnswer.{Whole, RunWhole}
 use Rattle.model.specs.Kept.{imageLength}
-use Rattle.image.specs.Image.{imageOf, stateOf}
-use Rattle.mmix.specs.Entries.{isImage, Decoded, Encoded, Initialized, Stepped, SteppedState, RanImage, RanState, Raised, RaisedState, FieldTold}
+use Rattle.image.specs.Image.{isImage, imageOf, stateOf, Encoded}
+use Rattle.image.proofs.Coded.{if-other, if-image}
+use Rattle.mmix.specs.Entries.{Initialized, Stepped, SteppedState, RanImage, RanState, Raised, RaisedState, FieldTold}
 
 -- ---- on the parts of a state
 
@@ -39,57 +39,39 @@ raised-state s f op x y z u v q t g r e = record { reply-is = e ∙ ap numberOf 
 -- ---- on an image of another length
 
 module _ (l : List ℕ) (h : length l ≡ imageLength → ⊥) where
-  pub if-other : {A : Type 0} (a b : A) → b ≡ cond (isImage l) a b
-  if-other a b = ap (λ (t : Bool). cond t a b) (sym (ne-eqb (length l) imageLength h))
-
-  pub decoded-else : (s : State) → Decoded l s 1 s
-  decoded-else s = record { reply-is = if-other _ _; state-is = if-other _ _ }
-
-  pub encoded-else : (s : State) → Encoded s l 1 l
-  encoded-else s = record { reply-is = if-other _ _; image-is = if-other _ _ }
-
   pub stepped-else : (w : Windows) (op x y z : ℕ) → Stepped l w op x y z 1 l w
-  stepped-else w op x y z = record { reply-is = if-other _ _; image-is = if-other _ _; window-is = if-other _ _ }
+  stepped-else w op x y z = record { reply-is = if-other l h _ _; image-is = if-other l h _ _; window-is = if-other l h _ _ }
 
   pub ran-else : (w : Windows) (grant : ℕ) → RanImage l w grant 1 0 l w
-  ran-else w grant = record { reply-is = if-other _ _; count-is = if-other _ _; image-is = if-other _ _; window-is = if-other _ _ }
+  ran-else w grant = record { reply-is = if-other l h _ _; count-is = if-other l h _ _; image-is = if-other l h _ _; window-is = if-other l h _ _ }
 
   pub raised-else : (f op x y z u v : ℕ) → Raised l f op x y z u v 1 l
-  raised-else f op x y z u v = record { reply-is = if-other _ _; image-is = if-other _ _ }
+  raised-else f op x y z u v = record { reply-is = if-other l h _ _; image-is = if-other l h _ _ }
 
 -- ---- on an image
 
 module _ (l : List ℕ) (n : length l ≡ imageLength) where
-  pub if-image : {A : Type 0} (a b : A) → a ≡ cond (isImage l) a b
-  if-image a b = ap (λ (t : Bool). cond t a b) (sym (eq-eqb (length l) imageLength n))
-
-  pub decoded : (s t : State) → t ≡ stateOf l → Decoded l s 0 t
-  decoded s t e = record { reply-is = if-image _ _; state-is = e ∙ if-image _ _ }
-
-  pub encoded : (s : State) (m : List ℕ) → m ≡ imageOf s → Encoded s l 0 m
-  encoded s m e = record { reply-is = if-image _ _; image-is = e ∙ if-image _ _ }
-
   pub stepped : (w : Windows) (op x y z : ℕ) (s : State) → s ≡ stateOf l
       → (r : ℕ) (t : State) (v : Windows) → SteppedState w s op x y z r t v
       → (m : List ℕ) → m ≡ imageOf t → Stepped l w op x y z r m v
   stepped w op x y z s e r t v g m k =
       let d : stepOf w s op x y z ≡ stepOf w (stateOf l) op x y z = ap (λ (a : State). stepOf w a op x y z) e in
       record {
-        reply-is = g .reply-is ∙ ap (λ (o : Outcome State Windows). numberOf (replyOf (o .reply))) d ∙ if-image _ _;
-        image-is = k ∙ ap imageOf (g .state-is) ∙ ap (λ (o : Outcome State Windows). imageOf (o .state)) d ∙ if-image _ _;
-        window-is = g .window-is ∙ ap (λ (o : Outcome State Windows). o .memory) d ∙ if-image _ _;
+        reply-is = g .reply-is ∙ ap (λ (o : Outcome State Windows). numberOf (replyOf (o .reply))) d ∙ if-image l n _ _;
+        image-is = k ∙ ap imageOf (g .state-is) ∙ ap (λ (o : Outcome State Windows). imageOf (o .state)) d ∙ if-image l n _ _;
+        window-is = g .window-is ∙ ap (λ (o : Outcome State Windows). o .memory) d ∙ if-image l n _ _;
       }
 
   pub ran : (w : Windows) (grant : ℕ) (s : State) → s ≡ stateOf l
-      → (r n : ℕ) (t : State) (v : Windows) → RanState w s grant r n t v
-      → (m : List ℕ) → m ≡ imageOf t → RanImage l w grant r n m v
-  ran w grant s e r n t v g m k =
+      → (r i : ℕ) (t : State) (v : Windows) → RanState w s grant r i t v
+      → (m : List ℕ) → m ≡ imageOf t → RanImage l w grant r i m v
+  ran w grant s e r i t v g m k =
       let d : runOf w s grant ≡ runOf w (stateOf l) grant = ap (λ (a : State). runOf w a grant) e in
       record {
-        reply-is = g .reply-is ∙ ap (λ (o : Stopped State Windows). numberOf (replyOf (o .reply))) d ∙ if-image _ _;
-        count-is = g .count-is ∙ ap (λ (o : Stopped State Windows). o .done) d ∙ if-image _ _;
-        image-is = k ∙ ap imageOf (g .state-is) ∙ ap (λ (o : Stopped State Windows). imageOf (o .state)) d ∙ if-image _ _;
-        window-is = g .window-is ∙ ap (λ (o : Stopped State Windows). o .memory) d ∙ if-image _ _;
+        reply-is = g .reply-is ∙ ap (λ (o : Stopped State Windows). numberOf (replyOf (o .reply))) d ∙ if-image l n _ _;
+        count-is = g .count-is ∙ ap (λ (o : Stopped State Windows). o .done) d ∙ if-image l n _ _;
+        image-is = k ∙ ap imageOf (g .state-is) ∙ ap (λ (o : Stopped State Windows). imageOf (o .state)) d ∙ if-image l n _ _;
+        window-is = g .window-is ∙ ap (λ (o : Stopped State Windows). o .memory) d ∙ if-image l n _ _;
       }
 
   pub raised : (c op x y z a b : ℕ) (s : State) → s ≡ stateOf l
@@ -98,8 +80,8 @@ module _ (l : List ℕ) (n : length l ≡ imageLength) where
   raised c op x y z a b s e r t g m k =
       let d : exceptionOf s c op x y z a b ≡ exceptionOf (stateOf l) c op x y z a b = ap (λ (u : State). exceptionOf u c op x y z a b) e in
       record {
-        reply-is = g .reply-is ∙ ap (λ (o : Said). numberOf (replyOf (o .reply))) d ∙ if-image _ _;
-        image-is = k ∙ ap imageOf (g .state-is) ∙ ap (λ (o : Said). imageOf (o .state)) d ∙ if-image _ _;
+        reply-is = g .reply-is ∙ ap (λ (o : Said). numberOf (replyOf (o .reply))) d ∙ if-image l n _ _;
+        image-is = k ∙ ap imageOf (g .state-is) ∙ ap (λ (o : Said). imageOf (o .state)) d ∙ if-image l n _ _;
       }
 
 -- the image of the fresh state

@@ -23,12 +23,12 @@ use Rattle.model.proofs.Invariants.{items-keep}
 use Rattle.model.proofs.Numbers.{step-number}
 use Rattle.model.specs.declared.State.{State}
 use Rattle.model.specs.Kept.{imageLength}
-use Rattle.image.specs.Image.{imageOf, stateOf}
-use Rattle.mmix.specs.Entries.{lentAt, isImage, Stepped, Raised, SteppedState, RaisedState, ContextAt, FieldTold}
+use Rattle.image.specs.Image.{isImage, imageOf, stateOf}
+use Rattle.mmix.specs.Entries.{lentAt, Stepped, Raised, SteppedState, RaisedState, ContextAt, FieldTold}
 use Rattle.mmix.specs.Leaves.{StepCallLeaves, ExceptionCallLeaves, ContextCallLeaves, CallsLeave}
 use Rattle.mmix.specs.Calls.{image, HeldIs, ImageCall}
 use Rattle.image.proofs.RoundTrips.{round-trips}
-use Rattle.mmix.proofs.Entries.{if-other}
+use Rattle.image.proofs.Coded.{if-other}
 use Rattle.mmix.proofs.Call.{Left, image-left, few}
 use Rattle.mmix.proofs.ImageLeaves.{halt-same, halted-same, tripped-image, not-loaded, trapped-image}
 use Rattle.mmix.proofs.RunLeaves.{by-run, by-state-run}

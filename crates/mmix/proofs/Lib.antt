@@ -1,6 +1,4 @@
 -- The laws of this crate's definitions.
-pub mod Codec
-pub mod RoundTrips
 pub mod Entries
 pub mod Lent
 pub mod Tried
@@ -12,3 +10,4 @@ pub mod RunLeaves
 pub mod Leaves
 pub mod Chains
 pub mod Calls
+pub mod Points

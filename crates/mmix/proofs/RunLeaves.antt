@@ -27,11 +27,12 @@ use Rattle.model.proofs.Numbers.{run-number}
 use Rattle.model.proofs.RunMeant.{Ready, run-open, run-ready, run-is-meant, call-by}
 use Rattle.model.proofs.Leaves.{replies-leave}
 use Rattle.model.specs.Kept.{imageLength}
-use Rattle.image.specs.Image.{imageOf, stateOf}
-use Rattle.mmix.specs.Entries.{isImage, RanImage, RanState}
+use Rattle.image.specs.Image.{isImage, imageOf, stateOf}
+use Rattle.mmix.specs.Entries.{RanImage, RanState}
 use Rattle.mmix.specs.Leaves.{NotLoadedLeaves, tetraIn, TetraCallLeaves, LastCallLeaves, OfCall, RunCallLeaves}
 use Rattle.image.proofs.RoundTrips.{round-trips}
-use Rattle.mmix.proofs.Entries.{if-other, ran}
+use Rattle.image.proofs.Coded.{if-other}
+use Rattle.mmix.proofs.Entries.{ran}
 use Rattle.mmix.proofs.Tried.{InRange, run-range}
 use Rattle.mmix.proofs.Call.{Counted, state-counted, image-ran}
 use Rattle.mmix.proofs.OwnNumbers.{fetched-own}

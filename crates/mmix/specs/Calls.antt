@@ -19,8 +19,8 @@ use Rattle.model.specs.Invariants.{InstructionFits, Fits, Bytes}
 use Rattle.model.specs.Demand.{Within, Call, opcodeOf, Alike, SameOutside, AtPop}
 use Rattle.model.specs.declared.State.{State}
 use Rattle.model.specs.Kept.{imageLength}
-use Rattle.image.specs.Image.{imageOf, stateOf}
-use Rattle.mmix.specs.Entries.{Decoded, Encoded, Stepped, Raised, RanImage, SteppedState, RaisedState, RanState}
+use Rattle.image.specs.Image.{imageOf, stateOf, Decoded, Encoded}
+use Rattle.mmix.specs.Entries.{Stepped, Raised, RanImage, SteppedState, RaisedState, RanState}
 
 -- ---- what a host holds
 

@@ -2,10 +2,8 @@
 -- first, and then nothing changes.
 use Prim.Native.Nat.{ℕ}
 use mathlib.Core.Path.{_≡_}
-use mathlib.Core.Bool.{Bool, cond}
+use mathlib.Core.Bool.{cond}
 use mathlib.Core.List.{List}
-use lib.Dec.{eqb}
-use lib.ListN.{length}
 use Rattle.model.specs.Registers.{fresh}
 use Rattle.model.specs.Memory.{Windows}
 use Rattle.model.specs.Parts.{lent}

@@ -2,3 +2,4 @@
 pub mod Entries
 pub mod Leaves
 pub mod Calls
+pub mod Points

@@ -1,9 +1,12 @@
-//! The C library: what a relay host calls, on numbers and byte slices. 0 is done; 1 to 25 are the refusals.
+//! The C library: what a relay host calls, on numbers and byte slices. 0 is done; 1 to 28 are the refusals.
 
 ghost use Rattle.model.specs.Control.{branchFields, jumpFields};
 ghost use Rattle.model.specs.Field.{fieldOf, answerOf};
 ghost use Rattle.model.specs.Parts.{made};
-ghost use Rattle.mmix.specs.Entries.{lentAt, Initialized, Decoded, Encoded, Stepped, SteppedState, RanImage, RanState, Raised, RaisedState, ContextAt, FieldTold};
+ghost use Rattle.model.specs.Kept.{pointIn};
+ghost use Rattle.image.specs.Image.{Decoded, Encoded};
+ghost use Rattle.store.specs.Store.{Took, GoneBack};
+ghost use Rattle.mmix.specs.Entries.{lentAt, Initialized, Stepped, SteppedState, RanImage, RanState, Raised, RaisedState, ContextAt, FieldTold};
 use image::Answer;
 use image::IMAGE_LEN;
 use image::Rest;
@@ -11,8 +14,6 @@ use model::Bases;
 use model::Reach;
 use model::Reply;
 use model::State;
-
-pub mod image;
 
 /// The image becomes that of the fresh state; 1 where it is not 2,328 bytes long.
 #[no_mangle]
@@ -357,6 +358,50 @@ pub extern "C" fn mmix_context(
     *length = place.size;
     let found = place.reply;
     instruction::value::number_of(found)
+}
+
+/// State and windows are kept in the store under a name, 0 to 15.
+#[no_mangle]
+pub extern "C" fn mmix_take(
+    base_a: u64,
+    base_b: u64,
+    name: u64,
+    image: &[u8],
+    a: &[u8],
+    b: &[u8],
+    store: &mut [u8],
+) -> u64
+    ensures { λ r. ⌜ Took (now (store .entry)) name (pointIn (now (image .entry)) «base_a» «base_b» (now (a .entry)) (now (b .entry))) r
+        (now (store .exit)) ⌝ }
+{
+    let at = Bases {
+        a: base_a,
+        b: base_b,
+    };
+    let reply = store::take(at, name, image, a, b, store);
+    instruction::value::number_of(reply)
+}
+
+/// State and windows become those that the store keeps under a name.
+#[no_mangle]
+pub extern "C" fn mmix_go_back(
+    base_a: u64,
+    base_b: u64,
+    name: u64,
+    image: &mut [u8],
+    a: &mut [u8],
+    b: &mut [u8],
+    store: &[u8],
+) -> u64
+    ensures { λ r. ⌜ GoneBack (now (store .entry)) name (pointIn (now (image .entry)) «base_a» «base_b» (now (a .entry)) (now (b .entry))) r
+        (pointIn (now (image .exit)) «base_a» «base_b» (now (a .exit)) (now (b .exit))) ⌝ }
+{
+    let at = Bases {
+        a: base_a,
+        b: base_b,
+    };
+    let reply = store::go_back(at, name, image, a, b, store);
+    instruction::value::number_of(reply)
 }
 
 /// A search's number, and its direction and field into the outputs: backward 0 or 1; both 0 where it is refused.

@@ -1,5 +1,6 @@
--- The laws of rooms and stores, and the proof of the theorem.
+-- The laws of rooms and stores, and the proofs of the theorems.
 pub mod Rooms
 pub mod Stores
 pub mod Answers
 pub mod Returns
+pub mod Leaves

@@ -1,11 +1,22 @@
--- Theorem. "While only these calls write the store, going back gives exactly what was taken last under that name, and other points are untouched."
+-- Theorems. What each number leaves; and "While only these calls write the store, going back gives exactly what was taken last under that name, and other points are untouched."
 use Prim.Native.Nat.{ℕ, _+_, _≤_, _<_}
 use mathlib.Core.Path.{_≡_}
-use mathlib.Core.Logic.{_≢_}
+use mathlib.Core.Logic.{_⊎_, _≢_}
 use mathlib.Core.List.{List, [], _∷_, _++_}
 use lib.ListN.{length, getD}
 use Rattle.model.specs.Kept.{pointCount, imageLength, Point}
 use Rattle.store.specs.Store.{aAt, bAt, roomLength, storeLength, filled, roomOf, Took, GoneBack}
+
+-- ---- one call
+
+-- what the numbers of points leave, of 1, 2 and 22 as of 26 to 28: every byte
+pub record PointsLeave : Type 0 where
+  pub take-among : (s : List ℕ) (k : ℕ) (p : Point) (n : ℕ) (t : List ℕ) → Took s k p n t
+      → (n ≡ 0) ⊎ ((n ≡ 1) ⊎ ((n ≡ 2) ⊎ ((n ≡ 22) ⊎ ((n ≡ 26) ⊎ (n ≡ 27)))))
+  pub take-refused : (s : List ℕ) (k : ℕ) (p : Point) (n : ℕ) (t : List ℕ) → Took s k p n t → n ≢ 0 → t ≡ s
+  pub back-among : (s : List ℕ) (k : ℕ) (p : Point) (n : ℕ) (q : Point) → GoneBack s k p n q
+      → (n ≡ 0) ⊎ ((n ≡ 1) ⊎ ((n ≡ 2) ⊎ ((n ≡ 22) ⊎ ((n ≡ 26) ⊎ ((n ≡ 27) ⊎ (n ≡ 28))))))
+  pub back-refused : (s : List ℕ) (k : ℕ) (p : Point) (n : ℕ) (q : Point) → GoneBack s k p n q → n ≢ 0 → q ≡ p
 
 -- ---- lists of calls
 

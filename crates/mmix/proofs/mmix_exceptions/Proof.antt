@@ -1,6 +1,7 @@
 -- `mmix_exceptions` meets its contract: the image's state takes the exception, and goes back into the image.
 use native.Mathlib.Omega.{arith}
 use Rattle.mmix.proofs.Entries.{raised-else, raised}
+use Rattle.image.proofs.Coded.{of-image}
 use borrow.Author.Needs.{needs}
 use Rattle.mmix.proofs.mmix_exceptions.Statement.{statement}
 use Rattle.mmix.proofs.mmix_exceptions.Tie as tie
@@ -25,7 +26,8 @@ returns-2 c =
     let storing = c .before .before in
     let raising = storing .before .before .before .before in
     let loading = raising .before .before .before .before .before in
-    raised (loading .before .before .before .before .before .before .args .image .now) (omega arith) _ _ _ _ _ _ _ _ (loading .load-state .ensures) _ _ (raising .mmix-exceptions-parts .ensures) _ (storing .store-state .ensures)
+    let l = loading .before .before .before .before .before .before .args .image .now in
+    raised l (omega arith) _ _ _ _ _ _ _ _ (of-image l (omega arith) _ _ _ (loading .load-state .ensures)) _ _ (raising .mmix-exceptions-parts .ensures) _ (of-image l (omega arith) _ _ _ (storing .store-state .ensures))
 
 pub mmix-exceptions-spec : {M : Type 1} → statement M
 mmix-exceptions-spec =

@@ -1,6 +1,7 @@
 -- `mmix_run` meets its contract: the image's state takes the run, and goes back into the image.
 use native.Mathlib.Omega.{arith}
 use Rattle.mmix.proofs.Entries.{ran-else, ran}
+use Rattle.image.proofs.Coded.{of-image}
 use borrow.Author.Needs.{needs}
 use Rattle.mmix.proofs.mmix_run.Statement.{statement}
 use Rattle.mmix.proofs.mmix_run.Tie as tie
@@ -31,7 +32,8 @@ returns-2 c =
     let storing = c .before .before in
     let running = storing .before .before .before .before .before .before .before .before in
     let loading = running .before .before .before .before .before .before .before .before in
-    ran (loading .before .before .before .before .before .before .before .before .args .image .now) (omega arith) _ _ _ (loading .load-state .ensures) _ _ _ _ (running .mmix-run-parts .ensures) _ (storing .store-state .ensures)
+    let l = loading .before .before .before .before .before .before .before .before .args .image .now in
+    ran l (omega arith) _ _ _ (of-image l (omega arith) _ _ _ (loading .load-state .ensures)) _ _ _ _ (running .mmix-run-parts .ensures) _ (of-image l (omega arith) _ _ _ (storing .store-state .ensures))
 
 pub mmix-run-spec : {M : Type 1} → statement M
 mmix-run-spec =

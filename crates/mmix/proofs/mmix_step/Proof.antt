@@ -1,6 +1,7 @@
 -- `mmix_step` meets its contract: the image's state takes the step, and goes back into the image.
 use native.Mathlib.Omega.{arith}
 use Rattle.mmix.proofs.Entries.{stepped-else, stepped}
+use Rattle.image.proofs.Coded.{of-image}
 use borrow.Author.Needs.{needs}
 use Rattle.mmix.proofs.mmix_step.Statement.{statement}
 use Rattle.mmix.proofs.mmix_step.Tie as tie
@@ -31,7 +32,8 @@ returns-2 c =
     let storing = c .before .before in
     let stepping = storing .before .before .before .before .before .before .before .before in
     let loading = stepping .before .before .before .before .before .before .before in
-    stepped (loading .before .before .before .before .before .before .before .before .args .image .now) (omega arith) _ _ _ _ _ _ (loading .load-state .ensures) _ _ _ (stepping .mmix-step-parts .ensures) _ (storing .store-state .ensures)
+    let l = loading .before .before .before .before .before .before .before .before .args .image .now in
+    stepped l (omega arith) _ _ _ _ _ _ (of-image l (omega arith) _ _ _ (loading .load-state .ensures)) _ _ _ (stepping .mmix-step-parts .ensures) _ (of-image l (omega arith) _ _ _ (storing .store-state .ensures))
 
 pub mmix-step-spec : {M : Type 1} → statement M
 mmix-step-spec =
