@@ -1,7 +1,8 @@
 /* A relay host. It keeps the direction of feed in a local of the caller, calls the feed routine some levels deep, parks the
  * whole context while a case is worked, comes back, and shows that the direction is as it was. Its curves and texts live low
- * in memory, in window A, and the calls' stack in window B. On the way it meets what a host meets: a curve kept in A, a trip,
- * a system call to serve, a halt, a jump to patch, a window too small, windows that share, steps in place.
+ * in memory, in window A, and the calls' stack in window B. It takes a point, tries an alternative and returns to it. On the
+ * way it meets what a host meets: a curve kept in A, a trip, a system call to serve, a halt, a jump to patch, a window too
+ * small, windows that share, steps in place.
  *
  *     make host
  */
@@ -22,6 +23,7 @@ static const uint64_t REVERSED = 0x0F;
 
 static uint8_t image[MMIX_IMAGE_LEN];
 static uint8_t low[LOW_LEN], stack[STACK_LEN];
+static uint8_t store[MMIX_STORE_LEN];   /* of zeros: no point is taken */
 static const struct mmix_windows lent = { 0, MMIX_STACK_START, low, LOW_LEN, stack, STACK_LEN };
 
 /* The octabyte that starts at a byte of the image. */
@@ -134,6 +136,43 @@ static void keep_a_margin(void)
     printf("%-28s %" PRId64 ", remainder %" PRId64 "\n", "rounded down", (int64_t)general(251), (int64_t)special(MMIX_RR));
 }
 
+/* What if the margin were 40 wider? The point is taken, the alternative is tried with a call more, and the host returns: state,
+ * curve and stack are as they were. Protection of a frame starts anew with the calls that follow the return. */
+static void try_an_alternative(void)
+{
+    enum { BEFORE = 3 };                    /* the point's name */
+    uint8_t image_before[MMIX_IMAGE_LEN], low_before[LOW_LEN], stack_before[STACK_LEN];
+
+    memcpy(image_before, image, sizeof image);
+    memcpy(low_before, low, sizeof low);
+    memcpy(stack_before, stack, sizeof stack);
+    refused("back to a point not taken", mmix_go_back_in(&lent, BEFORE, image, sizeof image, store, sizeof store),
+            MMIX_NO_POINT);
+    uint64_t reply = mmix_take_in(&lent, BEFORE, image, sizeof image, store, sizeof store);
+    show("take point 3", reply);
+    if (reply != MMIX_DONE)
+        end(mmix_reply_text(reply));
+
+    step("PUSHJ $1: an alternative", MMIX_OP_PUSHJ, 1, 0, 16);
+    set_octabyte(MMIX_AT_GENERAL(254), (uint64_t)-80);
+    step("STT $254,$253,4: wider", MMIX_OP_STTI, 254, 253, 4);
+    step("LDT $252,$253,4: read back", MMIX_OP_LDTI, 252, 253, 4);
+    printf("%-28s %" PRId64 "\n", "the margin", (int64_t)general(252));
+
+    struct mmix_windows shorter = lent;
+    shorter.a_len -= 8;
+    refused("back with A shorter", mmix_go_back_in(&shorter, BEFORE, image, sizeof image, store, sizeof store),
+            MMIX_OTHER_POINT);
+    reply = mmix_go_back_in(&lent, BEFORE, image, sizeof image, store, sizeof store);
+    show("back to point 3", reply);
+    if (reply != MMIX_DONE)
+        end(mmix_reply_text(reply));
+    if (memcmp(image_before, image, sizeof image) != 0 || memcmp(low_before, low, sizeof low) != 0
+        || memcmp(stack_before, stack, sizeof stack) != 0)
+        end("the point is CHANGED");
+    printf("%-28s %" PRId64 "\n", "the margin", (int64_t)general(252));
+}
+
 /* Integer overflow, which rA enables: a trip through the vector at 32. There is no RESUME, so the host goes back itself. */
 static void take_a_trip(void)
 {
@@ -237,6 +276,7 @@ int main(void)
     }
     work_another_case();
     keep_a_margin();
+    try_an_alternative();
     take_a_trip();
     serve_a_call();
     look_at_a_halt();

@@ -1,14 +1,14 @@
 /* mmix.h: the MMIX register machine, a program or one step at a time.
  *
  * The library keeps nothing between calls, allocates nothing and calls nothing but memcpy and memset. Every function
- * takes any values, ends, and returns MMIX_DONE (0) or the number of a refusal (1 to 25). That each function does what it
+ * takes any values, ends, and returns MMIX_DONE (0) or the number of a refusal (1 to 28). That each function does what it
  * should is proved; README.md says what that means.
  *
  * What the caller owes:
  *  - a pointer is to as many bytes as the length beside it says, or to an object of its type; it may be null only where
  *    that length is 0. It is aligned as C demands of its type;
  *  - no two objects that one call may write to overlap, and none that it writes to overlaps one that it reads: image, the
- *    windows a and b, state, parts, done, which, start, length, backward and field are apart from each other;
+ *    windows a and b, store, state, parts, done, which, start, length, backward and field are apart from each other;
  *  - nothing else reads or writes them during the call.
  *
  * What can hurt:
@@ -21,6 +21,8 @@
  *    registers that it is to leave ($255, as a rule) and moves PC to @ + 4 itself, or the same TRAP comes again.
  *  - There is no RESUME. A host that has taken a trip goes back by setting PC to rW itself, and what rB and $255 hold is
  *    its own to put back.
+ *  - Going back to a point rewinds history: what was called before the return is not undone or finished but gone, frames
+ *    with it. That a caller's locals are protected then holds of the calls made after the return.
  *
  * Platform: the library is built for x86-64 and the C conventions of Linux there (System V), and for no other.
  *
@@ -50,15 +52,17 @@ extern "C" {
  * null with length 0 (base 0) as a; its steps then do what they did. MMIX_SHARED and MMIX_ACROSS are new.
  * 2.1: mmix_run and mmix_run_parts, with MMIX_NOT_FETCHED and MMIX_GRANT_TOO_LARGE.
  * 3.0: mmix_exceptions and mmix_exceptions_parts add to rA also the flags that rA enables and that are not taken: these are all
- * but the leftmost one. Flags of which rA enables at most one, and all steps and runs, do what they did. */
+ * but the leftmost one. Flags of which rA enables at most one, and all steps and runs, do what they did.
+ * 3.1: mmix_take and mmix_go_back, with MMIX_STORE_TOO_SHORT, MMIX_NO_POINT and MMIX_OTHER_POINT. */
 #define MMIX_VERSION_MAJOR 3
-#define MMIX_VERSION_MINOR 0
+#define MMIX_VERSION_MINOR 1
 
-/* The replies. 1 to 6, 22, 24 and 25 leave every byte as it was; 7 to 18 set the halt code to 1 and leave all else; 19 and 20
+/* The replies. 1 to 6, 22 and 24 to 28 leave every byte as it was; 7 to 18 set the halt code to 1 and leave all else; 19 and 20
  * set the halt code to 1 and the trip or trap registers, with PC where it was (an exception refused by 19 has also added to
  * rA; a store refused by 19 is made, and $X, rH and rR of an operation are written). 21 is the number of mmix_branch_field and
  * mmix_jump_field alone, and 23 that of mmix_context alone, which are given no state; 24 and 25 are those of mmix_run and
- * mmix_run_parts alone. What a reply leaves of a run, it leaves of the instruction at which the run stopped. */
+ * mmix_run_parts alone, 26 to 28 those of mmix_take and mmix_go_back. What a reply leaves of a run, it leaves of the
+ * instruction at which the run stopped. */
 enum mmix_reply {
     MMIX_DONE = 0,                /* The step or the exception was done. */
     MMIX_NOT_ADMISSIBLE = 1,      /* rG, rL, rA or the marks are out of range, or the image is not MMIX_IMAGE_LEN bytes. */
@@ -85,7 +89,10 @@ enum mmix_reply {
     MMIX_SHARED = 22,             /* The two windows share an octabyte. An empty one shares none. */
     MMIX_ACROSS = 23,             /* mmix_context: the context lies partly in one window and partly in the other. */
     MMIX_NOT_FETCHED = 24,        /* mmix_run: the tetra at PC lies in neither window: lend more, and run on. */
-    MMIX_GRANT_TOO_LARGE = 25     /* mmix_run: more than MMIX_GRANT_MAX instructions are granted. */
+    MMIX_GRANT_TOO_LARGE = 25,    /* mmix_run: more than MMIX_GRANT_MAX instructions are granted. */
+    MMIX_STORE_TOO_SHORT = 26,    /* mmix_take, mmix_go_back: the store is shorter than MMIX_STORE_LEN. */
+    MMIX_NO_POINT = 27,           /* A name above 15; mmix_go_back: no point is taken under that name. */
+    MMIX_OTHER_POINT = 28         /* mmix_go_back: the point has other bases or lengths, or its state is not admissible. */
 };
 
 /* The opcodes that have an arm; every other byte is MMIX_NO_ARM. Of a pair with B at the end, that one goes backward; with I
@@ -143,6 +150,13 @@ enum mmix_flag {
 
 /* The longest window; each of the two may be so long. */
 #define MMIX_WINDOW_MAX 65536
+
+/* A store keeps MMIX_POINTS points, each in a room, in order of name; bytes behind the last room are not touched. A room is an
+ * image, five octabytes (base of A, base of B, lengths of A and B in octabytes, one that is 0 until a point is taken and then
+ * 1), and a place of MMIX_WINDOW_MAX bytes for each window, filled from the front. A store of zeros keeps no point. */
+#define MMIX_POINTS 16
+#define MMIX_ROOM_LEN (MMIX_IMAGE_LEN + 40 + 2 * MMIX_WINDOW_MAX)
+#define MMIX_STORE_LEN (MMIX_POINTS * MMIX_ROOM_LEN)
 
 /* The most instructions that one run may be granted. */
 #define MMIX_GRANT_MAX 1000000
@@ -226,6 +240,19 @@ uint64_t mmix_run_parts(uint64_t base_a, uint64_t base_b, uint64_t grant, uint64
 uint64_t mmix_context(uint64_t base_a, uint64_t base_b, uint64_t address, const uint8_t *a, size_t a_len,
                       const uint8_t *b, size_t b_len, uint64_t *which, size_t *start, size_t *length);
 
+/* ---- points to return to */
+
+/* Keeps the state and both windows under a name, 0 to 15; what the name had before is lost. Refused by 1, 2, 22, 26 or 27, in
+ * that order, it leaves every byte of the store. */
+uint64_t mmix_take(uint64_t base_a, uint64_t base_b, uint64_t name, const uint8_t *image, size_t image_len,
+                   const uint8_t *a, size_t a_len, const uint8_t *b, size_t b_len, uint8_t *store, size_t store_len);
+
+/* Makes image and windows what was taken last under a name, byte for byte, whatever they hold; bases and lengths are those at
+ * which it was taken. Refused by 1 (an image of another length; no state is judged), 2, 22, 26, 27 or 28, in that order, it
+ * leaves every byte. It holds as long as nothing but mmix_take writes the store. */
+uint64_t mmix_go_back(uint64_t base_a, uint64_t base_b, uint64_t name, uint8_t *image, size_t image_len,
+                      uint8_t *a, size_t a_len, uint8_t *b, size_t b_len, const uint8_t *store, size_t store_len);
+
 /* ---- patching */
 
 /* Finds the direction and the field by which an instruction at address `from` goes to address `to`, modulo 2^64: there is
@@ -289,6 +316,20 @@ static inline uint64_t mmix_run_parts_in(const struct mmix_windows *lent, uint64
 {
     return mmix_run_parts(lent->base_a, lent->base_b, grant, general, special, pc, halt, marks,
                           lent->a, lent->a_len, lent->b, lent->b_len, done);
+}
+
+static inline uint64_t mmix_take_in(const struct mmix_windows *lent, uint64_t name, const uint8_t *image, size_t image_len,
+                                    uint8_t *store, size_t store_len)
+{
+    return mmix_take(lent->base_a, lent->base_b, name, image, image_len, lent->a, lent->a_len, lent->b, lent->b_len,
+                     store, store_len);
+}
+
+static inline uint64_t mmix_go_back_in(const struct mmix_windows *lent, uint64_t name, uint8_t *image, size_t image_len,
+                                       const uint8_t *store, size_t store_len)
+{
+    return mmix_go_back(lent->base_a, lent->base_b, name, image, image_len, lent->a, lent->a_len, lent->b, lent->b_len,
+                        store, store_len);
 }
 
 /* Done, *context is the first of the *length bytes of the context; refused, it is null and *length is 0. */

@@ -40,6 +40,9 @@ static inline const char *mmix_reply_text(uint64_t reply)
     case MMIX_ACROSS: return "the context lies across both windows";
     case MMIX_NOT_FETCHED: return "the tetra at PC lies in neither window";
     case MMIX_GRANT_TOO_LARGE: return "more than 1,000,000 instructions are granted";
+    case MMIX_STORE_TOO_SHORT: return "the store is shorter than sixteen rooms";
+    case MMIX_NO_POINT: return "no point is kept under that name";
+    case MMIX_OTHER_POINT: return "the point has other bases or lengths, or no admissible state";
     default: return "no reply of this version";
     }
 }

@@ -9,6 +9,7 @@ use std::{process, ptr, slice};
 
 use crate::case::{Case, Instruction, Kind};
 use crate::lent::{Lent, Shown};
+use crate::model::points::STORE_LEN;
 use crate::state::{IMAGE_LEN, State, WINDOW_MAX};
 use crate::subject::{Aim, Found, Parts, Subject};
 
@@ -113,7 +114,12 @@ pub struct Guarded {
 impl Guarded {
     pub fn new(subject: Box<dyn Subject>, guard: Guard) -> Self {
         let areas = match guard {
-            Guard::Pages => [2 * IMAGE_LEN; 5].into_iter().chain([WINDOW_MAX + 2 * PAGE; 2]).map(Area::new).collect(),
+            Guard::Pages => [2 * IMAGE_LEN; 5]
+                .into_iter()
+                .chain([WINDOW_MAX + 2 * PAGE; 2])
+                .chain([STORE_LEN + PAGE])
+                .map(Area::new)
+                .collect(),
             Guard::Heap => Vec::new(),
         };
         Self { subject, guard, areas: RefCell::new(areas), at_end: Cell::new(false) }
@@ -262,6 +268,23 @@ impl Subject for Guarded {
         self.call([bytes_of(aim.backward), bytes_of(aim.field)], |[backward, field]| {
             self.subject.field(kind, from, to, Aim { backward: of_bytes(backward), field: of_bytes(field) })
         })
+    }
+
+    fn take(&self, name: u64, image: &[u8], shown: Shown, store: &mut [u8]) -> u64 {
+        let mut read = [image.to_vec(), shown.a.to_vec(), shown.b.to_vec()];
+        let [given, in_a, in_b] = &mut read;
+        let reply = self.call([given, in_a, in_b, store], |[image, a, b, store]| {
+            self.subject.take(name, image, Shown { at: shown.at, a, b }, store)
+        });
+        if read == [image, shown.a, shown.b] { reply } else { WROTE_OUTSIDE }
+    }
+
+    fn go_back(&self, name: u64, image: &mut [u8], lent: Lent, store: &[u8]) -> u64 {
+        let (Lent { at, a, b }, mut kept) = (lent, store.to_vec());
+        let reply = self.call([image, a, b, &mut kept], |[image, a, b, store]| {
+            self.subject.go_back(name, image, Lent { at, a, b }, store)
+        });
+        if kept == store { reply } else { WROTE_OUTSIDE }
     }
 }
 

@@ -8,7 +8,7 @@
 //!   `guards` lends each of their buffers in a guarded place.
 //! - `compare`: one case on all sides. `shrink`: a smaller case that still differs.
 //! - `random`, `states`, `windows`, `operands`, `numbers`, `fields`, `rounds`, `chains`, `programs`, `sweep`: the cases. `starts`, `points`:
-//!   short ones. `tally`, `situations`, `met`, `lendings`, `runs`: the counts.
+//!   short ones. `histories`: calls on one store, answered by a ledger. `tally`, `situations`, `met`, `lendings`, `runs`: the counts.
 
 // The model that is compared: `model`, or a copy with a fault in it (build.rs).
 #[cfg(changed_model)]
@@ -22,6 +22,7 @@ pub mod compare;
 pub mod fetched;
 pub mod fields;
 pub mod guards;
+pub mod histories;
 pub mod lendings;
 pub mod lent;
 #[cfg(feature = "library")]

@@ -121,6 +121,32 @@ unsafe extern "C" {
     fn mmix_encode(state: *const State, image: *mut u8, image_len: usize) -> u64;
     fn mmix_branch_field(from: u64, to: u64, backward: *mut u8, field: *mut u32) -> u64;
     fn mmix_jump_field(from: u64, to: u64, backward: *mut u8, field: *mut u32) -> u64;
+    fn mmix_take(
+        base_a: u64,
+        base_b: u64,
+        name: u64,
+        image: *const u8,
+        image_len: usize,
+        a: *const u8,
+        a_len: usize,
+        b: *const u8,
+        b_len: usize,
+        store: *mut u8,
+        store_len: usize,
+    ) -> u64;
+    fn mmix_go_back(
+        base_a: u64,
+        base_b: u64,
+        name: u64,
+        image: *mut u8,
+        image_len: usize,
+        a: *mut u8,
+        a_len: usize,
+        b: *mut u8,
+        b_len: usize,
+        store: *const u8,
+        store_len: usize,
+    ) -> u64;
 }
 
 pub struct Library {
@@ -227,5 +253,21 @@ impl Subject for Library {
             Kind::Branch => unsafe { mmix_branch_field(from, to, aim.backward, aim.field) },
             Kind::Jump => unsafe { mmix_jump_field(from, to, aim.backward, aim.field) },
         }
+    }
+
+    #[inline]
+    fn take(&self, name: u64, image: &[u8], shown: Shown, store: &mut [u8]) -> u64 {
+        let Shown { at, a, b } = shown;
+        let (bytes, len) = (self.lent(image), image.len());
+        let (in_a, in_b, room) = (self.lent(a), self.lent(b), self.lent_mut(store));
+        unsafe { mmix_take(at.a, at.b, name, bytes, len, in_a, a.len(), in_b, b.len(), room, store.len()) }
+    }
+
+    #[inline]
+    fn go_back(&self, name: u64, image: &mut [u8], lent: Lent, store: &[u8]) -> u64 {
+        let Lent { at, a, b } = lent;
+        let (bytes, len) = (self.lent_mut(image), image.len());
+        let (in_a, in_b, room) = (self.lent_mut(a), self.lent_mut(b), self.lent(store));
+        unsafe { mmix_go_back(at.a, at.b, name, bytes, len, in_a, a.len(), in_b, b.len(), room, store.len()) }
     }
 }

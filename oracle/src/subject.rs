@@ -1,5 +1,5 @@
 //! The machine that is compared with the Rust: functions that equal those of include/mmix.h. 0 is done,
-//! 1 to 20 are 01's numbers; 21 is request 2's, 22 and 23 are request 5's, 24 and 25 request 6's.
+//! 1 to 20 are 01's numbers; 21 is request 2's, 22 and 23 are request 5's, 24 and 25 request 6's, 26 to 28 request 8's.
 
 use crate::case::{Instruction, Kind};
 use crate::compared::Model;
@@ -52,6 +52,8 @@ pub trait Subject {
     fn decode(&self, image: &[u8], state: &mut State) -> u64;
     fn encode(&self, state: &State, image: &mut [u8]) -> u64;
     fn field(&self, kind: Kind, from: u64, to: u64, aim: Aim) -> u64;
+    fn take(&self, name: u64, image: &[u8], shown: Shown, store: &mut [u8]) -> u64;
+    fn go_back(&self, name: u64, image: &mut [u8], lent: Lent, store: &[u8]) -> u64;
 }
 
 /// The subject that counts in this build: the library where it is linked, else the model.

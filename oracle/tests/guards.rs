@@ -7,6 +7,7 @@ use std::os::fd::AsRawFd;
 use oracle::case::{Instruction, Kind};
 use oracle::guards::{Guard, Guarded, WROTE_OUTSIDE};
 use oracle::lent::{Bases, Lent, Shown};
+use oracle::model::points::STORE_LEN;
 use oracle::opcodes::STB;
 use oracle::state::{IMAGE_LEN, State, WINDOW_MAX};
 use oracle::subject::{Aim, Found, Parts, Subject};
@@ -97,12 +98,20 @@ impl Subject for Probe {
         // SAFETY: the four bytes of the field.
         self.around(unsafe { std::slice::from_raw_parts_mut(std::ptr::from_mut(aim.field).cast(), 4) })
     }
+    fn take(&self, _: u64, _: &[u8], _: Shown, store: &mut [u8]) -> u64 {
+        self.around(store)
+    }
+    /// The name says around what: window A, window B, the image.
+    fn go_back(&self, name: u64, image: &mut [u8], lent: Lent, _: &[u8]) -> u64 {
+        self.around([lent.a, lent.b, image][name as usize])
+    }
 }
 
 /// Two calls in turn: flush against the page after the buffer, then against the one before it. The buffer is an image;
 /// window A or B of a step by each of its functions, where loads and stores of its last bytes and its first go, the other one
-/// as long as a window may be; the same of a run, and its count; the reader's word which window it is; the four bytes of a field.
-fn twice(probe: Probe) -> [[u64; 2]; 15] {
+/// as long as a window may be; the same of a run, and its count; the reader's word which window it is; the four bytes of a field;
+/// a store, and what is given back.
+fn twice(probe: Probe) -> [[u64; 2]; 19] {
     let guarded = Guarded::new(Box::new(probe), Guard::Pages);
     let (mut image, mut state) = (vec![0; IMAGE_LEN], State::zero());
     let at = Bases { a: 0, b: 1 << 32 };
@@ -129,16 +138,26 @@ fn twice(probe: Probe) -> [[u64; 2]; 15] {
     steps.push([guarded.initialize(&mut image), guarded.initialize(&mut image)]);
     steps.push([context(), context()]);
     steps.push([field(), field()]);
-    steps.try_into().expect("fifteen")
+    let mut store = vec![0; STORE_LEN];
+    let mut take = || guarded.take(0, &[0; IMAGE_LEN], shown(), &mut store);
+    steps.push([take(), take()]);
+    for name in 0..3 {
+        let mut back = || {
+            let (mut a, mut b, store) = (vec![0; WINDOW_MAX], vec![0; WINDOW_MAX], vec![0; STORE_LEN]);
+            guarded.go_back(name, &mut image, Lent { at, a: &mut a, b: &mut b }, &store)
+        };
+        steps.push([back(), back()]);
+    }
+    steps.try_into().expect("nineteen")
 }
 
 #[test]
 fn pages_beside_a_buffer_cannot_be_touched() {
-    assert_eq!(twice(Probe::ReadAround), [[2, 1]; 15]);
+    assert_eq!(twice(Probe::ReadAround), [[2, 1]; 19]);
 }
 
 #[test]
 fn canaries_see_a_byte_written() {
-    assert_eq!(twice(Probe::WriteAfter), [[2, WROTE_OUTSIDE]; 15]);
-    assert_eq!(twice(Probe::WriteBefore), [[WROTE_OUTSIDE, 1]; 15]);
+    assert_eq!(twice(Probe::WriteAfter), [[2, WROTE_OUTSIDE]; 19]);
+    assert_eq!(twice(Probe::WriteBefore), [[WROTE_OUTSIDE, 1]; 19]);
 }

@@ -1,6 +1,7 @@
 //! Compare with the Rust on many cases: the library where it is linked, and the model. For loads, stores and whole-number
 //! arithmetic the Rust has no arm, and flags two of which are raised and enabled it forgets: there the library is compared with
-//! the model alone.
+//! the model alone. Points to return to, which the Rust has not either, are compared with a ledger (src/histories.rs), N / 200
+//! histories of calls.
 //!
 //!     differential [--cases N] [--seed S] [--threads T] [--guards pages|heap]
 //!     differential --replay LINE [--guards pages|heap]
@@ -21,6 +22,7 @@ use oracle::case::{self, Case};
 use oracle::compare::compare;
 use oracle::fields;
 use oracle::guards::{self, Guard};
+use oracle::histories;
 use oracle::programs;
 use oracle::reference::{Answer, Reference};
 use oracle::rounds::{ROUND, round};
@@ -34,6 +36,8 @@ const SWEPT_FROM: u64 = 100_000;
 const COUNTED_FROM: u64 = 200_000;
 /// Every so many cases the run says how far it is.
 const TOLD_EVERY: u64 = 100_000;
+/// One history of points for so many cases.
+const HISTORY_EVERY: u64 = 200;
 
 struct Options {
     cases: u64,
@@ -134,6 +138,10 @@ impl Runner<'_> {
 }
 
 fn replay(line: &str, guard: Option<Guard>) -> Result<bool, String> {
+    if let Some(told) = histories::replay(line, &chosen(guard)) {
+        println!("{}", told.as_ref().map_or_else(|difference| difference.as_str(), |()| "same"));
+        return Ok(told.is_ok());
+    }
     let case = case::parse(line)?;
     guards::at_case(&case);
     match compare(&mut Reference::new(), &chosen(guard), &case) {
@@ -169,18 +177,22 @@ fn run(options: &Options) -> (Tally, Vec<String>) {
 
 fn differential(options: &Options) -> bool {
     let began = Instant::now();
-    let (total, found) = run(options);
+    let (met, history) = histories::histories(options.seed, options.cases / HISTORY_EVERY, &chosen(options.guard));
+    let (total, found) = history.map_or_else(|difference| (Tally::default(), vec![difference]), |()| run(options));
     total.print();
-    let seldom = if options.cases >= COUNTED_FROM && found.is_empty() { total.seldom() } else { Vec::new() };
+    met.print();
+    let counted = options.cases >= COUNTED_FROM && found.is_empty();
+    let seldom = if counted { [total.seldom(), met.seldom()].concat() } else { Vec::new() };
     seldom.iter().for_each(|pair| println!("TOO SELDOM: {pair}"));
     found.iter().for_each(|difference| println!("DIFFERS: {difference}"));
     let names: Vec<&str> = chosen(options.guard).iter().map(|subject| subject.name()).collect();
     println!(
-        "{} cases, {} of them loads, stores and arithmetic and {} two enabled flags by the model, seed {}, Rust against {}, \
-         {:.1} s: {}",
+        "{} cases, {} of them loads, stores and arithmetic and {} two enabled flags by the model, {} calls on stores, seed {}, \
+         Rust against {}, {:.1} s: {}",
         total.cases(),
         total.added(),
         total.two_enabled(),
+        met.calls(),
         options.seed,
         names.join(" and "),
         began.elapsed().as_secs_f64(),

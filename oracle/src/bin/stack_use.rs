@@ -8,10 +8,12 @@
 
 use std::ffi::{c_int, c_void};
 use std::process::ExitCode;
+use std::sync::{Arc, Mutex};
 use std::{env, ptr};
 
 use oracle::case::{Call, Case, Instruction, Kind};
 use oracle::lent::{Lent, Shown, Windows};
+use oracle::model::points::STORE_LEN;
 use oracle::reference::Reference;
 use oracle::rounds::{ROUND, round};
 use oracle::state::State;
@@ -73,11 +75,14 @@ struct Buffers {
     image: Vec<u8>,
     state: State,
     windows: Windows,
+    /// One for all: what a case takes, the next ones may go back to.
+    store: Arc<Mutex<Vec<u8>>>,
 }
 
 impl Buffers {
-    fn of(case: &Case) -> Self {
-        Self { image: case.image(), state: case.state.clone(), windows: case.windows.clone(), case: case.clone() }
+    fn of(case: &Case, store: &Arc<Mutex<Vec<u8>>>) -> Self {
+        let (state, windows, store) = (case.state.clone(), case.windows.clone(), store.clone());
+        Self { image: case.image(), state, windows, store, case: case.clone() }
     }
 }
 
@@ -133,12 +138,18 @@ impl Subject for Nothing {
     fn field(&self, _: Kind, _: u64, _: u64, _: Aim) -> u64 {
         0
     }
+    fn take(&self, _: u64, _: &[u8], _: Shown, _: &mut [u8]) -> u64 {
+        0
+    }
+    fn go_back(&self, _: u64, _: &mut [u8], _: Lent, _: &[u8]) -> u64 {
+        0
+    }
 }
 
 type Entry = fn(&dyn Subject, &mut Buffers);
 
 /// The entries by name; each takes the cases that are its own.
-const ENTRIES: [(&str, Entry); 13] = [
+const ENTRIES: [(&str, Entry); 15] = [
     ("mmix_initialize", |subject, lent| {
         if let Call::Initialize = lent.case.call {
             subject.initialize(&mut lent.image);
@@ -192,6 +203,17 @@ const ENTRIES: [(&str, Entry); 13] = [
     ("mmix_encode", |subject, lent| {
         subject.encode(&lent.state, &mut lent.image);
     }),
+    ("mmix_take", |subject, lent| {
+        if let Call::Step(_) = lent.case.call {
+            subject.take(3, &lent.image, lent.windows.show(), &mut lent.store.lock().unwrap());
+        }
+    }),
+    ("mmix_go_back", |subject, lent| {
+        if let Call::Step(_) = lent.case.call {
+            let store = lent.store.lock().unwrap();
+            subject.go_back(3, &mut lent.image, lent.windows.lend(), &store);
+        }
+    }),
     ("mmix_branch_field", |subject, lent| field(subject, lent, Kind::Branch)),
     ("mmix_jump_field", |subject, lent| field(subject, lent, Kind::Jump)),
 ];
@@ -214,8 +236,9 @@ fn depths(painted: &mut Painted, reference: &mut Reference, seed: u64, batch: u6
             reference.answer(case).ok()
         });
     }
+    let store = Arc::new(Mutex::new(vec![0; STORE_LEN]));
     let mut deep = |subject: &dyn Subject, entry| {
-        let mut cases: Vec<Buffers> = cases.iter().map(Buffers::of).collect();
+        let mut cases: Vec<Buffers> = cases.iter().map(|case| Buffers::of(case, &store)).collect();
         painted.depth(&mut Work { subject, entry, cases: &mut cases })
     };
     ENTRIES.map(|(_, entry)| deep(&chosen(), entry).saturating_sub(deep(&Nothing, entry)))

@@ -1,12 +1,14 @@
 //! Document 01 as a program, written from its sentences and not from the Rust. This file has the entries and
 //! what they judge; `memory` the two windows, `stack` frames and contexts, `loads` loads and stores and `arithmetic` whole-number
-//! arithmetic (Fascicle 1), `arms` the other steps; `runs` instructions that are fetched; `fields` which field reaches an address.
+//! arithmetic (Fascicle 1), `arms` the other steps; `runs` instructions that are fetched; `fields` which field reaches an address;
+//! `points` points to return to.
 
 mod arithmetic;
 mod arms;
 mod fields;
 mod loads;
 mod memory;
+pub mod points;
 mod runs;
 mod stack;
 
@@ -247,6 +249,35 @@ impl Subject for Model {
         let found = fields::find(kind.size(), from, to);
         (*aim.backward, *aim.field) = found.map_or((0, 0), |(backward, field)| (backward as u8, field));
         if found.is_some() { 0 } else { 21 }
+    }
+
+    fn take(&self, name: u64, image: &[u8], shown: Shown, store: &mut [u8]) -> u64 {
+        if image.len() != IMAGE_LEN || !State::of_image(image).admissible() {
+            return 1;
+        }
+        if let Some(reply) = judged(&Memory::of(shown.at, shown.a, shown.b)) {
+            return reply;
+        }
+        match points::room_at(name, store) {
+            Err(reply) => reply,
+            Ok(at) => {
+                points::fill(&mut store[at..], [shown.at.a, shown.at.b], image, shown.a, shown.b);
+                0
+            }
+        }
+    }
+
+    fn go_back(&self, name: u64, image: &mut [u8], lent: Lent, store: &[u8]) -> u64 {
+        if image.len() != IMAGE_LEN {
+            return 1;
+        }
+        if let Some(reply) = judged(&Memory::of(lent.at, lent.a, lent.b)) {
+            return reply;
+        }
+        match points::room_at(name, store) {
+            Err(reply) => reply,
+            Ok(at) => points::restore(&store[at..], [lent.at.a, lent.at.b], image, lent.a, lent.b),
+        }
     }
 }
 

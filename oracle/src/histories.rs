@@ -1,0 +1,301 @@
+//! Points to return to: drawn histories of calls on one store. The Rust has none; what a call must answer and leave is told by a ledger,
+//! which notes under each name what was taken last, and by the store's bytes, laid out anew for each point that is taken. Between the
+//! calls image and windows change; now and then the host writes a room itself, and that room's bytes then tell.
+
+use crate::case::{Call, Case};
+use crate::lent::{Window, Windows};
+use crate::model::points::{POINTS, ROOM_LEN, STORE_LEN};
+use crate::random::Random;
+use crate::state::{IMAGE_LEN, State, WINDOW_MAX, octabyte};
+use crate::subject::Subject;
+use crate::{states, windows};
+
+/// Calls of one history.
+const CALLS: u64 = 12;
+/// Bytes behind the sixteenth room.
+const BEHIND: usize = 24;
+const REPLIES: usize = 29;
+/// What each function can answer.
+const TAKE_REPLIES: [usize; 6] = [0, 1, 2, 22, 26, 27];
+const BACK_REPLIES: [usize; 7] = [0, 1, 2, 22, 26, 27, 28];
+/// How often each must have been met.
+const ENOUGH: u64 = 40;
+
+/// What is held: an image and two windows.
+#[derive(Clone, PartialEq)]
+struct Held {
+    image: Vec<u8>,
+    windows: Windows,
+}
+
+impl Held {
+    fn lengths(&self) -> [usize; 2] {
+        [self.windows.a.bytes.len(), self.windows.b.bytes.len()]
+    }
+
+    /// 2 and 22.
+    fn refused(&self) -> Option<u64> {
+        let obeys = |w: &Window| w.base % 8 == 0 && w.bytes.len() % 8 == 0 && w.bytes.len() <= WINDOW_MAX;
+        if !obeys(&self.windows.a) || !obeys(&self.windows.b) {
+            return Some(2);
+        }
+        self.windows.share().then_some(22)
+    }
+}
+
+fn admissible(image: &[u8]) -> bool {
+    image.len() == IMAGE_LEN && State::of_image(image).admissible()
+}
+
+/// What is known of a name.
+#[derive(Clone)]
+enum Kept {
+    Nothing,
+    Taken(Held),
+    /// The host wrote the room.
+    Written,
+}
+
+struct Ledger {
+    store: Vec<u8>,
+    names: Vec<Kept>,
+}
+
+impl Ledger {
+    fn room(&self, name: u64) -> &[u8] {
+        &self.store[name as usize * ROOM_LEN..][..ROOM_LEN]
+    }
+
+    fn number(&self, name: u64, k: usize) -> u64 {
+        octabyte(&self.room(name)[IMAGE_LEN + 8 * k..][..8])
+    }
+
+    /// 26 and 27, of a store of so many bytes.
+    fn refused(name: u64, len: usize) -> Option<u64> {
+        if len < STORE_LEN {
+            return Some(26);
+        }
+        (name > POINTS - 1).then_some(27)
+    }
+
+    fn take(&mut self, name: u64, held: &Held, len: usize) -> u64 {
+        if !admissible(&held.image) {
+            return 1;
+        }
+        if let Some(reply) = held.refused().or(Self::refused(name, len)) {
+            return reply;
+        }
+        let Windows { a, b } = &held.windows;
+        let mut laid = held.image.clone();
+        for number in [a.base, b.base, a.size() / 8, b.size() / 8, 1] {
+            laid.extend(number.to_be_bytes());
+        }
+        let old = self.room(name).to_vec();
+        for window in [&a.bytes, &b.bytes] {
+            laid.extend(window);
+            laid.extend(&old[laid.len()..][..WINDOW_MAX - window.len()]);
+        }
+        self.store[name as usize * ROOM_LEN..][..ROOM_LEN].copy_from_slice(&laid);
+        self.names[name as usize] = Kept::Taken(held.clone());
+        0
+    }
+
+    /// The point of a room that the host wrote, if it has the bases and lengths that are lent and an admissible state.
+    fn written(&self, name: u64, held: &Held) -> Result<Held, u64> {
+        let numbers: Vec<u64> = (0..5).map(|k| self.number(name, k)).collect();
+        let [a, b] = held.lengths();
+        let image = self.room(name)[..IMAGE_LEN].to_vec();
+        if numbers[4] == 0 {
+            return Err(27);
+        }
+        let lengths = numbers[2] as u128 * 8 == a as u128 && numbers[3] as u128 * 8 == b as u128;
+        if !lengths || numbers[0] != held.windows.a.base || numbers[1] != held.windows.b.base || !admissible(&image) {
+            return Err(28);
+        }
+        let mut back = Held { image, windows: held.windows.clone() };
+        let places = &self.room(name)[ROOM_LEN - 2 * WINDOW_MAX..];
+        back.windows.a.bytes.copy_from_slice(&places[..a]);
+        back.windows.b.bytes.copy_from_slice(&places[WINDOW_MAX..][..b]);
+        Ok(back)
+    }
+
+    fn go_back(&self, name: u64, held: &Held, len: usize) -> Result<Held, u64> {
+        if held.image.len() != IMAGE_LEN {
+            return Err(1);
+        }
+        if let Some(reply) = held.refused().or(Self::refused(name, len)) {
+            return Err(reply);
+        }
+        match &self.names[name as usize] {
+            Kept::Nothing => Err(27),
+            Kept::Written => self.written(name, held),
+            Kept::Taken(point) => {
+                let same = point.windows.at() == held.windows.at() && point.lengths() == held.lengths();
+                if same { Ok(point.clone()) } else { Err(28) }
+            }
+        }
+    }
+}
+
+/// How often each reply was met.
+#[derive(Default)]
+pub struct Met {
+    calls: u64,
+    take: Vec<u64>,
+    back: Vec<u64>,
+}
+
+impl Met {
+    fn new() -> Self {
+        Self { calls: 0, take: vec![0; REPLIES], back: vec![0; REPLIES] }
+    }
+
+    pub fn calls(&self) -> u64 {
+        self.calls
+    }
+
+    pub fn print(&self) {
+        for (name, counts) in [("take", &self.take), ("go_back", &self.back)] {
+            let met = (0..REPLIES).filter(|k| counts[*k] > 0).map(|k| format!("{k}: {}", counts[k]));
+            println!("{name:<14} {}", met.collect::<Vec<_>>().join(", "));
+        }
+    }
+
+    pub fn seldom(&self) -> Vec<String> {
+        let few = |name: &str, counts: &[u64], replies: &[usize]| {
+            let few = replies.iter().filter(|k| counts[**k] < ENOUGH);
+            few.map(|k| format!("{name} with reply {k}: {}", counts[*k])).collect::<Vec<_>>()
+        };
+        [few("take", &self.take, &TAKE_REPLIES), few("go_back", &self.back, &BACK_REPLIES)].concat()
+    }
+}
+
+/// One of a few shapes, so that a point is often gone back to as it was taken.
+fn shape(random: &mut Random) -> Windows {
+    let length = |random: &mut Random| match random.below(8) {
+        0 => 0,
+        1 => WINDOW_MAX,
+        2 => WINDOW_MAX - 8,
+        _ => 8 * random.below(64) as usize,
+    };
+    let a = Window { base: 8 * random.below(1 << 20), bytes: vec![0; length(random)] };
+    let base = random.pick(&[1 << 62, 1 << 63, 0x6000_0000_0000_0000, 64u64.wrapping_neg()]);
+    Windows { a, b: Window { base, bytes: vec![0; length(random)] } }
+}
+
+/// What a call is lent: any state and any bytes, in one of the shapes; now and then something that is refused.
+fn held(random: &mut Random, shapes: &[Windows]) -> Held {
+    let shape = &shapes[random.below(shapes.len() as u64) as usize];
+    let mut case = Case::none(Call::Initialize, states::admissible(random));
+    case.windows = shape.clone();
+    windows::fill(random, &mut case.windows.a.bytes);
+    windows::fill(random, &mut case.windows.b.bytes);
+    match random.below(16) {
+        0 | 1 => states::spoil(random, &mut case),
+        2 => windows::spoil(random, &mut case),
+        3 => windows::share(random, &mut case),
+        _ => {}
+    }
+    Held { image: case.image(), windows: case.windows }
+}
+
+fn name(random: &mut Random) -> u64 {
+    match random.below(12) {
+        0 => random.pick(&[16, 17, 1 << 32, 1 << 63, u64::MAX, (1 << 60) + 3]),
+        1 => 15,
+        2 => random.below(POINTS),
+        _ => random.below(3),
+    }
+}
+
+fn store_len(random: &mut Random) -> usize {
+    match random.below(12) {
+        0 => random.pick(&[0, 1, ROOM_LEN, STORE_LEN - ROOM_LEN, STORE_LEN - 8, STORE_LEN - 1]),
+        1 => STORE_LEN + BEHIND,
+        _ => STORE_LEN,
+    }
+}
+
+/// The host writes a number or a byte of the image of some room.
+fn tamper(random: &mut Random, ledger: &mut Ledger, stores: &mut [Vec<u8>]) {
+    let name = random.below(3);
+    let room = name as usize * ROOM_LEN;
+    let k = random.below(5) as usize;
+    let (at, value) = match random.below(4) {
+        0 => (IMAGE_LEN + 8 * 4, random.pick(&[0, 1, 2, 1 << 63, 1 << 8, u64::MAX])),
+        1 => (IMAGE_LEN + 8 * k, ledger.number(name, k) ^ (1 << random.below(64))),
+        // Eight times this one, modulo 2^64, is eight times what stood there.
+        2 => (IMAGE_LEN + 8 * (2 + k % 2), ledger.number(name, 2 + k % 2).wrapping_add(1 << 61)),
+        _ => (2048 + 8 * random.pick(&[19, 20, 21, 34]), random.value()),
+    };
+    for store in stores.iter_mut().chain([&mut ledger.store]) {
+        store[room + at..][..8].copy_from_slice(&value.to_be_bytes());
+    }
+    ledger.names[name as usize] = Kept::Written;
+}
+
+/// Stores of one history: what lies in them before is any, but that no point is taken.
+fn begin(random: &mut Random, count: usize) -> (Ledger, Vec<Vec<u8>>) {
+    let mut store = vec![0; STORE_LEN + BEHIND];
+    store.chunks_exact_mut(8).for_each(|bytes| bytes.copy_from_slice(&random.any().to_be_bytes()));
+    for name in 0..POINTS as usize {
+        store[name * ROOM_LEN + IMAGE_LEN + 8 * 4..][..8].fill(0);
+    }
+    let stores = vec![store.clone(); count];
+    (Ledger { store, names: vec![Kept::Nothing; POINTS as usize] }, stores)
+}
+
+/// One history on each subject; what differs.
+pub fn history(seed: u64, number: u64, subjects: &[Box<dyn Subject>], met: &mut Met) -> Result<(), String> {
+    let mut random = Random::new(!seed, number);
+    let (mut ledger, mut stores) = begin(&mut random, subjects.len());
+    let shapes: Vec<Windows> = (0..random.range(1, 3)).map(|_| shape(&mut random)).collect();
+    for call in 0..CALLS {
+        if random.one_in(12) {
+            tamper(&mut random, &mut ledger, &mut stores);
+        }
+        let (lent, name, len) = (held(&mut random, &shapes), name(&mut random), store_len(&mut random));
+        let taking = random.one_in(2);
+        let (reply, left) = match taking {
+            true => (ledger.take(name, &lent, len), lent.clone()),
+            false => ledger.go_back(name, &lent, len).map_or_else(|reply| (reply, lent.clone()), |back| (0, back)),
+        };
+        for (subject, store) in subjects.iter().zip(&mut stores) {
+            let mut given = lent.clone();
+            let told = match taking {
+                true => subject.take(name, &given.image, given.windows.show(), &mut store[..len]),
+                false => subject.go_back(name, &mut given.image, given.windows.lend(), &store[..len]),
+            };
+            let what = if taking { "take" } else { "go_back" };
+            let differs =
+                |what: String| Err(format!("{}: {what}\nhistory {seed} {number}, call {call}", subject.name()));
+            if told != reply {
+                return differs(format!("{what} of {name} replies {told} and not {reply}"));
+            }
+            if given != left {
+                return differs(format!("{what} of {name}, reply {reply}, leaves another image or window"));
+            }
+            if *store != ledger.store {
+                return differs(format!("{what} of {name}, reply {reply}, leaves another store"));
+            }
+        }
+        met.calls += 1;
+        let counts = if taking { &mut met.take } else { &mut met.back };
+        counts[reply as usize] += 1;
+    }
+    Ok(())
+}
+
+/// So many histories.
+pub fn histories(seed: u64, count: u64, subjects: &[Box<dyn Subject>]) -> (Met, Result<(), String>) {
+    let mut met = Met::new();
+    let found = (0..count).try_for_each(|number| history(seed, number, subjects, &mut met));
+    (met, found)
+}
+
+/// The history that a line names, again.
+pub fn replay(line: &str, subjects: &[Box<dyn Subject>]) -> Option<Result<(), String>> {
+    let mut words = line.strip_prefix("history ")?.split([' ', ',']);
+    let (seed, number) = (words.next()?.parse().ok()?, words.next()?.parse().ok()?);
+    Some(history(seed, number, subjects, &mut Met::new()))
+}
