@@ -378,8 +378,8 @@ pub extern "C" fn mmix_take(
         a: base_a,
         b: base_b,
     };
-    let reply = store::take(at, name, image, a, b, store);
-    instruction::value::number_of(reply)
+    let taken = store::take(at, name, image, a, b, store);
+    instruction::value::number_of(taken)
 }
 
 /// State and windows become those that the store keeps under a name.
@@ -400,8 +400,8 @@ pub extern "C" fn mmix_go_back(
         a: base_a,
         b: base_b,
     };
-    let reply = store::go_back(at, name, image, a, b, store);
-    instruction::value::number_of(reply)
+    let gone = store::go_back(at, name, image, a, b, store);
+    instruction::value::number_of(gone)
 }
 
 /// A search's number, and its direction and field into the outputs: backward 0 or 1; both 0 where it is refused.

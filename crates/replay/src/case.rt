@@ -9,7 +9,7 @@ use crate::octabytes::octabyte;
 use crate::octabytes::set_octabyte;
 use crate::octabytes::sums_of;
 use crate::octabytes::write_line;
-use mmix::image::IMAGE_LEN;
+use image::IMAGE_LEN;
 use model::State;
 
 /// How many octabytes of a record are given, before its pairs, and how many are told.
