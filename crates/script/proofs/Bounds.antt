@@ -15,14 +15,16 @@ use Rattle.model.specs.Step.{stepOf}
 use Rattle.model.specs.Bench.{start}
 use Rattle.model.specs.declared.State.{State}
 use Rattle.model.proofs.Bools.{on, and-left}
-use Rattle.script.specs.Codes.{codes}
-use Rattle.script.specs.Text.{hexMark}
-use Rattle.script.specs.Line.{registerLine, specialLine, stepLine, digitOf, digitsAt, isNumber, numberOf, startsWith, before, matched, registerForm, specialForm, stepForm, orElse, lineOf}
-use Rattle.script.specs.Script.{doneLine, refusedLine, badLine, stepText, badText, turnOf, atFirst, pieces, carried, windows, scriptMost, printed, outputLength, Bounded}
+use Rattle.text.specs.Codes.{codes}
+use Rattle.text.specs.Text.{hexMark, badLine, badText}
+use Rattle.text.specs.Digits.{digitOf, numberOf}
+use Rattle.script.specs.Line.{registerLine, specialLine, stepLine, digitsAt, isNumber, startsWith, before, matched, registerForm, specialForm, stepForm, orElse, lineOf}
+use Rattle.text.specs.Pieces.{atFirst, pieces}
+use Rattle.script.specs.Script.{doneLine, refusedLine, stepText, turnOf, carried, windows, scriptMost, printed, outputLength, Bounded}
 use Rattle.script.specs.declared.line.Form.{Form}
 use Rattle.script.specs.declared.line.Form.the-variants.{Register, Special, Step, Bad}
 use Rattle.script.specs.declared.line.Instruction.{Instruction}
-use Rattle.script.proofs.Writes.{pieceMost, filledMost, length-filled}
+use Rattle.text.proofs.Writes.{pieceMost, filledMost, length-filled}
 
 -- ---- a line is no shorter than its pattern
 

@@ -9,7 +9,8 @@ use lib.Seq.{take-all}
 use borrow.Author.Tests.{lt-leb}
 use Rattle.model.specs.Octa.{written}
 use Rattle.model.proofs.Octa.{length-written}
-use Rattle.script.specs.Script.{badText, scriptMost, printed, outputLength, FrontTells}
+use Rattle.text.specs.Text.{badText}
+use Rattle.script.specs.Script.{scriptMost, printed, outputLength, FrontTells}
 use Rattle.script.proofs.Bounds.{bounded}
 
 long-prints : (l : List ℕ) → scriptMost < length l → printed l ≡ badText 0

@@ -1,4 +1,4 @@
--- Laws of a script carried through: where a line ends, what its turn prints, and what is left after it.
+-- Laws of a script carried through: what a line's turn prints, and what is left after it.
 use mathlib.Core.Path.{_≡_, refl, sym, ap, _∙_}
 use mathlib.Core.Bool.{Bool, true, false, cond}
 use mathlib.Core.List.{List, [], _∷_, _++_, append-nil}
@@ -6,8 +6,8 @@ use Prim.Native.Nat.{ℕ, suc, _+_, _-_, _≤_, _<_}
 use native.Mathlib.Numerals.{add-one}
 use native.Mathlib.Omega.{arith}
 use lib.Dec.{eqb}
-use lib.ListN.{length, getD, take, drop, length-drop, drop-of-length-le}
-use lib.Seq.{drop-cons, drop-drop, set-out}
+use lib.ListN.{length, take, drop, length-drop, drop-of-length-le}
+use lib.Seq.{drop-drop, set-out}
 use borrow.Author.Tests.{le-leb, lt-leb, eq-eqb, ne-eqb}
 use Rattle.model.specs.Octa.{written}
 use Rattle.model.specs.Registers.{Sized, rG, rL, rO, sp, fresh, setRegister, withSpecial}
@@ -18,69 +18,21 @@ use Rattle.model.specs.Parts.{made}
 use Rattle.model.specs.Bench.{start}
 use Rattle.model.specs.declared.State.{State}
 use Rattle.model.specs.declared.Reply.{Reply}
-use Rattle.model.proofs.Bools.{on}
 use Rattle.model.proofs.Numbers.{step-number}
 use Rattle.model.proofs.Leaves.{replies-leave}
 use Rattle.instruction.specs.StepAnswer.{Whole}
 use Rattle.script.specs.Line.{lineOf}
-use Rattle.script.specs.Text.{filled}
-use Rattle.script.specs.Script.{doneLine, refusedLine, stepText, badText, turnOf, atFirst, pieces, carried, windows, scriptMost, printed}
-use Rattle.script.specs.Writing.{Wrote, Leaves, lineLength}
+use Rattle.text.specs.Text.{filled, badText}
+use Rattle.text.specs.Pieces.{pieces, lineLength}
+use Rattle.script.specs.Script.{doneLine, refusedLine, stepText, turnOf, carried, windows, scriptMost, printed}
+use Rattle.text.specs.Writing.{Wrote}
+use Rattle.script.specs.Writing.{Leaves}
 use Rattle.script.specs.declared.line.Form.{Form}
 use Rattle.script.specs.declared.line.Form.the-variants.{Register, Special, Step, Bad}
 use Rattle.script.specs.declared.line.Setting.{Setting}
 use Rattle.script.specs.declared.line.Instruction.{Instruction}
-use Rattle.script.proofs.Writes.{wrote-nothing, wrote-as, Leads, leads-on, leads-last}
-
--- ---- where a line ends
-
-pub length-line : (l : List ℕ) → lineLength l ≤ length l
-unfolding lineLength
-length-line [] = omega arith
-length-line (b ∷ l) = let h = length-line l in on (λ (k : ℕ). k ≤ suc (length l)) (eqb b 10) (λ e. omega arith) (λ e. omega arith)
-
-pub line-within : (l : List ℕ) (at end : ℕ) → at ≤ length l → end ≡ at + lineLength (drop at l) → (at ≤ end) × (end ≤ length l)
-line-within l at end h e = (omega arith, omega (arith, length-line (drop at l), length-drop at l))
-
--- at a newline, past the end, and one byte further
-pub line-there : (l : List ℕ) (i : ℕ) → i < length l → getD l i 0 ≡ 10 → lineLength (drop i l) ≡ 0
-unfolding lineLength
-line-there l i h e = rw (drop-cons l i 0 h, eq-eqb (getD l i 0) 10 e)
-
-pub line-past : (l : List ℕ) (i : ℕ) → length l ≤ i → lineLength (drop i l) ≡ 0
-unfolding lineLength
-line-past l i h = rw (drop-of-length-le l h)
-
-pub line-further : (l : List ℕ) (i : ℕ) → i < length l → (getD l i 0 ≡ 10 → ⊥) → lineLength (drop i l) ≡ suc (lineLength (drop (i + 1) l))
-unfolding lineLength
-line-further l i h f = rw (drop-cons l i 0 h, ne-eqb (getD l i 0) 10 f, add-one)
-
--- ---- the lines one by one
-
-either : {A : Type 0} (t : Bool) → (t ≡ true → A) → (t ≡ false → A) → A
-either true f g = f refl
-either false f g = g refl
-
-pieces-some : (l : List ℕ) → 0 < length (pieces l)
-unfolding pieces
-pieces-some [] = omega arith
-pieces-some (b ∷ l) = let h = pieces-some l in either (eqb b 10) (λ e. rw e (omega arith)) (λ e. rw e (more (pieces l) h))
-  where
-    more : (ps : List (List ℕ)) → 0 < length ps → 0 < length (atFirst b ps)
-    more [] h = omega arith
-    more (p ∷ ps) h = omega arith
-
-pieces-line : (l : List ℕ) → lineLength l < length l → pieces l ≡ take (lineLength l) l ∷ pieces (drop (suc (lineLength l)) l)
-unfolding pieces lineLength
-pieces-line [] h = absurd (omega arith)
-pieces-line (b ∷ l) h =
-    either (eqb b 10) (λ e. rw e) (λ e. let k : lineLength l < length l = omega (arith, rw e at h) in rw (e, pieces-line l k))
-
-pieces-last : (l : List ℕ) → lineLength l ≡ length l → pieces l ≡ l ∷ []
-unfolding pieces lineLength
-pieces-last [] h = refl
-pieces-last (b ∷ l) h =
-    either (eqb b 10) (λ e. absurd (omega (arith, rw e at h))) (λ e. let k : lineLength l ≡ length l = omega (arith, rw e at h) in rw (e, pieces-last l k))
+use Rattle.text.proofs.Pieces.{length-line, pieces-some, pieces-line, pieces-last}
+use Rattle.text.proofs.Writes.{wrote-nothing, wrote-as, Leads, leads-on, leads-last}
 
 -- ---- what a line prints
 

@@ -1,49 +1,25 @@
--- Laws of digits: one digit and its byte; the digits at the front of a line, also by index as `line.rt` walks them; the number that
--- digits are; what makes digits a number. How a number is written is in Numbers.
+-- Laws of the digits at the front of a line, also by index as `line.rt` walks them, of their number, and what makes digits a number. One digit
+-- is in crate text, how a number is written in Numbers.
 use mathlib.Core.Path.{_≡_, refl, ap, _∙_}
 use mathlib.Core.Logic.{⊎-elim}
-use mathlib.Core.Bool.{Bool, true, false, cond, _&&_, _||_, not}
+use mathlib.Core.Bool.{Bool, true, false, _&&_, _||_, not}
 use mathlib.Core.List.{List, [], _∷_, _++_, map}
-use Prim.Native.Nat.{ℕ, _+_, _*_, _^_, _<_, _≤_}
+use Prim.Native.Nat.{ℕ, _+_, _*_, _<_, _≤_}
 use native.Mathlib.Omega.{arith}
 use native.Mathlib.Decide.{decLt, ℕ-discrete}
 use native.Mathlib.Numerals.{add-one}
-use native.Mathlib.Nat.{pow-succ', pow-le-pow-right, mul-assoc, add-zero}
-use borrow.Author.Tests.{lt-ltb, le-ltb, le-leb, eqb-true, ltb-true, leb-true, eqb-false, not-true, eq-eqb, ne-eqb}
+use native.Mathlib.Nat.{add-zero}
+use borrow.Author.Tests.{lt-ltb, le-ltb, le-leb, ltb-true, leb-true, eqb-false, not-true, eq-eqb, ne-eqb}
 use lib.Dec.{leb, ltb, eqb}
-use lib.Arith.{digits-lt}
 use lib.ListN.{length, getD, drop, drop-of-length-le, List·getD-eq-default}
 use lib.Seq.{drop-cons}
-use Rattle.model.specs.Fill.{within}
 use Rattle.model.specs.Plan.{All}
 use Rattle.model.proofs.Fill.{flag}
-use Rattle.model.proofs.Bools.{each, at-each, and-left, and-right, on}
-use Rattle.script.specs.Text.{glyph}
-use Rattle.script.specs.Line.{digitOf, digitsAt, isNumber, numberOf}
-
-abbrev pub Digits : List ℕ → Type 0
-Digits ds = All (λ (d : ℕ). d < 16) ds
-
--- ---- one digit
-
-pub digit-glyph : (d : ℕ) → d < 16 → digitOf (glyph d) ≡ d
-unfolding each digitOf glyph within
-digit-glyph d l = eqb-true _ _ (at-each 16 (λ (k : ℕ). eqb (digitOf (glyph k)) k) refl d l)
-
--- a byte that is a digit is the glyph of that digit: computed up to 'f'
-abbrev kept : ℕ → Bool
-kept b = cond (ltb (digitOf b) 16) (eqb (glyph (digitOf b)) b) true
-
-kept-all : (b : ℕ) → kept b ≡ true
-unfolding each digitOf glyph within
-kept-all b = go (decLt b 103)
-  where
-    go : Dec (b < 103) → kept b ≡ true
-    go (yes l) = at-each 103 kept refl b l
-    go (no l) = simp (le-leb 48 b (omega arith), le-ltb b 58 (omega arith), le-leb 97 b (omega arith), le-ltb b 103 (omega arith))
-
-pub glyph-digit : (b : ℕ) → digitOf b < 16 → glyph (digitOf b) ≡ b
-glyph-digit b l = eqb-true _ _ (rw (lt-ltb (digitOf b) 16 l) at (kept-all b))
+use Rattle.model.proofs.Bools.{and-left, and-right, on}
+use Rattle.text.specs.Text.{glyph}
+use Rattle.text.specs.Digits.{digitOf, numberOf}
+use Rattle.text.proofs.Digits.{Digits, digit-glyph, glyph-digit, digit-zero, number-above}
+use Rattle.script.specs.Line.{digitsAt, isNumber}
 
 -- ---- the digits at the front
 
@@ -58,10 +34,6 @@ digits-stop b l h = rw (le-ltb (digitOf b) 16 h)
 pub digits-nil : digitsAt [] ≡ []
 unfolding digitsAt
 digits-nil = refl
-
-digit-zero : digitOf 0 ≡ 16
-unfolding digitOf within
-digit-zero = refl
 
 pub digits-below : (l : List ℕ) → Digits (digitsAt l)
 unfolding digitsAt All
@@ -123,17 +95,6 @@ digits-of-glyphs (d ∷ ds) l h e =
 
 -- ---- the number of digits
 
--- numberOf h ds is ds after the number h
-pub number-above : (h : ℕ) (ds : List ℕ) → h ≤ numberOf h ds
-unfolding numberOf
-number-above h [] = omega arith
-number-above h (d ∷ ds) = omega (arith, number-above (h * 16 + d) ds)
-
-pub number-none : (h : ℕ) (ds : List ℕ) → length ds ≡ 0 → numberOf h ds ≡ h
-unfolding numberOf
-number-none h [] e = refl
-number-none h (d ∷ ds) e = absurd (omega arith)
-
 -- one digit further
 pub number-more : (h : ℕ) (l : List ℕ) (at : ℕ) → digitOf (getD l at 0) < 16
     → numberOf (h * 16 + digitOf (getD l at 0)) (digitsAt (drop (at + 1) l)) ≡ numberOf h (digitsAt (drop at l))
@@ -142,19 +103,6 @@ number-more h l at d = rw (digits-more l at d)
 
 pub number-fits : (h : ℕ) (l : List ℕ) (at : ℕ) → digitOf (getD l at 0) < 16 → h * 16 + digitOf (getD l at 0) ≤ numberOf h (digitsAt (drop at l))
 number-fits h l at d = rw (← (number-more h l at d)) (number-above _ _)
-
-number-bound : (h m : ℕ) (ds : List ℕ) → h < m → Digits ds → numberOf h ds < m * 16 ^ length ds
-unfolding numberOf All
-number-bound h m [] l a = omega arith
-number-bound h m (d ∷ ds) l a = rw (pow-succ', ← mul-assoc) (number-bound (h * 16 + d) (m * 16) ds (digits-lt l (a .0)) (a .1))
-
-pub number-below : (ds : List ℕ) → Digits ds → length ds ≤ 16 → numberOf 0 ds < 2 ^ 64
-number-below ds a l = omega (arith, number-bound 0 1 ds (omega arith) a, pow-le-pow-right {n = 16} (omega arith) l)
-
-pub number-snoc : (h : ℕ) (ds : List ℕ) (d : ℕ) → numberOf h (ds ++ (d ∷ [])) ≡ numberOf h ds * 16 + d
-unfolding numberOf
-number-snoc h [] d = refl
-number-snoc h (e ∷ ds) d = number-snoc (h * 16 + e) ds d
 
 -- ---- what makes digits a number
 

@@ -8,8 +8,9 @@ use native.Mathlib.Omega.{arith}
 use lib.ListN.{length, getD, take, length-take}
 use lib.Seq.{getD-take}
 use Rattle.model.specs.Fill.{within}
-use Rattle.script.specs.Codes.{codes}
-use Rattle.script.specs.Line.{registerLine, specialLine, stepLine, digitOf, matched, registerForm, specialForm, stepForm, lineOf}
+use Rattle.text.specs.Codes.{codes}
+use Rattle.text.specs.Digits.{digitOf}
+use Rattle.script.specs.Line.{registerLine, specialLine, stepLine, matched, registerForm, specialForm, stepForm, lineOf}
 use Rattle.script.specs.Reading.{marks, found}
 use Rattle.script.specs.declared.line.Match.{Match}
 use Rattle.script.specs.declared.line.Form.the-variants.{Bad}

@@ -10,8 +10,8 @@ use lib.Dec.{ltb}
 use lib.ListN.{length, getD}
 use Rattle.model.specs.Plan.{All}
 use Rattle.model.proofs.Bools.{and-left, and-right}
-use Rattle.script.specs.Codes.{codes}
-use Rattle.script.specs.Text.{filled}
+use Rattle.text.specs.Codes.{codes}
+use Rattle.text.specs.Text.{filled}
 use Rattle.script.specs.Line.{registerLine, specialLine, stepLine, matched, registerForm, specialForm, stepForm, lineOf, textOf, Fits, Grammar}
 use Rattle.script.specs.declared.line.Form.{Form}
 use Rattle.script.specs.declared.line.Form.the-variants.{Register, Special, Step, Bad}

@@ -6,7 +6,6 @@ pub mod Matching
 pub mod Turns
 pub mod Forms
 pub mod Grammar
-pub mod Writes
 pub mod Carries
 pub mod Bounds
 pub mod Buffers

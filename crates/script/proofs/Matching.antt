@@ -12,8 +12,9 @@ use lib.Dec.{leb, eqb}
 use lib.ListN.{length, drop}
 use Rattle.model.specs.Plan.{All}
 use Rattle.model.proofs.Bools.{and-left, and-right}
-use Rattle.script.specs.Text.{hexadecimal, hexMark, decimalMark, filled}
-use Rattle.script.specs.Line.{digitOf, digitsAt, isNumber, numberOf, before, matched}
+use Rattle.text.specs.Text.{hexadecimal, hexMark, decimalMark, filled}
+use Rattle.text.specs.Digits.{digitOf, numberOf}
+use Rattle.script.specs.Line.{digitsAt, isNumber, before, matched}
 use Rattle.script.specs.Reading.{marks}
 use Rattle.script.proofs.Digits.{digits-nil, digits-stop}
 use Rattle.script.proofs.Numbers.{Read, written-read, read-written, read-below}

@@ -13,9 +13,11 @@ use lib.ListN.{length, getD, drop, length-append, length-map, List·getD-append}
 use lib.Seq.{drop-at}
 use Rattle.model.specs.Plan.{All}
 use Rattle.model.proofs.Plan.{All-both}
-use Rattle.script.specs.Text.{glyph, numeral, hexadecimal}
-use Rattle.script.specs.Line.{digitsAt, isNumber, numberOf}
-use Rattle.script.proofs.Digits.{Digits, digits-below, glyphs-of, digits-of-glyphs, number-below, number-snoc, Number, number-facts, is-number}
+use Rattle.text.specs.Text.{glyph, numeral, hexadecimal}
+use Rattle.text.specs.Digits.{numberOf}
+use Rattle.script.specs.Line.{digitsAt, isNumber}
+use Rattle.text.proofs.Digits.{Digits, number-below, number-snoc}
+use Rattle.script.proofs.Digits.{digits-below, glyphs-of, digits-of-glyphs, Number, number-facts, is-number}
 
 -- ---- a number written as its digits
 

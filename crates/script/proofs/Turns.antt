@@ -10,8 +10,9 @@ use native.Mathlib.Numerals.{add-one}
 use borrow.Author.Tests.{ne-eqb}
 use lib.ListN.{length, getD, drop, set, drop-of-length-le}
 use lib.Seq.{drop-cons, drop-drop, take-suc-set, append-snoc}
-use Rattle.script.specs.Text.{hexMark}
-use Rattle.script.specs.Line.{digitsAt, isNumber, numberOf, before, matched}
+use Rattle.text.specs.Text.{hexMark}
+use Rattle.text.specs.Digits.{numberOf}
+use Rattle.script.specs.Line.{digitsAt, isNumber, before, matched}
 use Rattle.script.specs.Reading.{marks, after, resumed, Past}
 use Rattle.script.specs.declared.line.Match.{Match}
 use Rattle.script.proofs.Matching.{marks-cons, matched-byte}

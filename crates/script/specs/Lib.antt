@@ -1,6 +1,4 @@
 -- What the bench program's language is; then what contracts of private functions cite.
-pub mod Codes
-pub mod Text
 pub mod Line
 pub mod Script
 pub mod Reading

@@ -1,15 +1,15 @@
 -- What a line of a script says. 01: "one bracketed form a line"; "Numbers in and out are lower-case hexadecimal, no leading zeros";
 -- "Spacing is as shown"; "a bad line, or a number too wide for its field".
-use Prim.Native.Nat.{ℕ, _+_, _-_, _*_, _<_, _^_}
+use Prim.Native.Nat.{ℕ, _-_, _<_, _^_}
 use mathlib.Core.Path.{_≡_}
 use mathlib.Core.Bool.{Bool, false, cond, _&&_, _||_, not}
 use mathlib.Core.List.{List, [], _∷_}
 use mathlib.Core.Option.{Option, none, some}
 use lib.Dec.{leb, ltb, eqb}
 use lib.ListN.{length, getD, drop}
-use Rattle.model.specs.Fill.{within}
-use Rattle.script.specs.Codes.{codes}
-use Rattle.script.specs.Text.{hexMark, filled}
+use Rattle.text.specs.Digits.{digitOf, numberOf}
+use Rattle.text.specs.Codes.{codes}
+use Rattle.text.specs.Text.{hexMark, filled}
 use Rattle.script.specs.declared.line.Form.{Form}
 use Rattle.script.specs.declared.line.Form.the-variants.{Register, Special, Step, Bad}
 use Rattle.script.specs.declared.line.Setting.{Setting}
@@ -28,10 +28,6 @@ stepLine = codes "(step (# # # #))"
 
 -- ---- a number
 
--- a byte as a digit, 16 where it is none
-unfoldable pub digitOf : ℕ → ℕ
-digitOf b = cond (within 48 58 b) (b - 48) (cond (within 97 103 b) (b - 87) 16)
-
 -- the digits at the front
 unfoldable pub digitsAt : List ℕ → List ℕ
 digitsAt [] = []
@@ -40,11 +36,6 @@ digitsAt (b ∷ l) = cond (ltb (digitOf b) 16) (digitOf b ∷ digitsAt l) []
 -- 1 to 16 of them, of which the first is not 0 unless it is alone
 unfoldable pub isNumber : List ℕ → Bool
 isNumber ds = ltb 0 (length ds) && (leb (length ds) 16 && (eqb (length ds) 1 || not (eqb (getD ds 0 0) 0)))
-
--- the number that digits are, after `high`
-unfoldable pub numberOf : ℕ → List ℕ → ℕ
-numberOf high [] = high
-numberOf high (d ∷ ds) = numberOf (high * 16 + d) ds
 
 -- ---- a line held against a pattern: the numbers at its marks
 

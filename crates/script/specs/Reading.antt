@@ -6,7 +6,7 @@ use mathlib.Core.List.{List, [], _∷_, _++_}
 use mathlib.Core.Option.{Option, none, some}
 use lib.Dec.{eqb}
 use lib.ListN.{take, drop}
-use Rattle.script.specs.Text.{hexMark}
+use Rattle.text.specs.Text.{hexMark}
 use Rattle.script.specs.Line.{matched}
 use Rattle.script.specs.declared.line.Match.{Match}
 

@@ -14,8 +14,9 @@ use Rattle.model.specs.Plan.{Outcome}
 use Rattle.model.specs.Step.{stepOf}
 use Rattle.model.specs.Bench.{start}
 use Rattle.model.specs.declared.State.{State}
-use Rattle.script.specs.Codes.{codes}
-use Rattle.script.specs.Text.{filled}
+use Rattle.text.specs.Codes.{codes}
+use Rattle.text.specs.Text.{filled, badText}
+use Rattle.text.specs.Pieces.{pieces}
 use Rattle.script.specs.Line.{lineOf}
 use Rattle.script.specs.declared.line.Form.{Form}
 use Rattle.script.specs.declared.line.Form.the-variants.{Register, Special, Step, Bad}
@@ -29,18 +30,12 @@ doneLine = codes "(# # # # (done) (pc #) (rG #) (rL #) (rO #))\n"
 unfoldable pub refusedLine : List ℕ
 refusedLine = codes "(# # # # (refused %) (pc #) (rG #) (rL #) (rO #))\n"
 
-unfoldable pub badLine : List ℕ
-badLine = codes "(bad %)\n"
-
 -- "opcode, X, Y, Z, reply (`(done)` or `(refused N)`), PC, rG, rL, rO"
 unfoldable pub stepText : Instruction → ℕ → State → List ℕ
 stepText i n s =
     cond (eqb n 0)
     (filled doneLine (i .op ∷ i .x ∷ i .y ∷ i .z ∷ s .pc ∷ sp s rG ∷ sp s rL ∷ sp s rO ∷ []))
     (filled refusedLine (i .op ∷ i .x ∷ i .y ∷ i .z ∷ n ∷ s .pc ∷ sp s rG ∷ sp s rL ∷ sp s rO ∷ []))
-
-unfoldable pub badText : ℕ → List ℕ
-badText n = filled badLine (n ∷ [])
 
 -- ---- one line
 
@@ -65,15 +60,6 @@ turnOf n s w (Step i) = stepTurn i (stepOf w s (i .op) (i .x) (i .y) (i .z))
 turnOf n s w Bad = turn (badText n) false s w
 
 -- ---- a whole script
-
-abbrev pub atFirst : ℕ → List (List ℕ) → List (List ℕ)
-atFirst b [] = (b ∷ []) ∷ []
-atFirst b (p ∷ ps) = (b ∷ p) ∷ ps
-
--- the lines, and at the end what follows the last newline
-unfoldable pub pieces : List ℕ → List (List ℕ)
-pieces [] = [] ∷ []
-pieces (b ∷ l) = cond (eqb b 10) ([] ∷ pieces l) (atFirst b (pieces l))
 
 -- from line n on; "a newline ends each line", so what follows the last one is bad unless it is nothing
 unfoldable pub carried : ℕ → State → Windows → List (List ℕ) → List ℕ

@@ -3,8 +3,9 @@ ghost use mathlib.Core.Path.{_≡_};
 ghost use mathlib.Core.List.{[], _∷_};
 ghost use Prim.Native.Nat.{_+_, _≤_, _<_, _^_};
 ghost use lib.ListN.{length, getD, drop};
-ghost use Rattle.script.specs.Text.{hexMark};
-ghost use Rattle.script.specs.Line.{digitOf, digitsAt, isNumber, numberOf, matched, registerForm, specialForm, stepForm, lineOf};
+ghost use Rattle.text.specs.Text.{hexMark};
+ghost use Rattle.text.specs.Digits.{digitOf, numberOf};
+ghost use Rattle.script.specs.Line.{digitsAt, isNumber, matched, registerForm, specialForm, stepForm, lineOf};
 ghost use Rattle.script.specs.Reading.{marks, resumed, found, Past};
 
 /// A register's number and what it is set to.
@@ -237,18 +238,7 @@ fn digit_at(line: &[u8], at: usize) -> u64
     ensures { λ r. ⌜ r ≡ digitOf (getD (now (line .entry)) at 0) ⌝ }
 {
     if at < line.len() {
-        return digit(line[at]) as u64;
+        return text::read::digit(line[at]) as u64;
     }
     16
-}
-
-// A byte as a digit, 16 where it is none.
-fn digit(b: u8) -> u8
-    ensures { λ r. ⌜ r ≡ digitOf b ⌝ }
-{
-    match b {
-        b'0'..=b'9' => b - b'0',
-        b'a'..=b'f' => b - b'a' + 10,
-        _ => 16,
-    }
 }

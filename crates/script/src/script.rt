@@ -1,20 +1,20 @@
 // A whole script: its lines carried out one after another, and what they print.
 ghost use mathlib.Core.Path.{_≡_};
 ghost use Prim.Native.Nat.{ℕ, _+_, _≤_, _<_, _^_};
-ghost use lib.ListN.{length, drop};
+ghost use lib.ListN.{length};
 ghost use Rattle.model.specs.Octa.{written};
 ghost use Rattle.model.specs.Registers.{withSpecial};
 ghost use Rattle.model.specs.Parts.{lent};
-ghost use Rattle.script.specs.Script.{stepText, badText, bases, turnOf, pieces, carried, scriptMost, printed};
-ghost use Rattle.script.specs.Writing.{Wrote, Leaves, lineLength};
+ghost use Rattle.text.specs.Pieces.{pieces};
+ghost use Rattle.script.specs.Script.{stepText, bases, turnOf, carried, scriptMost, printed};
+ghost use Rattle.text.specs.Writing.{Wrote};
+ghost use Rattle.script.specs.Writing.{Leaves};
 ghost use Rattle.script.specs.declared.line.Form.the-variants.{Step as Form·Step};
 use super::line::Form;
 use super::line::Instruction;
 use super::line::Setting;
 use model::Bases;
 use model::State;
-
-const NEWLINE: u8 = 10;
 
 /// The longest script.
 pub const SCRIPT_MOST: usize = 65536;
@@ -74,20 +74,11 @@ fn put_step(out: &mut [u8], at: usize, i: Instruction, number: u64, state: State
     if number == 0 {
         let fields = [op, x, y, z, pc, rg, rl, ro];
         let done = b"(# # # # (done) (pc #) (rG #) (rL #) (rO #))\n";
-        return super::text::write(out, at, done, &fields);
+        return text::write::write(out, at, done, &fields);
     }
     let fields = [op, x, y, z, number, pc, rg, rl, ro];
     let refused = b"(# # # # (refused %) (pc #) (rG #) (rL #) (rO #))\n";
-    super::text::write(out, at, refused, &fields)
-}
-
-/// The line that says that line n is bad.
-fn put_bad(out: &mut [u8], at: usize, n: u64) -> usize
-    requires { ⌜ at < 2 ^ 63 ⌝ }
-    ensures { λ r. ⌜ Wrote (now (out .entry)) at (badText n) (now (out .exit)) r ⌝ }
-{
-    let fields = [n];
-    super::text::write(out, at, b"(bad %)\n", &fields)
+    text::write::write(out, at, refused, &fields)
 }
 
 /// A step is done or refused, and printed; a refused one ends the script.
@@ -152,7 +143,7 @@ fn turn(
         }
         Form::Step(i) => step(out, a, b, at, state, i),
         Form::Bad => {
-            let end = put_bad(out, at, n);
+            let end = text::write::put_bad(out, at, n);
             After {
                 going: false,
                 next: end,
@@ -160,21 +151,6 @@ fn turn(
             }
         }
     }
-}
-
-/// Where the line from `at` on ends: at its newline, or at the script's end where it has none.
-fn line_end(script: &[u8], at: usize) -> usize
-    requires { ⌜ at ≤ length (now script) ⌝ }
-    ensures { λ r. ⌜ r ≡ at + lineLength (drop at (now (script .entry))) ⌝ }
-{
-    let mut i = at;
-    while i < script.len() {
-        if script[i] == NEWLINE {
-            return i;
-        }
-        i += 1;
-    }
-    i
 }
 
 /// The lines from the first on, until one ends the script.
@@ -188,9 +164,9 @@ fn carry(script: &[u8], out: &mut [u8], a: &mut [u8], b: &mut [u8], first: State
     let mut at: usize = 0;
     let mut n: u64 = 1;
     while at < script.len() {
-        let end = line_end(script, at);
+        let end = text::read::line_end(script, at);
         if end == script.len() {
-            return put_bad(out, next, n);
+            return text::write::put_bad(out, next, n);
         }
         let form = super::line::read(&script[at..end]);
         let after = turn(out, a, b, next, n, state, form);
@@ -213,7 +189,7 @@ pub fn run(script: &[u8], out: &mut [u8]) -> usize
         × (r ≡ length (printed (now (script .entry)))) ⌝ }
 {
     if SCRIPT_MOST < script.len() {
-        return put_bad(out, 0, 0);
+        return text::write::put_bad(out, 0, 0);
     }
     let fresh = State::initialize();
     let general = fresh.general;

@@ -2,7 +2,7 @@
 use mathlib.Core.Path.{_≡_, sym, _∙_}
 use mathlib.Core.Option.{none}
 use native.Mathlib.Omega.{arith}
-use Rattle.script.specs.Codes.{codes}
+use Rattle.text.specs.Codes.{codes}
 use Rattle.script.specs.Line.{registerLine, specialLine, stepLine, matched}
 use Rattle.script.proofs.Forms.{register-marks, special-marks, step-marks, line-bad, missed, by-register, by-special, by-step}
 use borrow.Author.Needs.{needs}

@@ -4,8 +4,10 @@ use Prim.Native.Nat.{_+_, _-_}
 use native.Mathlib.Omega.{arith}
 use borrow.Author.Needs.{needs}
 use lib.ListN.{length, drop}
-use Rattle.script.specs.Line.{digitsAt, numberOf}
-use Rattle.script.proofs.Digits.{digit-here, end-more, number-more, number-none, number-fits}
+use Rattle.text.specs.Digits.{numberOf}
+use Rattle.script.specs.Line.{digitsAt}
+use Rattle.text.proofs.Digits.{number-none}
+use Rattle.script.proofs.Digits.{digit-here, end-more, number-more, number-fits}
 use Rattle.script.proofs.line.value.Statement.{statement}
 use Rattle.script.proofs.line.value.Tie as tie
 

@@ -6,9 +6,11 @@ use lib.ListN.{length, drop}
 use borrow.Author.Needs.{needs}
 use borrow.Author.Tests.{not-true, not-false}
 use Rattle.model.specs.Parts.{lent}
-use Rattle.script.specs.Script.{bases, pieces, carried}
-use Rattle.script.proofs.Writes.{Leads, leads-whole, leads-last, leads-end}
-use Rattle.script.proofs.Carries.{line-within, carried-end, carried-unended, line-onward, line-stop}
+use Rattle.text.specs.Pieces.{pieces}
+use Rattle.script.specs.Script.{bases, carried}
+use Rattle.text.proofs.Writes.{Leads, leads-whole, leads-last, leads-end, wrote-bad}
+use Rattle.text.proofs.Pieces.{line-within}
+use Rattle.script.proofs.Carries.{carried-end, carried-unended, line-onward, line-stop}
 use Rattle.script.proofs.Bounds.{carried-most}
 use Rattle.script.proofs.script.carry.Statement.{statement}
 use Rattle.script.proofs.script.carry.Tie as tie
@@ -38,10 +40,10 @@ loop-holds : tie.Need-loop-holds Inv-loop μ-loop
 loop-holds c = (omega arith, omega arith, refl, refl, refl, leads-whole _ _ _)
 
 line-end-requires : tie.Need-line-end-requires Inv-loop μ-loop
-line-end-requires c κs = omega arith
+line-end-requires c κs = search needs
 
 put-bad-requires : tie.Need-put-bad-requires Inv-loop μ-loop
-put-bad-requires c κs = small (c .before .before .before .before)
+put-bad-requires c κs = search needs
 
 same-length : tie.Need-same-length Inv-loop μ-loop
 same-length c = c .before .before .put-bad .kept .0 ∙ c .before .before .before .before .before .before .before .loop .inv .2
@@ -63,7 +65,7 @@ returns c =
     leads-last _ _ _ _ _ _ _ _ _ (l .inv .5)
     (carried-unended (l .n) (l .state) (lent bases (l .a) (l .b)) (a .script .now) (l .at) (ending .line-end .result)
     (ending .before .loop-test .taken) (ending .line-end .ensures) (here .if1 .taken))
-    (printing .put-bad .ensures)
+    (wrote-bad _ _ _ _ _ (small at-loop) (printing .put-bad .ensures))
 
 sub-read : tie.Need-sub-read Inv-loop μ-loop
 sub-read c = within (c .before) .0

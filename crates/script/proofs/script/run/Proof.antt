@@ -1,6 +1,8 @@
 -- `run` meets its contract: it starts in the start and the windows of the definition.
 use mathlib.Core.Path.{refl}
 use borrow.Author.Needs.{needs}
+use native.Mathlib.Omega.{arith}
+use Rattle.text.proofs.Writes.{wrote-bad}
 use Rattle.script.specs.Script.{windows}
 use Rattle.script.proofs.Carries.{start-is, prints-long, prints-carried}
 use Rattle.script.proofs.script.run.Statement.{statement}
@@ -15,7 +17,7 @@ same-length c = search needs
 returns : tie.Need-returns
 returns c =
     let printing = c .before .before in
-    prints-long (printing .before .before .before .before .before .args .script .now) _ _ _ (printing .before .before .if1 .taken) (printing .put-bad .ensures)
+    prints-long (printing .before .before .before .before .before .args .script .now) _ _ _ (printing .before .before .if1 .taken) (wrote-bad _ _ _ _ _ (omega arith) (printing .put-bad .ensures))
 
 initialize-requires : tie.Need-initialize-requires
 initialize-requires c κs = search needs

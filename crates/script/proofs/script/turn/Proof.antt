@@ -1,5 +1,6 @@
 -- `turn` meets its contract, form by form.
 use borrow.Author.Needs.{needs}
+use Rattle.text.proofs.Writes.{wrote-bad}
 use Rattle.script.proofs.Carries.{leaves-register, leaves-special, leaves-bad, leaves-same}
 use Rattle.script.proofs.script.turn.Statement.{statement}
 use Rattle.script.proofs.script.turn.Tie as tie
@@ -59,7 +60,7 @@ same-length-4 c = search needs
 returns-4 : tie.Need-returns-4
 returns-4 c =
     let printing = c .before .before in
-    leaves-bad _ _ _ _ _ _ (printing .before .before .enum-told .given .1) _ _ (printing .put-bad .ensures)
+    leaves-bad _ _ _ _ _ _ (printing .before .before .enum-told .given .1) _ _ (wrote-bad _ _ _ _ _ (printing .before .before .before .before .before .before .before .pre) (printing .put-bad .ensures))
 
 pub turn-spec : {M : Type 1} → statement M
 turn-spec =

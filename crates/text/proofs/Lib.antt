@@ -1,0 +1,4 @@
+-- The laws of this crate's definitions.
+pub mod Digits
+pub mod Pieces
+pub mod Writes
