@@ -11,14 +11,14 @@ use native.Mathlib.Numerals.{add-one}
 use native.Mathlib.Nat.{add-zero}
 use borrow.Author.Tests.{lt-ltb, le-ltb, le-leb, ltb-true, leb-true, eqb-false, not-true, eq-eqb, ne-eqb}
 use lib.Dec.{leb, ltb, eqb}
-use lib.ListN.{length, getD, drop, drop-of-length-le, List·getD-eq-default}
+use lib.ListN.{length, getD, drop, drop-of-length-le}
 use lib.Seq.{drop-cons}
 use Rattle.model.specs.Plan.{All}
 use Rattle.model.proofs.Fill.{flag}
 use Rattle.model.proofs.Bools.{and-left, and-right, on}
 use Rattle.text.specs.Text.{glyph}
 use Rattle.text.specs.Digits.{digitOf, numberOf}
-use Rattle.text.proofs.Digits.{Digits, digit-glyph, glyph-digit, digit-zero, number-above}
+use Rattle.text.proofs.Digits.{Digits, digit-glyph, glyph-digit, digit-past, number-above}
 use Rattle.script.specs.Line.{digitsAt, isNumber}
 
 -- ---- the digits at the front
@@ -40,10 +40,7 @@ unfolding digitsAt All
 digits-below [] = tt
 digits-below (b ∷ l) = on Digits (ltb (digitOf b) 16) (λ h. (ltb-true _ _ h, digits-below l)) (λ h. tt)
 
--- by index, as the code has them: past the end of a list stands 0, which is no digit
-pub digit-past : (l : List ℕ) (at : ℕ) → length l ≤ at → digitOf (getD l at 0) ≡ 16
-digit-past l at h = rw (List·getD-eq-default l 0 h) digit-zero
-
+-- by index, as the code has them
 pub digit-inside : (l : List ℕ) (at : ℕ) → digitOf (getD l at 0) < 16 → at < length l
 digit-inside l at h = go (decLt at (length l))
   where

@@ -2,9 +2,9 @@
 ghost use mathlib.Core.Path.{_≡_};
 ghost use mathlib.Core.List.{[], _∷_};
 ghost use Prim.Native.Nat.{_+_, _≤_, _<_, _^_};
-ghost use lib.ListN.{length, getD, drop};
+ghost use lib.ListN.{length, drop};
 ghost use Rattle.text.specs.Text.{hexMark};
-ghost use Rattle.text.specs.Digits.{digitOf, numberOf};
+ghost use Rattle.text.specs.Digits.{numberOf};
 ghost use Rattle.script.specs.Line.{digitsAt, isNumber, matched, registerForm, specialForm, stepForm, lineOf};
 ghost use Rattle.script.specs.Reading.{marks, resumed, found, Past};
 
@@ -193,7 +193,7 @@ fn digits_end(line: &[u8], at: usize) -> usize
     ensures { λ r. ⌜ r ≡ at + length (digitsAt (drop at (now (line .entry)))) ⌝ }
 {
     let mut end = at;
-    while digit_at(line, end) < 16 {
+    while text::read::digit_at(line, end) < 16 {
         end += 1;
     }
     end
@@ -214,7 +214,7 @@ fn is_number(line: &[u8], at: usize, end: usize) -> bool
     if n == 1 {
         return true;
     }
-    if digit_at(line, at) == 0 {
+    if text::read::digit_at(line, at) == 0 {
         return false;
     }
     true
@@ -228,17 +228,7 @@ fn value(line: &[u8], at: usize, end: usize) -> u64
 {
     let mut v: u64 = 0;
     for i in at..end {
-        v = v * 16 + digit_at(line, i);
+        v = v * 16 + text::read::digit_at(line, i);
     }
     v
-}
-
-// The digit at an index, 16 also past the end.
-fn digit_at(line: &[u8], at: usize) -> u64
-    ensures { λ r. ⌜ r ≡ digitOf (getD (now (line .entry)) at 0) ⌝ }
-{
-    if at < line.len() {
-        return text::read::digit(line[at]) as u64;
-    }
-    16
 }

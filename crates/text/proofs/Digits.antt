@@ -6,15 +6,19 @@ use Prim.Native.Nat.{ℕ, _+_, _*_, _^_, _<_, _≤_}
 use native.Mathlib.Omega.{arith}
 use native.Mathlib.Decide.{decLt}
 use native.Mathlib.Nat.{pow-succ', pow-le-pow-right, mul-assoc}
-use borrow.Author.Tests.{lt-ltb, le-ltb, le-leb, eqb-true}
-use lib.Dec.{ltb, eqb}
+use borrow.Author.Tests.{lt-ltb, le-ltb, le-leb, eqb-true, ltb-true}
+use lib.Dec.{leb, ltb, eqb}
 use lib.Arith.{digits-lt}
-use lib.ListN.{length}
+use lib.ListN.{length, getD, List·getD-eq-default}
 use Rattle.model.specs.Fill.{within}
 use Rattle.model.specs.Plan.{All}
-use Rattle.model.proofs.Bools.{each, at-each}
+use Rattle.model.proofs.Bools.{each, at-each, and-right, on}
 use Rattle.text.specs.Text.{glyph}
 use Rattle.text.specs.Digits.{digitOf, numberOf}
+
+within-is : (a b k : ℕ) → within a b k ≡ true → k < b
+unfolding within
+within-is a b k e = ltb-true k b (and-right (leb a k) _ e)
 
 abbrev pub Digits : List ℕ → Type 0
 Digits ds = All (λ (d : ℕ). d < 16) ds
@@ -24,6 +28,12 @@ Digits ds = All (λ (d : ℕ). d < 16) ds
 pub digit-glyph : (d : ℕ) → d < 16 → digitOf (glyph d) ≡ d
 unfolding each digitOf glyph within
 digit-glyph d l = eqb-true _ _ (at-each 16 (λ (k : ℕ). eqb (digitOf (glyph k)) k) refl d l)
+
+pub digit-most : (b : ℕ) → digitOf b ≤ 16
+unfolding digitOf
+digit-most b =
+    on (λ (d : ℕ). d ≤ 16) (within 48 58 b) (λ e. omega (arith, within-is 48 58 b e))
+    (λ e. on (λ (d : ℕ). d ≤ 16) (within 97 103 b) (λ f. omega (arith, within-is 97 103 b f)) (λ f. omega arith))
 
 -- a byte that is a digit is the glyph of that digit: computed up to 'f'
 abbrev kept : ℕ → Bool
@@ -40,9 +50,13 @@ kept-all b = go (decLt b 103)
 pub glyph-digit : (b : ℕ) → digitOf b < 16 → glyph (digitOf b) ≡ b
 glyph-digit b l = eqb-true _ _ (rw (lt-ltb (digitOf b) 16 l) at (kept-all b))
 
-pub digit-zero : digitOf 0 ≡ 16
+digit-zero : digitOf 0 ≡ 16
 unfolding digitOf within
 digit-zero = refl
+
+-- past the end of a list stands 0, which is no digit
+pub digit-past : (l : List ℕ) (at : ℕ) → length l ≤ at → digitOf (getD l at 0) ≡ 16
+digit-past l at h = rw (List·getD-eq-default l 0 h) digit-zero
 
 -- ---- the number of digits
 

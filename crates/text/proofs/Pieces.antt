@@ -1,14 +1,14 @@
 -- Laws of a text cut at its newlines: where a line ends, and the lines one by one.
-use mathlib.Core.Path.{_≡_, refl}
+use mathlib.Core.Path.{_≡_, refl, ap}
 use mathlib.Core.Bool.{Bool, true, false}
-use mathlib.Core.List.{List, [], _∷_}
-use Prim.Native.Nat.{ℕ, suc, _+_, _≤_, _<_}
+use mathlib.Core.List.{List, [], _∷_, _++_}
+use Prim.Native.Nat.{ℕ, zero, suc, _+_, _≤_, _<_}
 use native.Mathlib.Numerals.{add-one}
 use native.Mathlib.Omega.{arith}
 use lib.Dec.{eqb}
 use lib.ListN.{length, getD, take, drop, length-drop, drop-of-length-le}
 use lib.Seq.{drop-cons}
-use borrow.Author.Tests.{eq-eqb, ne-eqb}
+use borrow.Author.Tests.{eq-eqb, ne-eqb, eqb-true}
 use Rattle.model.proofs.Bools.{on}
 use Rattle.text.specs.Pieces.{atFirst, pieces, lineLength}
 
@@ -61,3 +61,28 @@ unfolding pieces lineLength
 pieces-last [] h = refl
 pieces-last (b ∷ l) h =
     either (eqb b 10) (λ e. absurd (omega (arith, rw e at h))) (λ e. let k : lineLength l ≡ length l = omega (arith, rw e at h) in rw (e, pieces-last l k))
+
+-- ---- a text that begins with what has no newline
+
+pub newline-there : (l : List ℕ) → lineLength l < length l → getD l (lineLength l) 0 ≡ 10
+unfolding lineLength
+newline-there [] h = absurd (omega arith)
+newline-there (b ∷ l) h =
+    either (eqb b 10) (λ e. rw e (eqb-true b 10 e)) (λ e. let k : lineLength l < length l = omega (arith, rw e at h) in rw e (newline-there l k))
+
+pub line-append : (h l : List ℕ) → lineLength h ≡ length h → lineLength (h ++ l) ≡ length h + lineLength l
+unfolding lineLength
+line-append [] l e = omega arith
+line-append (b ∷ h) l e =
+    either (eqb b 10) (λ t. absurd (omega (arith, rw t at e)))
+    (λ t. let k : lineLength h ≡ length h = omega (arith, rw t at e) in rw t (omega (arith, line-append h l k)))
+
+-- what stands before the first newline has none, nor has any front of it
+pub line-front : (l : List ℕ) (n : ℕ) → n ≤ lineLength l → lineLength (take n l) ≡ n
+unfolding lineLength
+line-front [] zero h = refl
+line-front [] (suc n) h = absurd (omega arith)
+line-front (b ∷ l) zero h = refl
+line-front (b ∷ l) (suc n) h =
+    either (eqb b 10) (λ t. absurd (omega (arith, rw t at h)))
+    (λ t. let k : n ≤ lineLength l = omega (arith, rw t at h) in rw t (ap suc (line-front l n k)))

@@ -19,7 +19,7 @@ use Rattle.text.specs.Writing.{Wrote, piece, marksOf, patternMost, putAt
 
 -- ---- a list written into
 
-written-one : (l : List ℕ) (o v : ℕ) → written l o (v ∷ []) ≡ set l o v
+pub written-one : (l : List ℕ) (o v : ℕ) → written l o (v ∷ []) ≡ set l o v
 unfolding written
 written-one [] o v = refl
 written-one (x ∷ xs) zero v = ap (λ (r : List ℕ). v ∷ r) (written-nil xs 0)

@@ -1,7 +1,7 @@
 // What both programs read: a hexadecimal digit, and where a line ends.
 ghost use mathlib.Core.Path.{_≡_};
 ghost use Prim.Native.Nat.{_+_};
-ghost use lib.ListN.{drop};
+ghost use lib.ListN.{getD, drop};
 ghost use Rattle.text.specs.Digits.{digitOf};
 ghost use Rattle.text.specs.Pieces.{lineLength};
 
@@ -16,6 +16,16 @@ pub fn digit(b: u8) -> u8
         b'a'..=b'f' => b - b'a' + 10,
         _ => 16,
     }
+}
+
+/// The digit at an index, 16 also past the end.
+pub fn digit_at(line: &[u8], at: usize) -> u64
+    ensures { λ r. ⌜ r ≡ digitOf (getD (now (line .entry)) at 0) ⌝ }
+{
+    if at < line.len() {
+        return digit(line[at]) as u64;
+    }
+    16
 }
 
 /// Where the line from `at` on ends: at its newline, or at the text's end where it has none.

@@ -1,9 +1,9 @@
 -- `digit_at` meets its contract: the digit at an index, and none past the end of the line.
 use mathlib.Core.Path.{sym}
 use borrow.Author.Needs.{needs}
-use Rattle.script.proofs.Digits.{digit-past}
-use Rattle.script.proofs.line.digit_at.Statement.{statement}
-use Rattle.script.proofs.line.digit_at.Tie as tie
+use Rattle.text.proofs.Digits.{digit-past}
+use Rattle.text.proofs.read.digit_at.Statement.{statement}
+use Rattle.text.proofs.read.digit_at.Tie as tie
 
 shared-slice-read-digit : tie.Need-shared-slice-read-digit
 shared-slice-read-digit c = search needs

@@ -1,0 +1,3 @@
+-- The theorems of this crate, and the laws of its definitions.
+pub mod Forms
+pub mod Held

@@ -1,0 +1,135 @@
+// A line held against the form of a point's line, in which '#' stands for a digit and any other byte for itself.
+ghost use mathlib.Core.Path.{_≡_};
+ghost use mathlib.Core.Bool.{true};
+ghost use mathlib.Core.List.{List, [], _∷_, _++_};
+ghost use Prim.Native.Nat.{ℕ, _≤_, _<_, _^_};
+ghost use lib.ListN.{replicate};
+ghost use Rattle.lines.specs.Line.{mark, fitsByte, hexAt, isForm, isPoint};
+ghost use Rattle.lines.specs.Met.{met};
+
+/// Digits of a state: two for each of the 2,328 bytes of its image.
+const STATE_DIGITS: usize = 2 * 2328;
+
+/// The largest window, in octabytes.
+const OCTAS_MAX: u64 = 8192;
+
+/// Digits of a window's length.
+const LENGTH_DIGITS: usize = 4;
+
+/// The longest line of a point, its newline left out: 88 bytes are neither a length's nor the state's nor a window's.
+pub const LONGEST_LINE: usize = 88 + 2 * LENGTH_DIGITS + STATE_DIGITS + 32 * OCTAS_MAX as usize;
+
+/// Whether a line, its newline left out, is a point's.
+pub fn is_point(line: &[u8]) -> bool
+    ensures { λ r. ⌜ r ≡ isPoint (now (line .entry)) ⌝ }
+{
+    is_form(line, LENGTH_DIGITS, STATE_DIGITS, OCTAS_MAX)
+}
+
+// Whether it is one with lengths of w digits, up to k octabytes each, and a state of d digits.
+fn is_form(line: &[u8], w: usize, d: usize, k: u64) -> bool
+    requires { ⌜ (w ≤ 8) × (k < 2 ^ 56) ⌝ }
+    ensures { λ r. ⌜ r ≡ isForm w d k (now (line .entry)) ⌝ }
+{
+    let a = hex(line, 23, w);
+    if k < a {
+        return false;
+    }
+    let b = hex(line, 24 + w, w);
+    if k < b {
+        return false;
+    }
+    let windows = 16 * (a + b) as usize;
+    let mut m = Met { good: true, at: 0 };
+    m = m.past(b"(point (name #) (octas ", line);
+    m = m.past_digits(w, line);
+    m = m.past(b" ", line);
+    m = m.past_digits(w, line);
+    m = m.past(b") (bases ################ ################) (state ", line);
+    m = m.past_digits(d, line);
+    m = m.past(b") (windows ", line);
+    m = m.past_digits(windows, line);
+    m = m.past(b"))", line);
+    m.ended(line)
+}
+
+// A line held against the front of a form.
+struct Met {
+    // The line has met all of it.
+    good: bool,
+    // Where in the line the rest starts.
+    at: usize,
+}
+
+impl Met {
+    // A part of the form further.
+    fn past(self, form: &[u8], line: &[u8]) -> Met
+        ensures { λ r. ⌜ ((p : List ℕ) → met p (now (line .entry)) r ≡ met (now (form .entry) ++ p) (now (line .entry)) self) ⌝ }
+    {
+        let mut m = self;
+        for i in 0..form.len() {
+            m = m.past_byte(form[i], line);
+        }
+        m
+    }
+
+    // n digits further.
+    fn past_digits(self, n: usize, line: &[u8]) -> Met
+        ensures { λ r. ⌜ ((p : List ℕ) → met p (now (line .entry)) r ≡ met (replicate n mark ++ p) (now (line .entry)) self) ⌝ }
+    {
+        let mut m = self;
+        for i in 0..n {
+            m = m.past_byte(b'#', line);
+        }
+        m
+    }
+
+    // One byte of the form further.
+    fn past_byte(mut self, c: u8, line: &[u8]) -> Met
+        ensures { λ r. ⌜ ((p : List ℕ) → met p (now (line .entry)) r ≡ met (c ∷ p) (now (line .entry)) self) ⌝ }
+    {
+        let at = self.at;
+        if at < line.len() {
+            if fits_byte(c, line[at]) {
+                self.at = at + 1;
+                return self;
+            }
+        }
+        self.good = false;
+        self
+    }
+
+    // The line ends where the form does.
+    fn ended(self, line: &[u8]) -> bool
+        ensures { λ r. ⌜ r ≡ met [] (now (line .entry)) self ⌝ }
+    {
+        let good = self.good;
+        let at = self.at;
+        if at < line.len() {
+            return false;
+        }
+        good
+    }
+}
+
+// Whether a byte is what a byte of a form says.
+fn fits_byte(c: u8, b: u8) -> bool
+    ensures { λ r. ⌜ r ≡ fitsByte c b ⌝ }
+{
+    if c == b'#' {
+        return text::read::digit(b) < 16;
+    }
+    b == c
+}
+
+// The number that n digits are.
+fn hex(line: &[u8], at: usize, n: usize) -> u64
+    requires { ⌜ (at < 2 ^ 32) × (n ≤ 8) ⌝ }
+    ensures { λ r. ⌜ r ≡ hexAt (now (line .entry)) at n ⌝ }
+{
+    let mut v: u64 = 0;
+    for i in 0..n {
+        v = v * 16 + text::read::digit_at(line, at + i);
+    }
+    v
+}

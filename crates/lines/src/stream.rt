@@ -1,0 +1,64 @@
+// A stream of lines: a chunk at a time, the line that has not yet ended held.
+ghost use mathlib.Core.Path.{_≡_};
+ghost use Prim.Native.Nat.{_+_, _-_, min};
+ghost use lib.ListN.{length, set};
+ghost use Rattle.model.specs.Octa.{written};
+ghost use Rattle.lines.specs.Stream.{turnOf, heldAfter};
+
+const NEWLINE: u8 = 10;
+
+/// Room for the longest line and its newline.
+pub const HELD_LEN: usize = super::line::LONGEST_LINE + 1;
+
+/// What a chunk brings to the line that is held.
+pub enum Turn {
+    /// It has no end yet: so many bytes are held.
+    More(usize),
+    /// It ends, and is a point's: so many bytes of the chunk are done with, and so many of those held, its newline too, are the line.
+    Good(usize, usize),
+    /// It ends, and is not.
+    Bad,
+}
+
+/// The chunk up to its first newline joins the line that is held, of which `held` has `count` bytes. A line that `held` has no room for is no point's.
+pub fn advance(chunk: &[u8], held: &mut [u8], count: usize) -> Turn
+    ensures { λ r. ⌜ (r ≡ turnOf (now (held .entry)) count (now (chunk .entry)))
+        × (now (held .exit) ≡ heldAfter (now (held .entry)) count (now (chunk .entry))) ⌝ }
+{
+    let end = text::read::line_end(chunk, 0);
+    let next = keep(&chunk[..end], held, count);
+    if end == chunk.len() {
+        return Turn::More(next);
+    }
+    if next < held.len() {
+        if super::line::is_point(&held[..next]) {
+            held[next] = NEWLINE;
+            return Turn::Good(end + 1, next + 1);
+        }
+    }
+    Turn::Bad
+}
+
+// Bytes join those held, as many as there is room for; how many there are then.
+fn keep(more: &[u8], held: &mut [u8], count: usize) -> usize
+    ensures { λ r. ⌜ (now (held .exit) ≡ written (now (held .entry)) count (now (more .entry)))
+        × (r ≡ count + min (length (now (more .entry))) (length (now (held .entry)) - count)) ⌝ }
+{
+    let mut n = count;
+    for i in 0..more.len() {
+        n = hold(held, n, more[i]);
+    }
+    n
+}
+
+// A byte joins those held, where there is room for it.
+fn hold(held: &mut [u8], n: usize, b: u8) -> usize
+    ensures { λ r. ⌜ (now (held .exit) ≡ set (now (held .entry)) n b)
+        × (r ≡ n + min 1 (length (now (held .entry)) - n)) ⌝ }
+{
+    if n < held.len() {
+        held[n] = b;
+        return n + 1;
+    }
+    n
+}

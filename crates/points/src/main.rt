@@ -1,0 +1,100 @@
+//! The program points: lines of points on standard input, each anew on standard output; a line that is no point's is told by `(bad N)`, and ends
+//! it. A read or a write that fails is told on standard error.
+
+use libc::STDIN_FILENO;
+use libc::STDOUT_FILENO;
+use lines::stream::HELD_LEN;
+use lines::stream::Turn;
+
+/// So many times the input is read at most, so that the program is seen to end.
+const READS: u64 = 0x800000000000;
+
+fn held_buffer() -> [u8; HELD_LEN] {
+    [0; HELD_LEN]
+}
+
+/// What a chunk leaves: so many bytes held of the line of this number, or that line bad, or a write that failed.
+enum After {
+    On(usize, u64),
+    Bad(u64),
+    Failed,
+}
+
+/// The lines that end in a chunk are printed. Line n is the first, of which `first` bytes are held.
+fn print_lines(chunk: &[u8], held: &mut [u8], first: usize, n: u64) -> After {
+    let mut at: usize = 0;
+    let mut count = first;
+    let mut number = n;
+    while at < chunk.len() {
+        let turn = lines::stream::advance(&chunk[at..], held, count);
+        match turn {
+            Turn::More(more) => {
+                return After::On(more, number);
+            }
+            Turn::Good(used, shown) => {
+                if !io::write_all(STDOUT_FILENO, &held[..shown]) {
+                    return After::Failed;
+                }
+                at += used;
+                count = 0;
+                number += 1;
+            }
+            Turn::Bad => {
+                return After::Bad(number);
+            }
+        }
+    }
+    After::On(count, number)
+}
+
+/// Line n is bad.
+fn print_bad(n: u64) {
+    let mut out = [0u8; 32];
+    let end = text::write::put_bad(&mut out, 0, n);
+    if !io::write_all(STDOUT_FILENO, &out[..end]) {
+        os::fail(b"standard output");
+    }
+}
+
+/// The input is read until it ends or a line is bad.
+fn run(input: &mut [u8], held: &mut [u8]) {
+    let mut reads: u64 = READS;
+    let mut count: usize = 0;
+    let mut number: u64 = 1;
+    while reads > 0 {
+        reads -= 1;
+        let got = libc::read(STDIN_FILENO, input);
+        if got < 0 {
+            os::fail(b"standard input");
+            return;
+        }
+        let n = io::count(got, input);
+        if n == 0 {
+            if count > 0 {
+                print_bad(number);
+            }
+            return;
+        }
+        let after = print_lines(&input[..n], held, count, number);
+        match after {
+            After::On(more, next) => {
+                count = more;
+                number = next;
+            }
+            After::Bad(bad) => {
+                print_bad(bad);
+                return;
+            }
+            After::Failed => {
+                os::fail(b"standard output");
+                return;
+            }
+        }
+    }
+}
+
+fn main() {
+    let mut input = io::large_buffer();
+    let mut held = held_buffer();
+    run(&mut input, &mut held);
+}
