@@ -161,7 +161,11 @@ module _ (w d m : ℕ) where
         length-replicate {A = ℕ} w mark,
         length-replicate {A = ℕ} d mark,
         length-replicate {A = ℕ} (16 * m) mark,
-        length-head, length-space, length-bases, length-middle, length-close,
+        length-head,
+        length-space,
+        length-bases,
+        length-middle,
+        length-close,
       )
 
 -- ---- numbers

@@ -1,3 +1,4 @@
 -- The theorems of this crate, and the laws of its definitions.
 pub mod Forms
 pub mod Held
+pub mod Turns

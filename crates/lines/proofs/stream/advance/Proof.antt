@@ -1,79 +1,101 @@
+-- `advance` meets its contract: its tests are those by which a turn is defined.
+use mathlib.Core.Path.{_≡_, sym, _∙_}
+use Prim.Native.Nat.{_≤_}
+use native.Mathlib.Omega.{arith}
+use lib.ListN.{length}
+use lib.Seq.{length-take-le}
 use borrow.Author.Needs.{needs}
+use Rattle.text.specs.Pieces.{lineLength}
+use Rattle.text.proofs.Pieces.{length-line}
+use Rattle.lines.proofs.Turns.{turn-more, turn-good, turn-bad, turn-full}
 use Rattle.lines.proofs.stream.advance.Statement.{statement}
 use Rattle.lines.proofs.stream.advance.Tie as tie
-use Rattle.lines.proofs.stream.advance.Reads as reads
-use Rattle.lines.proofs.stream.advance.Lts as lts
-use Rattle.lines.proofs.line.is_point.Reads as is-point-reads
-use Rattle.lines.proofs.stream.keep.Reads as keep-reads
-use Rattle.text.proofs.read.line_end.Reads as line-end-reads
 
--- src/stream.rt:28:9
+ending : (c : tie.After-line-end) → c .line-end .result ≡ lineLength (c .before .before .before .args .chunk .now)
+ending c = omega (arith, c .line-end .ensures)
+
+within : (c : tie.After-line-end) → c .line-end .result ≤ length (c .before .before .before .args .chunk .now)
+within c = omega (arith, ending c, length-line (c .before .before .before .args .chunk .now))
+
 line-end-requires : tie.Need-line-end-requires
 line-end-requires c κs = search needs
 
--- src/stream.rt:29:21
 slice-aggregate-keep : tie.Need-slice-aggregate-keep
-slice-aggregate-keep c = ?
+slice-aggregate-keep c =
+    let a = c .before .before .before .before .args in
+    sym (length-take-le (c .before .line-end .result) (a .chunk .now) (within (c .before)))
 
--- src/stream.rt:29:9
 keep-requires : tie.Need-keep-requires
 keep-requires c κs = search needs
 
--- src/stream.rt:31:9
 same-length : tie.Need-same-length
 same-length c = search needs
 
--- src/stream.rt:31:9
 returns : tie.Need-returns
-returns c = ?
+returns c =
+    let keeping = c .before .before .before in
+    let finding = keeping .before .before .before in
+    let a = finding .before .before .before .args in
+    turn-more (a .held .now) (a .count) (a .chunk .now) _ _ _ (ending finding) (keeping .keep .ensures .0) (keeping .keep .ensures .1) (c .if1 .taken)
 
--- src/stream.rt:34:34
 slice-reshare-prefix-is-point : tie.Need-slice-reshare-prefix-is-point
 slice-reshare-prefix-is-point c = search needs
 
--- src/stream.rt:34:34
 slice-aggregate-is-point : tie.Need-slice-aggregate-is-point
-slice-aggregate-is-point c = ?
+slice-aggregate-is-point c =
+    let keeping = c .before .before .before .before .before in
+    sym (length-take-le (keeping .keep .result) (keeping .keep .last .1 .0) (omega arith))
 
--- src/stream.rt:34:12
 is-point-requires : tie.Need-is-point-requires
 is-point-requires c κs = search needs
 
--- src/stream.rt:35:13
 slice-write-held : tie.Need-slice-write-held
 slice-write-held c = search needs
 
--- src/stream.rt:36:31
 add-t16 : tie.Need-add-t16
-add-t16 c = ?
+add-t16 c =
+    let fresh = c .before .before .before .before in
+    omega (arith, within (fresh .before .before .before .before .before .before), fresh .if1 .left)
 
--- src/stream.rt:36:40
 add-t17 : tie.Need-add-t17
 add-t17 c = search needs
 
--- src/stream.rt:36:13
 same-length-2 : tie.Need-same-length-2
 same-length-2 c = search needs
 
--- src/stream.rt:36:13
 returns-2 : tie.Need-returns-2
-returns-2 c = ?
+returns-2 c =
+    let judging = c .before in
+    let here = judging .before .before in
+    let fresh = here .before in
+    let keeping = fresh .before .before .before in
+    let finding = keeping .before .before .before in
+    let a = finding .before .before .before .args in
+    turn-good (a .held .now) (a .count) (a .chunk .now) _ _ _ (ending finding) (keeping .keep .ensures .0) (keeping .keep .ensures .1) (fresh .if1 .left) (here .if2 .taken) (sym (judging .is-point .ensures) ∙ c .if3 .taken)
 
--- src/stream.rt:24:1
 same-length-3 : tie.Need-same-length-3
 same-length-3 c = search needs
 
--- src/stream.rt:24:1
 returns-3 : tie.Need-returns-3
-returns-3 c = ?
+returns-3 c =
+    let judging = c .before in
+    let here = judging .before .before in
+    let fresh = here .before in
+    let keeping = fresh .before .before .before in
+    let finding = keeping .before .before .before in
+    let a = finding .before .before .before .args in
+    turn-bad (a .held .now) (a .count) (a .chunk .now) _ _ _ (ending finding) (keeping .keep .ensures .0) (keeping .keep .ensures .1) (fresh .if1 .left) (here .if2 .taken) (sym (judging .is-point .ensures) ∙ c .if3 .left)
 
--- src/stream.rt:24:1
 same-length-4 : tie.Need-same-length-4
 same-length-4 c = search needs
 
--- src/stream.rt:24:1
 returns-4 : tie.Need-returns-4
-returns-4 c = ?
+returns-4 c =
+    let fresh = c .before in
+    let keeping = fresh .before .before .before in
+    let finding = keeping .before .before .before in
+    let a = finding .before .before .before .args in
+    turn-full (a .held .now) (a .count) (a .chunk .now) _ _ _ (ending finding) (keeping .keep .ensures .0) (keeping .keep .ensures .1) (fresh .if1 .left) (c .if2 .left)
 
 pub advance-spec : {M : Type 1} → statement M
 advance-spec =
