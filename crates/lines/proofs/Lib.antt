@@ -2,3 +2,4 @@
 pub mod Forms
 pub mod Held
 pub mod Turns
+pub mod Splits
