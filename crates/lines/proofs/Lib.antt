@@ -3,3 +3,4 @@ pub mod Forms
 pub mod Held
 pub mod Turns
 pub mod Splits
+pub mod Marks

@@ -1,0 +1,300 @@
+-- Laws of the digits at a form's marks: a line of a form is the form with its digits in it, and the digits of a point's line stand in seven places.
+use mathlib.Core.Path.{_≡_, refl, sym, ap, _∙_}
+use mathlib.Core.Bool.{Bool, true, false, cond, _&&_}
+use mathlib.Core.List.{List, [], _∷_, _++_, append-nil}
+use Prim.Native.Nat.{ℕ, zero, suc, _+_, _*_, _<_}
+use native.Mathlib.Omega.{arith}
+use native.Mathlib.Numerals.{add-one}
+use borrow.Author.Tests.{lt-ltb, eq-eqb, ltb-true, eqb-true}
+use lib.Dec.{ltb, eqb}
+use lib.ListN.{length, getD, drop, length-append, length-replicate}
+use lib.Seq.{drop-drop, getD-drop}
+use Rattle.model.specs.Plan.{All}
+use Rattle.model.proofs.Bools.{and-left, and-right}
+use Rattle.text.specs.Codes.{codes}
+use Rattle.text.specs.Text.{glyph}
+use Rattle.text.specs.Digits.{digitOf}
+use Rattle.text.proofs.Digits.{Digits, digit-glyph, glyph-digit}
+use Rattle.text.proofs.Pieces.{either}
+use Rattle.lines.specs.Line.{mark, fitsByte, fits, head, bases, middle, close, marks, pointForm, digitsAt}
+use Rattle.lines.specs.PointLine.{inForm}
+use Rattle.lines.proofs.Forms.{length-space, length-middle}
+
+-- the digits of a line at a form's marks
+unfoldable pub digitsIn : List ℕ → List ℕ → List ℕ
+digitsIn [] l = []
+digitsIn (c ∷ p) l = cond (eqb c mark) (digitOf (getD l 0 0) ∷ digitsIn p (drop 1 l)) (digitsIn p (drop 1 l))
+
+-- how many marks a form has
+unfoldable pub marksIn : List ℕ → ℕ
+marksIn [] = 0
+marksIn (c ∷ p) = cond (eqb c mark) (suc (marksIn p)) (marksIn p)
+
+-- ---- a line of a form, and its digits
+
+fits-byte : (c b : ℕ) (p l : List ℕ) → fits (c ∷ p) (b ∷ l) ≡ true → fitsByte c b ≡ true
+unfolding fits
+fits-byte c b p l e = and-left (fitsByte c b) _ e
+
+fits-rest : (c b : ℕ) (p l : List ℕ) → fits (c ∷ p) (b ∷ l) ≡ true → fits p l ≡ true
+unfolding fits
+fits-rest c b p l e = and-right (fitsByte c b) _ e
+
+digit-here : (c b : ℕ) → eqb c mark ≡ true → fitsByte c b ≡ true → digitOf b < 16
+unfolding fitsByte
+digit-here c b t e = ltb-true _ _ (rw t at e)
+
+byte-here : (c b : ℕ) → eqb c mark ≡ false → fitsByte c b ≡ true → b ≡ c
+unfolding fitsByte
+byte-here c b t e = eqb-true _ _ (rw t at e)
+
+pub line-again : (p l : List ℕ) → fits p l ≡ true → inForm p (digitsIn p l) ≡ l
+unfolding inForm digitsIn fits
+line-again [] [] e = refl
+line-again [] (b ∷ l) e = cc
+line-again (c ∷ p) [] e = cc
+line-again (c ∷ p) (b ∷ l) e =
+    let r : inForm p (digitsIn p l) ≡ l = line-again p l (fits-rest c b p l e) in
+    either (eqb c mark)
+    (λ t. rw (t, glyph-digit b (digit-here c b t (fits-byte c b p l e)), r))
+    (λ t. rw (t, byte-here c b t (fits-byte c b p l e), r))
+
+pub digits-small : (p l : List ℕ) → fits p l ≡ true → Digits (digitsIn p l)
+unfolding digitsIn All fits
+digits-small [] l e = tt
+digits-small (c ∷ p) [] e = let z : _≡_ {A = ℕ} 0 1 = cc in absurd (omega arith)
+digits-small (c ∷ p) (b ∷ l) e =
+    let r : Digits (digitsIn p l) = digits-small p l (fits-rest c b p l e) in
+    either (eqb c mark)
+    (λ t. rw t (digit-here c b t (fits-byte c b p l e), r))
+    (λ t. rw t r)
+
+-- digits put into a form are there
+
+module _ (d : ℕ) (ds : List ℕ) (p : List ℕ) where
+  mark-in : (c : ℕ) → eqb c mark ≡ true → inForm (c ∷ p) (d ∷ ds) ≡ glyph d ∷ inForm p ds
+  unfolding inForm
+  mark-in c t = rw t
+
+plain-in : (c : ℕ) (p ds : List ℕ) → eqb c mark ≡ false → inForm (c ∷ p) ds ≡ c ∷ inForm p ds
+unfolding inForm
+plain-in c p ds t = rw t
+
+fits-mark : (c d : ℕ) (p l : List ℕ) → eqb c mark ≡ true → d < 16 → fits (c ∷ p) (glyph d ∷ l) ≡ fits p l
+unfolding fits fitsByte
+fits-mark c d p l t h = let g : digitOf (glyph d) ≡ d = digit-glyph d h in rw (t, g, lt-ltb d 16 h)
+
+fits-plain : (c : ℕ) (p l : List ℕ) → eqb c mark ≡ false → fits (c ∷ p) (c ∷ l) ≡ fits p l
+unfolding fits fitsByte
+fits-plain c p l t = rw (t, eq-eqb c c refl)
+
+nothing : (ds : List ℕ) → fits [] (inForm [] ds) ≡ true
+unfolding fits inForm
+nothing ds = refl
+
+pub form-fits : (p ds : List ℕ) → Digits ds → length ds ≡ marksIn p → fits p (inForm p ds) ≡ true
+unfolding marksIn All
+form-fits [] ds a n = nothing ds
+form-fits (c ∷ p) [] a n = either (eqb c mark) (λ t. absurd (omega (arith, rw t at n))) (λ t. rw (plain-in c p [] t, fits-plain c p (inForm p []) t) (form-fits p [] a (rw t at n)))
+form-fits (c ∷ p) (d ∷ ds) a n =
+    either (eqb c mark)
+    (λ t. let m : length ds ≡ marksIn p = omega (arith, rw t at n) in rw (mark-in d ds p c t, fits-mark c d p (inForm p ds) t (a .0)) (form-fits p ds (a .1) m))
+    (λ t. rw (plain-in c p (d ∷ ds) t, fits-plain c p (inForm p (d ∷ ds)) t) (form-fits p (d ∷ ds) a (rw t at n)))
+
+pub digits-again : (p ds : List ℕ) → Digits ds → length ds ≡ marksIn p → digitsIn p (inForm p ds) ≡ ds
+unfolding marksIn All digitsIn
+digits-again [] [] a n = refl
+digits-again [] (d ∷ ds) a n = absurd (omega arith)
+digits-again (c ∷ p) [] a n = either (eqb c mark) (λ t. absurd (omega (arith, rw t at n))) (λ t. rw (plain-in c p [] t, t) (digits-again p [] a (rw t at n)))
+digits-again (c ∷ p) (d ∷ ds) a n =
+    either (eqb c mark)
+    (λ t.
+    let m : length ds ≡ marksIn p = omega (arith, rw t at n) in
+    let g : digitOf (glyph d) ≡ d = digit-glyph d (a .0) in
+    rw (mark-in d ds p c t, t, g, digits-again p ds (a .1) m))
+    (λ t. rw (plain-in c p (d ∷ ds) t, t) (digits-again p (d ∷ ds) a (rw t at n)))
+
+-- ---- one part after another
+
+pub marks-append : (p q : List ℕ) → marksIn (p ++ q) ≡ marksIn p + marksIn q
+unfolding marksIn
+marks-append [] q = omega arith
+marks-append (c ∷ p) q = either (eqb c mark) (λ t. rw t (omega (arith, marks-append p q))) (λ t. rw t (marks-append p q))
+
+pub marks-marks : (n : ℕ) → marksIn (marks n) ≡ n
+unfolding marksIn
+marks-marks zero = refl
+marks-marks (suc n) = ap suc (marks-marks n)
+
+digits-append : (p q l : List ℕ) → digitsIn (p ++ q) l ≡ digitsIn p l ++ digitsIn q (drop (length p) l)
+unfolding digitsIn
+digits-append [] q l = refl
+digits-append (c ∷ p) q l =
+    let e : 1 + length p ≡ suc (length p) = omega arith in
+    let r : digitsIn (p ++ q) (drop 1 l) ≡ digitsIn p (drop 1 l) ++ digitsIn q (drop (suc (length p)) l)
+    = digits-append p q (drop 1 l) ∙ ap (λ (k : List ℕ). digitsIn p (drop 1 l) ++ digitsIn q k) (drop-drop (length p) 1 l ∙ ap (λ (k : ℕ). drop k l) e) in
+    either (eqb c mark) (λ t. rw (t, r)) (λ t. rw (t, r))
+
+digits-marks : (n : ℕ) (l : List ℕ) (o : ℕ) → digitsIn (marks n) (drop o l) ≡ digitsAt l o n
+unfolding digitsIn digitsAt
+digits-marks zero l o = refl
+digits-marks (suc n) l o =
+    let e : getD (drop o l) 0 0 ≡ getD l o 0 = getD-drop o l 0 0 ∙ ap (λ (k : ℕ). getD l k 0) (omega arith) in
+    let f : drop 1 (drop o l) ≡ drop (suc o) l = drop-drop 1 o l ∙ ap (λ (k : ℕ). drop k l) (add-one o) in
+    rw (e, f, digits-marks n l (suc o))
+
+-- bytes that are no marks, then n digits
+after-plain : (s : List ℕ) → ((l : List ℕ) → digitsIn s l ≡ []) → (n : ℕ) (q l : List ℕ) (o m r : ℕ) → o + length s ≡ m → m + n ≡ r
+    → digitsIn (s ++ (marks n ++ q)) (drop o l) ≡ digitsAt l m n ++ digitsIn q (drop r l)
+after-plain s none n q l o m r e f =
+    digits-append s (marks n ++ q) (drop o l)
+    ∙ ap (λ (k : List ℕ). k ++ digitsIn (marks n ++ q) (drop (length s) (drop o l))) (none (drop o l))
+    ∙ ap (digitsIn (marks n ++ q)) (drop-drop (length s) o l ∙ ap (λ (k : ℕ). drop k l) e)
+    ∙ digits-append (marks n) q (drop m l)
+    ∙ ap (λ (k : List ℕ). k ++ digitsIn q (drop (length (marks n)) (drop m l))) (digits-marks n l m)
+    ∙ ap (λ (k : List ℕ). digitsAt l m n ++ digitsIn q k) (drop-drop (length (marks n)) m l ∙ ap (λ (k : ℕ). drop k l) (ap (λ (k : ℕ). m + k) (length-replicate {A = ℕ} n mark) ∙ f))
+
+-- ---- a point's line
+
+-- what stands between its digits
+module _ (l : List ℕ) where
+  none-name : digitsIn (codes "(point (name ") l ≡ []
+  unfolding digitsIn codes
+  none-name = refl
+
+  none-octas : digitsIn (codes ") (octas ") l ≡ []
+  unfolding digitsIn codes
+  none-octas = refl
+
+  none-space : digitsIn (codes " ") l ≡ []
+  unfolding digitsIn codes
+  none-space = refl
+
+  none-bases : digitsIn (codes ") (bases ") l ≡ []
+  unfolding digitsIn codes
+  none-bases = refl
+
+  none-state : digitsIn (codes ") (state ") l ≡ []
+  unfolding digitsIn codes
+  none-state = refl
+
+  none-windows : digitsIn middle l ≡ []
+  unfolding digitsIn middle codes
+  none-windows = refl
+
+  none-close : digitsIn close l ≡ []
+  unfolding digitsIn close codes
+  none-close = refl
+
+length-name : length (codes "(point (name ") ≡ 13
+unfolding codes
+length-name = refl
+
+length-octas : length (codes ") (octas ") ≡ 9
+unfolding codes
+length-octas = refl
+
+length-bases : length (codes ") (bases ") ≡ 9
+unfolding codes
+length-bases = refl
+
+length-state : length (codes ") (state ") ≡ 9
+unfolding codes
+length-state = refl
+
+plain-name : marksIn (codes "(point (name ") ≡ 0
+unfolding marksIn codes
+plain-name = refl
+
+plain-octas : marksIn (codes ") (octas ") ≡ 0
+unfolding marksIn codes
+plain-octas = refl
+
+plain-space : marksIn (codes " ") ≡ 0
+unfolding marksIn codes
+plain-space = refl
+
+plain-bases : marksIn (codes ") (bases ") ≡ 0
+unfolding marksIn codes
+plain-bases = refl
+
+plain-state : marksIn (codes ") (state ") ≡ 0
+unfolding marksIn codes
+plain-state = refl
+
+plain-windows : marksIn middle ≡ 0
+unfolding marksIn middle codes
+plain-windows = refl
+
+plain-close : marksIn close ≡ 0
+unfolding marksIn close codes
+plain-close = refl
+
+module _ (w d m : ℕ) where
+  abbrev from-windows : List ℕ
+  from-windows = middle ++ (marks (16 * m) ++ close)
+
+  abbrev from-state : List ℕ
+  from-state = codes ") (state " ++ (marks d ++ from-windows)
+
+  abbrev from-base : List ℕ
+  from-base = codes " " ++ (marks 16 ++ from-state)
+
+  abbrev from-bases : List ℕ
+  from-bases = codes ") (bases " ++ (marks 16 ++ from-base)
+
+  abbrev from-length : List ℕ
+  from-length = codes " " ++ (marks w ++ from-bases)
+
+  abbrev from-octas : List ℕ
+  from-octas = codes ") (octas " ++ (marks w ++ from-length)
+
+  by-digits : pointForm w d m ≡ codes "(point (name " ++ (marks 1 ++ from-octas)
+  unfolding pointForm head bases codes
+  by-digits = refl
+
+  pub form-digits : (l : List ℕ) → digitsIn (pointForm w d m) l
+      ≡ digitsAt l 13 1 ++ (digitsAt l 23 w ++ (digitsAt l (24 + w) w ++ (digitsAt l (33 + 2 * w) 16 ++ (digitsAt l (50 + 2 * w) 16
+      ++ (digitsAt l (75 + 2 * w) d ++ digitsAt l (86 + 2 * w + d) (16 * m))))))
+  form-digits l =
+      ap (λ (p : List ℕ). digitsIn p l) by-digits
+      ∙ after-plain (codes "(point (name ") none-name 1 from-octas l 0 13 14 (omega (arith, length-name)) refl
+      ∙ ap (λ (k : List ℕ). digitsAt l 13 1 ++ k) (after-plain (codes ") (octas ") none-octas w from-length l 14 23 (23 + w) (omega (arith, length-octas)) refl
+      ∙ ap (λ (k : List ℕ). digitsAt l 23 w ++ k) (after-plain (codes " ") none-space w from-bases l (23 + w) (24 + w) (24 + 2 * w) (omega (arith, length-space)) (omega arith)
+      ∙ ap (λ (k : List ℕ). digitsAt l (24 + w) w ++ k) (after-plain (codes ") (bases ") none-bases 16 from-base l (24 + 2 * w) (33 + 2 * w) (49 + 2 * w) (omega (arith, length-bases)) (omega arith)
+      ∙ ap (λ (k : List ℕ). digitsAt l (33 + 2 * w) 16 ++ k) (after-plain (codes " ") none-space 16 from-state l (49 + 2 * w) (50 + 2 * w) (66 + 2 * w) (omega (arith, length-space)) (omega arith)
+      ∙ ap (λ (k : List ℕ). digitsAt l (50 + 2 * w) 16 ++ k) (after-plain (codes ") (state ") none-state d from-windows l (66 + 2 * w) (75 + 2 * w) (75 + 2 * w + d) (omega (arith, length-state)) refl
+      ∙ ap (λ (k : List ℕ). digitsAt l (75 + 2 * w) d ++ k) (after-plain middle none-windows (16 * m) close l (75 + 2 * w + d) (86 + 2 * w + d) (86 + 2 * w + d + 16 * m) (omega (arith, length-middle)) refl
+      ∙ ap (λ (k : List ℕ). digitsAt l (86 + 2 * w + d) (16 * m) ++ k) (none-close (drop (86 + 2 * w + d + 16 * m) l)) ∙ append-nil (digitsAt l (86 + 2 * w + d) (16 * m))))))))
+
+  pub form-marks : marksIn (pointForm w d m) ≡ 33 + 2 * w + d + 16 * m
+  form-marks = omega (
+    arith,
+    ap marksIn by-digits,
+    marks-append (codes "(point (name ") (marks 1 ++ from-octas),
+    plain-name,
+    marks-append (marks 1) from-octas,
+    marks-marks 1,
+    marks-append (codes ") (octas ") (marks w ++ from-length),
+    plain-octas,
+    marks-append (marks w) from-length,
+    marks-marks w,
+    marks-append (codes " ") (marks w ++ from-bases),
+    plain-space,
+    marks-append (marks w) from-bases,
+    marks-append (codes ") (bases ") (marks 16 ++ from-base),
+    plain-bases,
+    marks-append (marks 16) from-base,
+    marks-marks 16,
+    marks-append (codes " ") (marks 16 ++ from-state),
+    marks-append (marks 16) from-state,
+    marks-append (codes ") (state ") (marks d ++ from-windows),
+    plain-state,
+    marks-append (marks d) from-windows,
+    marks-marks d,
+    marks-append middle (marks (16 * m) ++ close),
+    plain-windows,
+    marks-append (marks (16 * m)) close,
+    marks-marks (16 * m),
+    plain-close,
+  )
