@@ -4,3 +4,5 @@ pub mod Held
 pub mod Turns
 pub mod Splits
 pub mod Marks
+pub mod Hex
+pub mod PointLines
