@@ -4,18 +4,16 @@ use mathlib.Core.Bool.{Bool, true, false, cond, _&&_}
 use mathlib.Core.List.{List, [], _∷_, _++_, append-nil}
 use Prim.Native.Nat.{ℕ, zero, suc, _+_, _-_, _*_, _^_, _≤_, _<_}
 use native.Mathlib.Omega.{arith}
-use native.Mathlib.Decide.{decLt}
 use native.Mathlib.Numerals.{add-one}
 use borrow.Author.Tests.{lt-leb, le-leb}
 use lib.Pow.{pow-add, pow-mono}
-use lib.Dec.{leb, ltb, eqb}
-use lib.ListN.{length, getD, drop, replicate, length-append, length-replicate, drop-of-length-le}
+use lib.ListN.{length, getD, drop, length-append, length-replicate, drop-of-length-le}
 use lib.Seq.{drop-cons}
-use Rattle.model.proofs.Bools.{and-left, and-right}
+use Rattle.model.proofs.Bools.{and-right}
 use Rattle.text.specs.Codes.{codes}
 use Rattle.text.specs.Digits.{digitOf, numberOf}
 use Rattle.text.proofs.Digits.{digit-most}
-use Rattle.lines.specs.Line.{mark, fitsByte, fits, head, bases, middle, close, marks, pointForm, digitsAt, hexAt, octasA, octasB, isForm, isPoint, octasMax, stateDigits, lengthDigits, longestLine}
+use Rattle.lines.specs.Line.{mark, fitsByte, fits, head, bases, middle, close, marks, pointForm, digitsAt, hexAt, octasA, octasB, isForm}
 use Rattle.lines.specs.Met.{met}
 use Rattle.lines.specs.declared.line.Met.{Met}
 

@@ -6,7 +6,7 @@ use native.Mathlib.Omega.{arith}
 use native.Mathlib.Decide.{decLt}
 use native.Mathlib.Numerals.{add-one}
 use native.Mathlib.Nat.{zero-add, suc-add}
-use lib.ListN.{length, getD, take, drop, set}
+use lib.ListN.{length, getD, take, set}
 use lib.Seq.{set-out, take-suc, take-all, length-take-le}
 use Rattle.model.specs.Octa.{written}
 use Rattle.model.proofs.Octa.{length-written, written-nil}

@@ -1,7 +1,7 @@
 -- Laws of numbers and bytes as digits: each from the other, both ways; and a run of a line's digits in two parts.
 use mathlib.Core.Path.{_≡_, refl, sym, ap, _∙_}
 use mathlib.Core.List.{List, [], _∷_, _++_, append-assoc, append-nil}
-use Prim.Native.Nat.{ℕ, zero, suc, _+_, _*_, _/_, _%_, _^_, _≤_, _<_}
+use Prim.Native.Nat.{ℕ, zero, suc, _+_, _*_, _/_, _%_, _^_, _<_}
 use native.Mathlib.Omega.{arith}
 use native.Mathlib.Nat.{pow-succ', zero-add, add-suc, suc-add, add-zero}
 use lib.Arith.{digits-div, digits-mod}

@@ -4,5 +4,7 @@ pub mod Held
 pub mod Turns
 pub mod Splits
 pub mod Marks
+pub mod LineMarks
 pub mod Hex
-pub mod PointLines
+pub mod LinePoint
+pub mod PointLine

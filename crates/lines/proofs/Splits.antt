@@ -1,15 +1,15 @@
 -- What is printed, line by line, and the theorem that turns print it however the text is split.
-use mathlib.Core.Path.{_≡_, refl, sym, ap, subst, _∙_}
+use mathlib.Core.Path.{_≡_, refl, sym, ap, _∙_}
 use mathlib.Core.Logic.{⊎-elim, _⊎_, inl, inr}
-use mathlib.Core.Bool.{Bool, true, false, cond}
+use mathlib.Core.Bool.{true, false, cond}
 use mathlib.Core.List.{List, [], _∷_, _++_, append-assoc}
 use Prim.Native.Nat.{ℕ, suc, _+_, _-_, _*_, _≤_, _<_, min}
 use native.Mathlib.Omega.{arith}
 use native.Mathlib.Decide.{decLt, decLe}
 use native.Mathlib.Numerals.{add-one}
-use borrow.Author.Tests.{ne-eqb, leb-true, eqb-true}
-use lib.Dec.{leb, eqb}
-use lib.ListN.{length, getD, take, drop, length-append}
+use borrow.Author.Tests.{ne-eqb, leb-true}
+use lib.Dec.{leb}
+use lib.ListN.{length, take, drop, length-append}
 use lib.Seq.{split-at, take-suc, take-all, take-at, drop-at, length-take-le, append-snoc}
 use Rattle.model.specs.Octa.{written}
 use Rattle.model.proofs.Octa.{length-written}
@@ -18,7 +18,7 @@ use Rattle.model.proofs.Bools.{and-left, and-right}
 use Rattle.text.specs.Text.{badText}
 use Rattle.text.specs.Pieces.{pieces, lineLength}
 use Rattle.text.proofs.Pieces.{length-line, newline-there, line-append, line-front, pieces-some, pieces-line, pieces-last}
-use Rattle.lines.specs.Line.{fits, pointForm, octasA, octasB, isForm, isPoint, lengthDigits, stateDigits, octasMax, longestLine}
+use Rattle.lines.specs.Line.{pointForm, octasA, octasB, isForm, isPoint, lengthDigits, stateDigits, octasMax, longestLine}
 use Rattle.lines.specs.Stream.{newline, printedLines, printedFrom, isGood, turnOf, heldAfter, Unended, Tells, AnySplit, LineByLine}
 use Rattle.lines.specs.declared.stream.Turn.{Turn}
 use Rattle.lines.proofs.Forms.{length-fits, length-form}

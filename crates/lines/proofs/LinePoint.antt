@@ -1,0 +1,199 @@
+-- A line is the line of its point: the digits at its form's marks are those of its point, part by part.
+use mathlib.Core.Path.{_≡_, sym, ap, _∙_}
+use mathlib.Core.Bool.{true}
+use mathlib.Core.List.{List, [], _∷_, _++_}
+use Prim.Native.Nat.{ℕ, _+_, _*_, _≤_, _<_}
+use native.Mathlib.Omega.{arith}
+use borrow.Author.Tests.{leb-true}
+use lib.Dec.{leb}
+use lib.ListN.{length}
+use Rattle.model.specs.Plan.{All}
+use Rattle.model.specs.Kept.{imageLength, octasOf}
+use Rattle.model.proofs.Bools.{and-left, and-right}
+use Rattle.model.proofs.Plan.{All-left, All-right}
+use Rattle.text.specs.Digits.{numberOf}
+use Rattle.text.proofs.Digits.{Digits, number-below}
+use Rattle.lines.specs.Line.{fits, pointForm, digitsAt, hexAt, octasA, octasB, isForm, isPoint, lengthDigits, stateDigits, octasMax}
+use Rattle.lines.specs.PointLine.{hexOf, digitsOf, inForm, pointDigits, lineOf, bytesOf, nameAt, baseAAt, baseBAt, stateAt, windowsAt, nameOf, pointOf, Read}
+use Rattle.lines.proofs.Marks.{digitsIn, line-again, digits-small}
+use Rattle.lines.proofs.LineMarks.{form-digits}
+use Rattle.lines.proofs.Hex.{hex-number, length-bytes, digits-of-bytes, bytes-small, length-at, digits-split}
+
+abbrev pub form : ℕ → List ℕ
+form m = pointForm lengthDigits stateDigits m
+
+-- ---- a line
+
+module _ (l : List ℕ) where
+  abbrev octas : ℕ
+  octas = octasA lengthDigits l + octasB lengthDigits l
+
+  -- its digits, part by part, the last part being both windows
+  abbrev pub d-name : List ℕ
+  d-name = digitsAt l nameAt 1
+
+  abbrev pub d-octasA : List ℕ
+  d-octasA = digitsAt l 23 lengthDigits
+
+  abbrev pub d-octasB : List ℕ
+  d-octasB = digitsAt l (24 + lengthDigits) lengthDigits
+
+  abbrev pub d-baseA : List ℕ
+  d-baseA = digitsAt l baseAAt 16
+
+  abbrev pub d-baseB : List ℕ
+  d-baseB = digitsAt l baseBAt 16
+
+  abbrev pub d-state : List ℕ
+  d-state = digitsAt l stateAt stateDigits
+
+  abbrev pub d-windows : ℕ → List ℕ
+  d-windows m = digitsAt l windowsAt (16 * m)
+
+  abbrev pub d-a : ℕ → List ℕ
+  d-a a = digitsAt l windowsAt (16 * a)
+
+  abbrev pub d-b : ℕ → ℕ → List ℕ
+  d-b a b = digitsAt l (windowsAt + 16 * a) (16 * b)
+
+  pub line-digits : (m : ℕ) → digitsIn (form m) l ≡ d-name ++ (d-octasA ++ (d-octasB ++ (d-baseA ++ (d-baseB ++ (d-state ++ d-windows m)))))
+  line-digits m = form-digits lengthDigits stateDigits m l
+
+  pub windows-digits : (a b : ℕ) → d-windows (a + b) ≡ d-a a ++ d-b a b
+  windows-digits a b =
+      let e : 16 * (a + b) ≡ 16 * a + 16 * b = omega arith in
+      ap (digitsAt l windowsAt) e ∙ digits-split l windowsAt (16 * a) (16 * b)
+
+  module _ (good : isPoint l ≡ true) where
+    record Judged : Type 0 where
+      small-a : octasA lengthDigits l ≤ octasMax
+      small-b : octasB lengthDigits l ≤ octasMax
+      of-form : fits (form octas) l ≡ true
+
+    judged : Judged
+    unfolding isPoint isForm
+    judged =
+        let r = and-right (leb (octasA lengthDigits l) octasMax) _ good in
+        record {
+          small-a = leb-true _ _ (and-left (leb (octasA lengthDigits l) octasMax) _ good);
+          small-b = leb-true _ _ (and-left (leb (octasB lengthDigits l) octasMax) _ r);
+          of-form = and-right (leb (octasB lengthDigits l) octasMax) _ r;
+        }
+
+    abbrev a : ℕ
+    a = octasA lengthDigits l
+
+    abbrev b : ℕ
+    b = octasB lengthDigits l
+
+    -- all of them are digits
+    record Small : Type 0 where
+      s-name : Digits d-name
+      s-octasA : Digits d-octasA
+      s-octasB : Digits d-octasB
+      s-baseA : Digits d-baseA
+      s-baseB : Digits d-baseB
+      s-state : Digits d-state
+      s-a : Digits (d-a a)
+      s-b : Digits (d-b a b)
+
+    small : Small
+    small =
+        let P : ℕ → Type 0 = λ (d : ℕ). d < 16 in
+        let t₀ : Digits (d-name ++ (d-octasA ++ (d-octasB ++ (d-baseA ++ (d-baseB ++ (d-state ++ d-windows octas)))))) = rw (line-digits octas) at (digits-small (form octas) l (judged .of-form)) in
+        let t₁ = All-right P d-name (d-octasA ++ (d-octasB ++ (d-baseA ++ (d-baseB ++ (d-state ++ d-windows octas))))) t₀ in
+        let t₂ = All-right P d-octasA (d-octasB ++ (d-baseA ++ (d-baseB ++ (d-state ++ d-windows octas)))) t₁ in
+        let t₃ = All-right P d-octasB (d-baseA ++ (d-baseB ++ (d-state ++ d-windows octas))) t₂ in
+        let t₄ = All-right P d-baseA (d-baseB ++ (d-state ++ d-windows octas)) t₃ in
+        let t₅ = All-right P d-baseB (d-state ++ d-windows octas) t₄ in
+        let t₆ : Digits (d-a a ++ d-b a b) = rw (windows-digits a b) at (All-right P d-state (d-windows octas) t₅) in
+        record {
+          s-name = All-left P d-name _ t₀;
+          s-octasA = All-left P d-octasA _ t₁;
+          s-octasB = All-left P d-octasB _ t₂;
+          s-baseA = All-left P d-baseA _ t₃;
+          s-baseB = All-left P d-baseB _ t₄;
+          s-state = All-left P d-state _ t₅;
+          s-a = All-left P (d-a a) (d-b a b) t₆;
+          s-b = All-right P (d-a a) (d-b a b) t₆;
+        }
+
+    size-a : length (bytesOf (d-a a)) ≡ 8 * a
+    size-a = length-bytes (8 * a) (d-a a) (length-at l windowsAt (16 * a) ∙ omega arith)
+
+    size-b : length (bytesOf (d-b a b)) ≡ 8 * b
+    size-b = length-bytes (8 * b) (d-b a b) (length-at l (windowsAt + 16 * a) (16 * b) ∙ omega arith)
+
+    octas-a : octasOf (bytesOf (d-a a)) ≡ a
+    octas-a = omega (arith, size-a)
+
+    octas-b : octasOf (bytesOf (d-b a b)) ≡ b
+    octas-b = omega (arith, size-b)
+
+    spelt-a : hexOf lengthDigits a ≡ d-octasA
+    unfolding octasA hexAt
+    spelt-a = hex-number lengthDigits d-octasA (small .s-octasA) (length-at l 23 lengthDigits)
+
+    spelt-b : hexOf lengthDigits b ≡ d-octasB
+    unfolding octasB hexAt
+    spelt-b = hex-number lengthDigits d-octasB (small .s-octasB) (length-at l (24 + lengthDigits) lengthDigits)
+
+    spelt-name : hexOf 1 (nameOf l) ≡ d-name
+    unfolding nameOf hexAt
+    spelt-name = hex-number 1 d-name (small .s-name) (length-at l nameAt 1)
+
+    spelt-baseA : hexOf 16 (hexAt l baseAAt 16) ≡ d-baseA
+    unfolding hexAt
+    spelt-baseA = hex-number 16 d-baseA (small .s-baseA) (length-at l baseAAt 16)
+
+    spelt-baseB : hexOf 16 (hexAt l baseBAt 16) ≡ d-baseB
+    unfolding hexAt
+    spelt-baseB = hex-number 16 d-baseB (small .s-baseB) (length-at l baseBAt 16)
+
+    spelt-state : digitsOf (bytesOf d-state) ≡ d-state
+    spelt-state = digits-of-bytes imageLength d-state (length-at l stateAt stateDigits) (small .s-state)
+
+    spelt-windows : digitsOf (bytesOf (d-a a)) ++ digitsOf (bytesOf (d-b a b)) ≡ d-windows octas
+    spelt-windows =
+        ap (λ (k : List ℕ). k ++ digitsOf (bytesOf (d-b a b))) (digits-of-bytes (8 * a) (d-a a) (length-at l windowsAt (16 * a) ∙ omega arith) (small .s-a))
+        ∙ ap (λ (k : List ℕ). d-a a ++ k) (digits-of-bytes (8 * b) (d-b a b) (length-at l (windowsAt + 16 * a) (16 * b) ∙ omega arith) (small .s-b))
+        ∙ sym (windows-digits a b)
+
+    -- the digits of its point are its own
+    own-digits : pointDigits (nameOf l) (pointOf l) ≡ digitsIn (form octas) l
+    unfolding pointDigits pointOf
+    own-digits = rw (octas-a, octas-b, spelt-name, spelt-a, spelt-b, spelt-baseA, spelt-baseB, spelt-state, spelt-windows) (sym (line-digits octas))
+
+    own-line : lineOf (nameOf l) (pointOf l) ≡ l
+    unfolding lineOf pointOf
+    own-line =
+        ap (λ (m : ℕ). inForm (form m) (pointDigits (nameOf l) (pointOf l))) (ap (λ (k : ℕ). k + octasOf (bytesOf (d-b a b))) octas-a ∙ ap (λ (k : ℕ). a + k) octas-b)
+        ∙ ap (inForm (form octas)) own-digits
+        ∙ line-again (form octas) l (judged .of-form)
+
+    one-digit : (ds : List ℕ) → Digits ds → length ds ≡ 1 → numberOf 0 ds < 16
+    unfolding numberOf All
+    one-digit [] s e = absurd (omega arith)
+    one-digit (d ∷ []) s e = omega (arith, s .0)
+    one-digit (d ∷ x ∷ ds) s e = absurd (omega arith)
+
+    pub read : Read l
+    unfolding nameOf pointOf hexAt
+    read = record {
+      line-is = own-line;
+      name-small = one-digit d-name (small .s-name) (length-at l nameAt 1);
+      point-fits = record {
+        image-long = length-bytes imageLength d-state (length-at l stateAt stateDigits);
+        base-a = number-below d-baseA (small .s-baseA) (omega (arith, length-at l baseAAt 16));
+        base-b = number-below d-baseB (small .s-baseB) (omega (arith, length-at l baseBAt 16));
+        long-a = omega (arith, size-a, judged .small-a);
+        long-b = omega (arith, size-b, judged .small-b);
+        whole-a = omega (arith, size-a);
+        whole-b = omega (arith, size-b);
+      };
+      of-bytes = record {
+        image-bytes = bytes-small d-state (small .s-state);
+        a-bytes = bytes-small (d-a a) (small .s-a);
+        b-bytes = bytes-small (d-b a b) (small .s-b);
+      };
+    }
