@@ -11,7 +11,7 @@ use lib.Seq.{set-out, take-suc, take-all, length-take-le}
 use Rattle.model.specs.Octa.{written}
 use Rattle.model.proofs.Octa.{length-written, written-nil}
 use Rattle.model.proofs.Bytes.{written-append}
-use Rattle.text.proofs.Writes.{written-one}
+use Rattle.text.proofs.Writes.{written-one, take-written as take-front}
 
 -- the next byte of a text put into a list
 pub written-next : (l t : List ℕ) (o i : ℕ) → i < length t → written (written l o (take i t)) (o + i) (getD t i 0 ∷ []) ≡ written l o (take (i + 1) t)
@@ -58,12 +58,6 @@ kept-all more first count held n i k e =
 -- ---- its front
 
 -- where there is room for the text
-take-front : (l t : List ℕ) → length t ≤ length l → take (length t) (written l 0 t) ≡ t
-unfolding written
-take-front l [] h = refl
-take-front [] (v ∷ t) h = absurd (omega arith)
-take-front (x ∷ l) (v ∷ t) h = ap (λ (r : List ℕ). v ∷ r) (take-front l t (omega arith))
-
 pub take-written : (l : List ℕ) (o : ℕ) (t : List ℕ) → o + length t ≤ length l → take (o + length t) (written l o t) ≡ take o l ++ t
 unfolding written
 take-written l zero t h = rw (zero-add (length t)) (take-front l t (omega arith))

@@ -63,6 +63,10 @@ module _ (held : List ℕ) (count : ℕ) (chunk : List ℕ) where
   unfolding heldAfter
   left-other e = rw (e, add-zero (lineLength chunk))
 
+  pub length-after : length (heldAfter held count chunk) ≡ length held
+  unfolding heldAfter
+  length-after = length-written held count _
+
 -- ---- by the tests of `advance`
 
 module _ (held : List ℕ) (count : ℕ) (chunk left : List ℕ) (end next : ℕ) (e : end ≡ lineLength chunk) (f : left ≡ written held count (take end chunk))

@@ -1,6 +1,13 @@
 //! The program points: lines of points on standard input, each anew on standard output; a line that is no point's is told by `(bad N)`, and ends
 //! it. A read or a write that fails is told on standard error.
 
+ghost use mathlib.Core.Path.{_≡_};
+ghost use Prim.Native.Nat.{_+_, _≤_, _<_, _^_};
+ghost use lib.ListN.{length, take};
+ghost use Rattle.text.specs.Text.{badText};
+ghost use Rattle.lines.specs.Line.{longestLine};
+ghost use Rattle.points.specs.Chunk.{heldLength, Begun, Leaves};
+use libc::STDERR_FILENO;
 use libc::STDIN_FILENO;
 use libc::STDOUT_FILENO;
 use lines::stream::HELD_LEN;
@@ -9,7 +16,9 @@ use lines::stream::Turn;
 /// So many times the input is read at most, so that the program is seen to end.
 const READS: u64 = 0x800000000000;
 
-fn held_buffer() -> [u8; HELD_LEN] {
+fn held_buffer() -> [u8; HELD_LEN]
+    ensures { λ r. ⌜ heldLength ≡ length r ⌝ }
+{
     [0; HELD_LEN]
 }
 
@@ -21,7 +30,10 @@ enum After {
 }
 
 /// The lines that end in a chunk are printed. Line n is the first, of which `first` bytes are held.
-fn print_lines(chunk: &[u8], held: &mut [u8], first: usize, n: u64) -> After {
+fn print_lines(chunk: &[u8], held: &mut [u8], first: usize, n: u64) -> After
+    requires { ⌜ Begun (now held) first × (n + length (now chunk) < 2 ^ 64) ⌝ }
+    ensures { λ r. ⌜ Leaves n (now (held .entry)) first (now (chunk .entry)) (now (held .exit)) r ⌝ }
+{
     let mut at: usize = 0;
     let mut count = first;
     let mut number = n;
@@ -47,17 +59,27 @@ fn print_lines(chunk: &[u8], held: &mut [u8], first: usize, n: u64) -> After {
     After::On(count, number)
 }
 
+/// The text that says that line n is bad, at the start of `out`; how long it is.
+fn bad_text(out: &mut [u8], n: u64) -> usize
+    requires { ⌜ 27 ≤ length (now out) ⌝ }
+    ensures { λ r. ⌜ (take r (now (out .exit)) ≡ badText n) × (r ≤ length (now (out .entry))) ⌝ }
+{
+    text::write::put_bad(out, 0, n)
+}
+
 /// Line n is bad.
 fn print_bad(n: u64) {
-    let mut out = [0u8; 32];
-    let end = text::write::put_bad(&mut out, 0, n);
+    let mut out = [0u8; 27];
+    let end = bad_text(&mut out, n);
     if !io::write_all(STDOUT_FILENO, &out[..end]) {
         os::fail(b"standard output");
     }
 }
 
 /// The input is read until it ends or a line is bad.
-fn run(input: &mut [u8], held: &mut [u8]) {
+fn run(input: &mut [u8], held: &mut [u8])
+    requires { ⌜ (length (now input) ≡ 65536) × (longestLine < length (now held)) ⌝ }
+{
     let mut reads: u64 = READS;
     let mut count: usize = 0;
     let mut number: u64 = 1;
@@ -91,6 +113,7 @@ fn run(input: &mut [u8], held: &mut [u8]) {
             }
         }
     }
+    io::write_all(STDERR_FILENO, b"standard input: too long\n");
 }
 
 fn main() {

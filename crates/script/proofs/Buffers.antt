@@ -10,6 +10,7 @@ use borrow.Author.Tests.{lt-leb}
 use Rattle.model.specs.Octa.{written}
 use Rattle.model.proofs.Octa.{length-written}
 use Rattle.text.specs.Text.{badText}
+use Rattle.text.proofs.Writes.{take-written}
 use Rattle.script.specs.Script.{scriptMost, printed, outputLength, FrontTells}
 use Rattle.script.proofs.Bounds.{bounded}
 
@@ -27,12 +28,6 @@ front-tells l n h = go (decLe (length l) scriptMost)
         let f : scriptMost < length l = omega arith in
         let g : scriptMost < length (take n l) = omega (arith, length-take n l) in
         long-prints (take n l) g ∙ sym (long-prints l f)
-
-take-written : (b t : List ℕ) → length t ≤ length b → take (length t) (written b 0 t) ≡ t
-unfolding written
-take-written b [] h = refl
-take-written [] (v ∷ t) h = absurd (omega arith)
-take-written (x ∷ b) (v ∷ t) h = ap (λ (u : List ℕ). v ∷ u) (take-written b t (omega arith))
 
 -- the text of a script l put into a buffer with room for the longest
 module _ (l b c : List ℕ) (n : ℕ) (h : outputLength ≤ length b) (e : c ≡ written b 0 (printed l)) (f : n ≡ length (printed l)) where

@@ -6,7 +6,7 @@ use Prim.Native.Nat.{ℕ, zero, suc, _+_, _-_, _/_, _%_, _^_, _≤_, _<_}
 use native.Mathlib.Numerals.{add-one}
 use native.Mathlib.Omega.{arith}
 use lib.Dec.{ltb, eqb}
-use lib.ListN.{length, getD, drop, set, length-append, drop-of-length-le}
+use lib.ListN.{length, getD, take, drop, set, length-append, drop-of-length-le}
 use lib.Seq.{drop-cons, drop-drop, getD-drop, set-out}
 use borrow.Author.Tests.{lt-ltb, le-ltb, lt-leb, le-leb, eq-eqb, ne-eqb}
 use Rattle.model.specs.Octa.{written}
@@ -45,6 +45,18 @@ wrote-both b at t c m u d n p q = record {
 
 pub wrote-as : (b : List ℕ) (at : ℕ) (t u c : List ℕ) (n : ℕ) → t ≡ u → Wrote b at t c n → Wrote b at u c n
 wrote-as b at t u c n e p = rw (← e) p
+
+-- a text at the front of a buffer that has room for it
+pub take-written : (b t : List ℕ) → length t ≤ length b → take (length t) (written b 0 t) ≡ t
+unfolding written
+take-written b [] h = refl
+take-written [] (v ∷ t) h = absurd (omega arith)
+take-written (x ∷ b) (v ∷ t) h = ap (λ (u : List ℕ). v ∷ u) (take-written b t (omega arith))
+
+pub wrote-front : (b t c : List ℕ) (n : ℕ) → length t ≤ length b → Wrote b 0 t c n → (take n c ≡ t) × (n ≤ length b)
+wrote-front b t c n h w =
+    let e : n ≡ length t = omega (arith, w .end-is) in
+    (rw (w .bytes-are, e) (take-written b t h), omega arith)
 
 -- a text that is put at a place of one buffer gives what another text gives at a place of another: how a loop that writes goes on
 pub record Leads (c : List ℕ) (next : ℕ) (u b : List ℕ) (at : ℕ) (t : List ℕ) : Type 0 where
@@ -222,3 +234,11 @@ short-bad = omega arith
 pub wrote-bad : (b : List ℕ) (at n : ℕ) (c : List ℕ) (end : ℕ) → at < 2 ^ 63 → Wrote b at (putAt at badLine (n ∷ [])) c end → Wrote b at (badText n) c end
 unfolding badText
 wrote-bad b at n c end h q = wrote-here at badLine (n ∷ []) b c end h short-bad q
+
+bad-most : filledMost badLine ≡ 27
+unfolding filledMost pieceMost badLine codes
+bad-most = refl
+
+pub length-bad : (n : ℕ) → length (badText n) ≤ 27
+unfolding badText
+length-bad n = omega (arith, length-filled badLine (n ∷ []), bad-most)

@@ -1,0 +1,2 @@
+-- Laws of a chunk carried through.
+pub mod Chunks
