@@ -1,26 +1,21 @@
 -- Laws of a chunk carried through, turn by turn.
 use mathlib.Core.Path.{_≡_, refl, sym, ap, subst, _∙_}
-use mathlib.Core.List.{List, [], _∷_, _++_, append-assoc, append-nil}
-use Prim.Native.Nat.{ℕ, suc, _+_, _-_, _^_, _≤_, _<_}
+use mathlib.Core.List.{List, [], _++_, append-assoc, append-nil}
+use Prim.Native.Nat.{ℕ, suc, _+_, _-_, _≤_, _<_}
 use native.Mathlib.Omega.{arith}
 use native.Mathlib.Numerals.{add-one}
-use native.Mathlib.Nat.{zero-add}
 use lib.ListN.{length, take, drop, length-drop, drop-of-length-le}
-use lib.Seq.{drop-drop, take-all}
-use Rattle.text.specs.Codes.{codes}
-use Rattle.text.specs.Text.{badLine, badText}
+use lib.Seq.{drop-drop, take-all, length-take-le}
 use Rattle.text.specs.Pieces.{lineLength}
-use Rattle.text.specs.Writing.{Wrote}
-use Rattle.text.proofs.Writes.{pieceMost, filledMost, length-filled}
 use Rattle.lines.specs.Line.{longestLine}
 use Rattle.lines.specs.Stream.{printedFrom, turnOf, heldAfter, Tells}
 use Rattle.lines.specs.declared.stream.Turn.{Turn}
 use Rattle.lines.specs.declared.stream.Turn.the-variants.{More as Turn·More, Good as Turn·Good, Bad as Turn·Bad}
 use Rattle.lines.proofs.Turns.{length-after}
-use Rattle.lines.proofs.Splits.{any-split}
-use Rattle.points.specs.Chunk.{Begun, Carried, Stopped, Leaves}
+use Rattle.lines.proofs.Splits.{any-split, line-by-line}
+use Rattle.points.specs.Chunk.{inputLength, Begun, Carried, Leaves, EndsAs, Ready}
 use Rattle.points.specs.declared.After.{After}
-use Rattle.points.specs.declared.After.the-variants.{On, Bad}
+use Rattle.points.specs.declared.After.the-variants.{On, Bad, Ended}
 
 -- ---- within a chunk, up to `at`
 
@@ -109,3 +104,33 @@ module _ (n : ℕ) (first : List ℕ) (count₀ : ℕ) (chunk held : List ℕ) (
             ∙ ap (λ (k : ℕ). (m .carried .shown ++ take shown left) ++ printedFrom k (drop (at + used) chunk ++ rest)) (sym (add-one number));
       };
     }
+
+-- ---- where the text ends
+
+module _ (n : ℕ) (held : List ℕ) (count : ℕ) (b : Begun held count) where
+  pub ends-bad : 0 < count → EndsAs n held count (Bad n)
+  unfolding EndsAs
+  ends-bad h = line-by-line .unended n (take count held) (b .unended) (omega (arith, length-take-le count held (b .in-room)))
+
+  pub ends-well : count ≡ 0 → EndsAs n held count Ended
+  unfolding EndsAs
+  ends-well e = ap (λ (k : ℕ). printedFrom n (take k held)) e ∙ line-by-line .ended n
+
+-- ---- from one read to the next
+
+pub ready : (n : ℕ) (held : List ℕ) (count : ℕ) (chunk after : List ℕ) (r : After) → length chunk ≤ inputLength → Leaves n held count chunk after r → Ready n after r
+unfolding Leaves Ready
+ready n held count chunk after (On more number) h l = (l .1, omega (arith, l .2))
+ready n held count chunk after (Bad number) h l = tt
+ready n held count chunk after Ended h l = tt
+
+-- the text's end leaves nothing to go on with
+pub ready-end : (n : ℕ) (held : List ℕ) (count : ℕ) (r : After) → EndsAs n held count r → Ready n held r
+unfolding EndsAs Ready
+ready-end n held count (On more number) e = absurd e
+ready-end n held count (Bad number) e = tt
+ready-end n held count Ended e = tt
+
+pub on-ready : (n : ℕ) (after : List ℕ) (r : After) (more number : ℕ) → Ready n after r → r ≡ On more number → Begun after more × (number ≤ n + inputLength)
+unfolding Ready
+on-ready n after r more number h e = subst (λ (x : After). Ready n after x) e h

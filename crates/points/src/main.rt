@@ -6,7 +6,7 @@ ghost use Prim.Native.Nat.{_+_, _≤_, _<_, _^_};
 ghost use lib.ListN.{length, take};
 ghost use Rattle.text.specs.Text.{badText};
 ghost use Rattle.lines.specs.Line.{longestLine};
-ghost use Rattle.points.specs.Chunk.{heldLength, Begun, Leaves};
+ghost use Rattle.points.specs.Chunk.{inputLength, heldLength, Begun, Leaves, EndsAs, Ready};
 use libc::STDERR_FILENO;
 use libc::STDIN_FILENO;
 use libc::STDOUT_FILENO;
@@ -22,11 +22,14 @@ fn held_buffer() -> [u8; HELD_LEN]
     [0; HELD_LEN]
 }
 
-/// What a chunk leaves: so many bytes held of the line of this number, or that line bad, or a write that failed.
+/// What a chunk leaves.
 enum After {
+    /// So many bytes are held of the line of this number.
     On(usize, u64),
+    /// The line of this number is bad.
     Bad(u64),
-    Failed,
+    /// The input has ended, or a read or a write has failed and was told.
+    Ended,
 }
 
 /// The lines that end in a chunk are printed. Line n is the first, of which `first` bytes are held.
@@ -45,7 +48,8 @@ fn print_lines(chunk: &[u8], held: &mut [u8], first: usize, n: u64) -> After
             }
             Turn::Good(used, shown) => {
                 if !io::write_all(STDOUT_FILENO, &held[..shown]) {
-                    return After::Failed;
+                    os::fail(b"standard output");
+                    return After::Ended;
                 }
                 at += used;
                 count = 0;
@@ -57,6 +61,34 @@ fn print_lines(chunk: &[u8], held: &mut [u8], first: usize, n: u64) -> After
         }
     }
     After::On(count, number)
+}
+
+/// The input has ended where `count` bytes of line n are held: such a line has no newline.
+fn at_end(held: &[u8], count: usize, n: u64) -> After
+    requires { ⌜ Begun (now held) count ⌝ }
+    ensures { λ r. ⌜ EndsAs n (now (held .entry)) count r ⌝ }
+{
+    if count > 0 {
+        return After::Bad(n);
+    }
+    After::Ended
+}
+
+/// The input is read once.
+fn read_on(input: &mut [u8], held: &mut [u8], count: usize, n: u64) -> After
+    requires { ⌜ (length (now input) ≡ inputLength) × Begun (now held) count × (n + inputLength < 2 ^ 64) ⌝ }
+    ensures { λ r. ⌜ Ready n (now (held .exit)) r ⌝ }
+{
+    let got = libc::read(STDIN_FILENO, input);
+    if got < 0 {
+        os::fail(b"standard input");
+        return After::Ended;
+    }
+    let k = io::count(got, input);
+    if k == 0 {
+        return at_end(held, count, n);
+    }
+    print_lines(&input[..k], held, count, n)
 }
 
 /// The text that says that line n is bad, at the start of `out`; how long it is.
@@ -78,26 +110,14 @@ fn print_bad(n: u64) {
 
 /// The input is read until it ends or a line is bad.
 fn run(input: &mut [u8], held: &mut [u8])
-    requires { ⌜ (length (now input) ≡ 65536) × (longestLine < length (now held)) ⌝ }
+    requires { ⌜ (length (now input) ≡ inputLength) × (longestLine < length (now held)) ⌝ }
 {
     let mut reads: u64 = READS;
     let mut count: usize = 0;
     let mut number: u64 = 1;
     while reads > 0 {
         reads -= 1;
-        let got = libc::read(STDIN_FILENO, input);
-        if got < 0 {
-            os::fail(b"standard input");
-            return;
-        }
-        let n = io::count(got, input);
-        if n == 0 {
-            if count > 0 {
-                print_bad(number);
-            }
-            return;
-        }
-        let after = print_lines(&input[..n], held, count, number);
+        let after = read_on(input, held, count, number);
         match after {
             After::On(more, next) => {
                 count = more;
@@ -107,8 +127,7 @@ fn run(input: &mut [u8], held: &mut [u8])
                 print_bad(bad);
                 return;
             }
-            After::Failed => {
-                os::fail(b"standard output");
+            After::Ended => {
                 return;
             }
         }

@@ -2,7 +2,7 @@
 use mathlib.Core.Path.{_≡_, refl, sym, _∙_}
 use Prim.Native.Nat.{_+_, _-_, _≤_}
 use native.Mathlib.Omega.{arith}
-use lib.ListN.{length, take, drop}
+use lib.ListN.{length}
 use lib.Seq.{length-take-le}
 use borrow.Author.Needs.{needs}
 use Rattle.points.specs.Chunk.{Leaves}
@@ -11,11 +11,11 @@ use Rattle.points.proofs.print_lines.Statement.{statement}
 use Rattle.points.proofs.print_lines.Tie as tie
 
 abbrev Inv-loop : tie.InvT-loop
-Inv-loop chunk held₀ first n at₀ count₀ number₀ held at count number =
+Inv-loop chunk held₀ first n at₀ count₀ number₀ told held at count number =
     (at ≤ length chunk) × (number ≤ n + at) × (length held ≡ length held₀) × Midway n held₀ first chunk held at count number
 
 abbrev μ-loop : tie.MeasureT-loop
-μ-loop chunk held₀ first n at₀ count₀ number₀ held at count number = length chunk - at
+μ-loop chunk held₀ first n at₀ count₀ number₀ told held at count number = length chunk - at
 
 loop-holds : tie.Need-loop-holds Inv-loop μ-loop
 loop-holds c =
@@ -73,6 +73,12 @@ slice-aggregate-write-all c =
 
 write-all-requires : tie.Need-write-all-requires Inv-loop μ-loop
 write-all-requires c κs = search needs
+
+slice-aggregate-fail : tie.Need-slice-aggregate-fail Inv-loop μ-loop
+slice-aggregate-fail c = search needs
+
+fail-requires : tie.Need-fail-requires Inv-loop μ-loop
+fail-requires c κs = search needs
 
 same-length-2 : tie.Need-same-length-2 Inv-loop μ-loop
 same-length-2 c = search needs
@@ -164,6 +170,8 @@ print-lines-spec =
     slice-reshare-prefix-write-all
     slice-aggregate-write-all
     write-all-requires
+    slice-aggregate-fail
+    fail-requires
     same-length-2
     returns-2
     add-at
