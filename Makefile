@@ -7,6 +7,7 @@ CASES ?= 200000
 DEFINED ?= 2000
 SEED ?= 2009
 SCRIPT ?= examples/scripts/first.script
+FILE ?= examples/points/first.points
 PREFIX ?= /usr/local
 PROGRAMS ?= ../shared/programs
 ORACLE = build/oracle/release
@@ -22,11 +23,12 @@ WARNINGS = -Wall -Wextra -Wpedantic -Werror
 HEADERS = build/mmix.h build/mmix_text.h
 VERSION = $(shell sed -n 's/^\#define MMIX_VERSION_[MI].* //p' include/mmix.h | paste -s -d .)
 
-.PHONY: help test prove bench scripts-test lib install host host-test programs oracle oracle-test differential guards mutants speed replay-list definitions constants clean need-rt need-gcc need-script
+.PHONY: help test prove bench scripts-test points points-test lib install host host-test programs oracle oracle-test differential guards mutants speed replay-list definitions constants clean need-rt need-gcc need-script need-points
 
 help:
 	@echo 'make bench SCRIPT=path       the bench program on a script (examples/scripts/first.script)'
-	@echo 'make test                    the gate: all proofs and must-fail edits, the hosts, compiled programs, the scripts, the comparison with the Rust'
+	@echo 'make points FILE=path        the points of a file, a line each, written anew (examples/points/first.points)'
+	@echo 'make test                    the gate: all proofs and must-fail edits, the hosts, compiled programs, the scripts, the points, the comparison with the Rust'
 	@echo 'make lib                     build/libmmix.a with its headers, proved'
 	@echo 'make host                    build and run examples/relay_host.c and grading.c, a program that grades relays'
 	@echo 'make programs                run compiled programs (PROGRAMS=folder) by grants, and compare answers and counts'
@@ -55,7 +57,7 @@ test: need-rt need-gcc
 	@docs/check_contracts
 	@if $(MAKE) --no-print-directory -q build/ci.log; then echo 'proofs and edits: nothing has changed since they passed; make clean to repeat them'; \
 	  else $(MAKE) --no-print-directory build/ci.log; fi
-	@$(MAKE) --no-print-directory host-test programs scripts-test oracle-test differential
+	@$(MAKE) --no-print-directory host-test programs scripts-test points-test oracle-test differential
 	@tail -n 1 build/ci.log
 
 # It is there only where `rt ci` has passed.
@@ -67,12 +69,12 @@ build/ci.log: $(CHECKED)
 prove: need-rt
 	@rt check
 
-# ---- the bench program
+# ---- the two programs: each as it is proved, and a few lines of shell that make a status of what it tells
 
-build/bench: $(RATTLE) examples/scripts/bench
+build/bench build/points: build/%: $(RATTLE) examples/scripts/bench
 	@mkdir -p build
-	@set -o pipefail; rt check bench 2>&1 | tee build/bench.log | grep --line-buffered '^rt:' || { cat build/bench.log; exit 1; }
-	@cp target/bin/bench $@-proved
+	@set -o pipefail; rt check $* 2>&1 | tee build/$*.log | grep --line-buffered '^rt:' || { cat build/$*.log; exit 1; }
+	@cp target/bin/$* $@-proved
 	@cp examples/scripts/bench $@
 
 bench: need-rt need-script build/bench
@@ -87,6 +89,19 @@ scripts-test: need-rt build/bench
 	@if $(MAKE) --no-print-directory bench SCRIPT=no.script > build/told 2>&1; [ $$? = 0 ] || ! grep -q "no script at 'no.script'" build/told; then \
 	  echo 'make bench: a path that is not there is not told'; exit 1; fi
 	@if $(MAKE) --no-print-directory bench > /dev/full 2> build/told; then echo 'make bench: a write that fails passes'; exit 1; fi
+
+points: need-rt need-points build/points
+	@build/points < '$(FILE)'
+
+need-points:
+	@[ -r '$(FILE)' ] || { echo "no points at '$(FILE)': make points FILE=path" >&2; exit 1; }
+
+# Points come out as they went in, bad lines are told, however the input is split; and a failure is told.
+points-test: need-rt build/points
+	@examples/points/test build/points
+	@if $(MAKE) --no-print-directory points FILE=no.points > build/told 2>&1; [ $$? = 0 ] || ! grep -q "no points at 'no.points'" build/told; then \
+	  echo 'make points: a path that is not there is not told'; exit 1; fi
+	@if $(MAKE) --no-print-directory points > /dev/full 2> build/told; then echo 'make points: a write that fails passes'; exit 1; fi
 
 # ---- the C library and a host
 
