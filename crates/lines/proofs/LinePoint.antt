@@ -14,7 +14,7 @@ use Rattle.model.proofs.Plan.{All-left, All-right}
 use Rattle.text.specs.Digits.{numberOf}
 use Rattle.text.proofs.Digits.{Digits, number-below}
 use Rattle.lines.specs.Line.{fits, pointForm, digitsAt, hexAt, octasA, octasB, isForm, isPoint, lengthDigits, stateDigits, octasMax}
-use Rattle.lines.specs.PointLine.{hexOf, digitsOf, inForm, pointDigits, lineOf, bytesOf, nameAt, baseAAt, baseBAt, stateAt, windowsAt, nameOf, pointOf, Read}
+use Rattle.lines.specs.PointLine.{hexOf, digitsOf, inForm, pointDigits, lineOf, bytesIn, nameAt, baseAAt, baseBAt, stateAt, windowsAt, nameOf, pointOf, Read}
 use Rattle.lines.proofs.Marks.{digitsIn, line-again, digits-small}
 use Rattle.lines.proofs.LineMarks.{form-digits}
 use Rattle.lines.proofs.Hex.{hex-number, length-bytes, digits-of-bytes, bytes-small, length-at, digits-split}
@@ -118,16 +118,16 @@ module _ (l : List ℕ) where
           s-b = All-right P (d-a a) (d-b a b) t₆;
         }
 
-    size-a : length (bytesOf (d-a a)) ≡ 8 * a
+    size-a : length (bytesIn (d-a a)) ≡ 8 * a
     size-a = length-bytes (8 * a) (d-a a) (length-at l windowsAt (16 * a) ∙ omega arith)
 
-    size-b : length (bytesOf (d-b a b)) ≡ 8 * b
+    size-b : length (bytesIn (d-b a b)) ≡ 8 * b
     size-b = length-bytes (8 * b) (d-b a b) (length-at l (windowsAt + 16 * a) (16 * b) ∙ omega arith)
 
-    octas-a : octasOf (bytesOf (d-a a)) ≡ a
+    octas-a : octasOf (bytesIn (d-a a)) ≡ a
     octas-a = omega (arith, size-a)
 
-    octas-b : octasOf (bytesOf (d-b a b)) ≡ b
+    octas-b : octasOf (bytesIn (d-b a b)) ≡ b
     octas-b = omega (arith, size-b)
 
     spelt-a : hexOf lengthDigits a ≡ d-octasA
@@ -150,12 +150,12 @@ module _ (l : List ℕ) where
     unfolding hexAt
     spelt-baseB = hex-number 16 d-baseB (small .s-baseB) (length-at l baseBAt 16)
 
-    spelt-state : digitsOf (bytesOf d-state) ≡ d-state
+    spelt-state : digitsOf (bytesIn d-state) ≡ d-state
     spelt-state = digits-of-bytes imageLength d-state (length-at l stateAt stateDigits) (small .s-state)
 
-    spelt-windows : digitsOf (bytesOf (d-a a)) ++ digitsOf (bytesOf (d-b a b)) ≡ d-windows octas
+    spelt-windows : digitsOf (bytesIn (d-a a)) ++ digitsOf (bytesIn (d-b a b)) ≡ d-windows octas
     spelt-windows =
-        ap (λ (k : List ℕ). k ++ digitsOf (bytesOf (d-b a b))) (digits-of-bytes (8 * a) (d-a a) (length-at l windowsAt (16 * a) ∙ omega arith) (small .s-a))
+        ap (λ (k : List ℕ). k ++ digitsOf (bytesIn (d-b a b))) (digits-of-bytes (8 * a) (d-a a) (length-at l windowsAt (16 * a) ∙ omega arith) (small .s-a))
         ∙ ap (λ (k : List ℕ). d-a a ++ k) (digits-of-bytes (8 * b) (d-b a b) (length-at l (windowsAt + 16 * a) (16 * b) ∙ omega arith) (small .s-b))
         ∙ sym (windows-digits a b)
 
@@ -167,7 +167,7 @@ module _ (l : List ℕ) where
     own-line : lineOf (nameOf l) (pointOf l) ≡ l
     unfolding lineOf pointOf
     own-line =
-        ap (λ (m : ℕ). inForm (form m) (pointDigits (nameOf l) (pointOf l))) (ap (λ (k : ℕ). k + octasOf (bytesOf (d-b a b))) octas-a ∙ ap (λ (k : ℕ). a + k) octas-b)
+        ap (λ (m : ℕ). inForm (form m) (pointDigits (nameOf l) (pointOf l))) (ap (λ (k : ℕ). k + octasOf (bytesIn (d-b a b))) octas-a ∙ ap (λ (k : ℕ). a + k) octas-b)
         ∙ ap (inForm (form octas)) own-digits
         ∙ line-again (form octas) l (judged .of-form)
 

@@ -12,7 +12,7 @@ use Rattle.model.proofs.Plan.{All-both}
 use Rattle.text.specs.Digits.{numberOf}
 use Rattle.text.proofs.Digits.{Digits}
 use Rattle.lines.specs.Line.{fits, hexAt, octasA, octasB, isForm, isPoint, lengthDigits, stateDigits, octasMax}
-use Rattle.lines.specs.PointLine.{hexOf, digitsOf, pointDigits, lineOf, bytesOf, nameAt, baseAAt, baseBAt, stateAt, windowsAt, nameOf, pointOf, Told, EachOther}
+use Rattle.lines.specs.PointLine.{hexOf, digitsOf, pointDigits, lineOf, bytesIn, nameAt, baseAAt, baseBAt, stateAt, windowsAt, nameOf, pointOf, Told, EachOther}
 use Rattle.lines.proofs.Marks.{digitsIn, marksIn, form-fits, digits-again}
 use Rattle.lines.proofs.LineMarks.{form-marks}
 use Rattle.lines.proofs.Hex.{length-hex, hex-digits, number-hex, length-digits, bytes-digits, bytes-of-digits, length-at, same-front, same-rest}
@@ -169,14 +169,14 @@ module _ (name : ℕ) (p : Point) (n : name < pointCount) (f : Fits p) (o : OfBy
   unfolding hexAt
   is-baseB = ap (numberOf 0) (same-front 16 (d-baseB line) _ (hexOf 16 (p .baseB)) t₅ at-baseB (length-hex 16 (p .baseB)) e₄) ∙ number-hex 16 (p .baseB) (f .base-b)
 
-  is-image : bytesOf (d-state line) ≡ p .image
-  is-image = ap bytesOf (same-front stateDigits (d-state line) _ (digitsOf (p .image)) t₆ at-state length-image e₅) ∙ bytes-of-digits (p .image)
+  is-image : bytesIn (d-state line) ≡ p .image
+  is-image = ap bytesIn (same-front stateDigits (d-state line) _ (digitsOf (p .image)) t₆ at-state length-image e₅) ∙ bytes-of-digits (p .image)
 
-  is-a : bytesOf (d-a line (octasOf (p .a))) ≡ p .a
-  is-a = ap bytesOf (same-front (16 * octasOf (p .a)) (d-a line (octasOf (p .a))) _ (digitsOf (p .a)) (digitsOf (p .b)) at-a length-a e₆) ∙ bytes-of-digits (p .a)
+  is-a : bytesIn (d-a line (octasOf (p .a))) ≡ p .a
+  is-a = ap bytesIn (same-front (16 * octasOf (p .a)) (d-a line (octasOf (p .a))) _ (digitsOf (p .a)) (digitsOf (p .b)) at-a length-a e₆) ∙ bytes-of-digits (p .a)
 
-  is-b : bytesOf (d-b line (octasOf (p .a)) (octasOf (p .b))) ≡ p .b
-  is-b = ap bytesOf (same-rest (16 * octasOf (p .a)) (d-a line (octasOf (p .a))) _ (digitsOf (p .a)) (digitsOf (p .b)) at-a length-a e₆) ∙ bytes-of-digits (p .b)
+  is-b : bytesIn (d-b line (octasOf (p .a)) (octasOf (p .b))) ≡ p .b
+  is-b = ap bytesIn (same-rest (16 * octasOf (p .a)) (d-a line (octasOf (p .a))) _ (digitsOf (p .a)) (digitsOf (p .b)) at-a length-a e₆) ∙ bytes-of-digits (p .b)
 
   its-point : pointOf line ≡ p
   unfolding pointOf

@@ -39,10 +39,10 @@ lineOf name p = inForm (pointForm lengthDigits stateDigits (octasOf (p .a) + oct
 -- ---- a line's point
 
 -- the bytes that digits are
-unfoldable pub bytesOf : List ℕ → List ℕ
-bytesOf [] = []
-bytesOf (d ∷ []) = []
-bytesOf (d ∷ e ∷ ds) = (d * 16 + e) ∷ bytesOf ds
+unfoldable pub bytesIn : List ℕ → List ℕ
+bytesIn [] = []
+bytesIn (d ∷ []) = []
+bytesIn (d ∷ e ∷ ds) = (d * 16 + e) ∷ bytesIn ds
 
 -- where a line has its name's digit, its bases, its state and its windows
 abbrev pub nameAt : ℕ
@@ -66,11 +66,11 @@ nameOf l = hexAt l nameAt 1
 -- THE point of a line
 unfoldable pub pointOf : List ℕ → Point
 pointOf l = record {
-  image = bytesOf (digitsAt l stateAt stateDigits);
+  image = bytesIn (digitsAt l stateAt stateDigits);
   baseA = hexAt l baseAAt 16;
   baseB = hexAt l baseBAt 16;
-  a = bytesOf (digitsAt l windowsAt (16 * octasA lengthDigits l));
-  b = bytesOf (digitsAt l (windowsAt + 16 * octasA lengthDigits l) (16 * octasB lengthDigits l));
+  a = bytesIn (digitsAt l windowsAt (16 * octasA lengthDigits l));
+  b = bytesIn (digitsAt l (windowsAt + 16 * octasA lengthDigits l) (16 * octasB lengthDigits l));
 }
 
 -- ---- THEOREM: each is the other's

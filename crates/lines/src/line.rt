@@ -1,17 +1,21 @@
 // A line held against the form of a point's line, in which '#' stands for a digit and any other byte for itself.
 ghost use mathlib.Core.Path.{_≡_};
-ghost use mathlib.Core.Bool.{true};
 ghost use mathlib.Core.List.{List, [], _∷_, _++_};
 ghost use Prim.Native.Nat.{ℕ, _≤_, _<_, _^_};
 ghost use lib.ListN.{replicate};
 ghost use Rattle.lines.specs.Line.{mark, fitsByte, hexAt, isForm, isPoint};
 ghost use Rattle.lines.specs.Met.{met};
 
-/// Digits of a state: two for each of the 2,328 bytes of its image.
-const STATE_DIGITS: usize = 2 * 2328;
+/// Bytes of a state image, and of the largest window.
+const IMAGE_LEN: usize = 2328;
+
+const WINDOW_MAX: u64 = 65536;
+
+/// Digits of a state: two a byte.
+const STATE_DIGITS: usize = 2 * IMAGE_LEN;
 
 /// The largest window, in octabytes.
-const OCTAS_MAX: u64 = 8192;
+const OCTAS_MAX: u64 = WINDOW_MAX / 8;
 
 /// Digits of a window's length.
 const LENGTH_DIGITS: usize = 4;
