@@ -2,13 +2,14 @@
 use mathlib.Core.Path.{_≡_, refl, sym, ap, _∙_}
 use mathlib.Core.List.{List, [], _∷_, _++_, append-assoc}
 use mathlib.Core.Logic.{_⊎_, inl, inr}
-use Prim.Native.Nat.{ℕ, zero, suc, _+_, _≤_, _<_}
+use Prim.Native.Nat.{ℕ, zero, suc, _+_, _-_, _≤_, _<_}
 use native.Mathlib.Numerals.{add-one}
 use native.Mathlib.Omega.{arith}
 use lib.ListN.{length, getD, take, drop, set, length-drop}
 use lib.Seq.{sets, sets-eq, ext-getD, length-take-le, getD-take, getD-drop, drop-drop, take-suc, take-suc-set, take-all}
 use Rattle.model.specs.Octa.{part, written}
-use Rattle.model.proofs.Octa.{part-cong, written-below, written-above, part-written, written-nil, written-sets}
+use Rattle.model.proofs.Fill.{lt-or-le}
+use Rattle.model.proofs.Octa.{part-cong, length-written, written-below, written-above, part-written, written-nil, written-sets}
 use Rattle.model.proofs.Bytes.{getD-part, written-append}
 
 -- ---- a part
@@ -46,6 +47,21 @@ pub part-inside : (l : List ℕ) (o : ℕ) (vs : List ℕ) (i n p : ℕ) → o +
 part-inside l o vs i n p h m e = part-same n (written l o vs) vs p i (λ j b.
     let q : p + j ≡ o + (i + j) = omega arith in
     ap (λ (k : ℕ). getD (written l o vs) k 0) q ∙ written-inside l o vs (i + j) h (omega arith))
+
+-- what stands there already changes nothing
+pub written-again : (l : List ℕ) (o : ℕ) (vs : List ℕ) → o + length vs ≤ length l → part l o (length vs) ≡ vs → written l o vs ≡ l
+written-again l o vs h e = ext-getD 0 (written l o vs) l (length-written l o vs) (λ i m. at i (lt-or-le i o) (lt-or-le i (o + length vs)))
+  where
+    at : (i : ℕ) → (i < o) ⊎ (o ≤ i) → (i < o + length vs) ⊎ (o + length vs ≤ i) → getD (written l o vs) i 0 ≡ getD l i 0
+    at i (inl a) b = written-below l o vs i a
+    at i (inr a) (inr b) = written-above l o vs i b
+    at i (inr a) (inl b) =
+        let q : i ≡ o + (i - o) = omega arith in
+        ap (λ (k : ℕ). getD (written l o vs) k 0) q
+        ∙ written-inside l o vs (i - o) h (omega arith)
+        ∙ ap (λ (k : List ℕ). getD k (i - o) 0) (sym e)
+        ∙ getD-part l o (length vs) (i - o) (omega arith)
+        ∙ ap (λ (k : ℕ). getD l k 0) (sym q)
 
 -- ---- of a lent slice
 

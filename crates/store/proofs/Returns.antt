@@ -23,13 +23,13 @@ use Rattle.store.proofs.Answers.{image-long, lent-fits, same-shape, two
 -- ---- a point that was taken
 
 -- what each test found
-record Passed (s : List ℕ) (k : ℕ) (p : Point) : Type 0 where
-  image-is : (isImage (p .image) && admissible (stateOf (p .image))) ≡ true
-  ruled-is : unruledBy (shapesIn p) ≡ 0
-  long : storeLength ≤ length s
-  named : k < pointCount
+pub record Passed (s : List ℕ) (k : ℕ) (p : Point) : Type 0 where
+  pub image-is : (isImage (p .image) && admissible (stateOf (p .image))) ≡ true
+  pub ruled-is : unruledBy (shapesIn p) ≡ 0
+  pub long : storeLength ≤ length s
+  pub named : k < pointCount
 
-passed : (s : List ℕ) (k : ℕ) (p : Point) → takeReply s k p ≡ 0 → Passed s k p
+pub passed : (s : List ℕ) (k : ℕ) (p : Point) → takeReply s k p ≡ 0 → Passed s k p
 unfolding takeReply fromTwo
 passed s k p =
     on P (isImage (p .image) && admissible (stateOf (p .image)))
@@ -45,7 +45,7 @@ passed s k p =
     none : eqb (unruledBy (shapesIn p)) 0 ≡ false → unruledBy (shapesIn p) ≡ 0 → ⊥
     none b h = eqb-false _ _ b h
 
-fits : (s : List ℕ) (k : ℕ) (p : Point) → Passed s k p → Fits p
+pub fits : (s : List ℕ) (k : ℕ) (p : Point) → Passed s k p → Fits p
 fits s k p g = lent-fits p (image-long (p .image) (g .image-is)) 0 (sym (g .ruled-is)) refl
 
 -- ---- one call

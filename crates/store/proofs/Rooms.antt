@@ -9,7 +9,7 @@ use lib.ListN.{length, getD}
 use Rattle.model.specs.Octa.{part, written, valueOf}
 use Rattle.model.specs.Kept.{imageLength, Point, Fits}
 use Rattle.model.proofs.Octa.{length-written, written-below, written-above, part-written, value-bytes}
-use Rattle.model.proofs.Slices.{part-apart, part-inside}
+use Rattle.model.proofs.Slices.{part-apart, part-inside, written-again}
 use Rattle.machine.specs.Octabytes.{flat}
 use Rattle.machine.proofs.OctabyteRuns.{length-flat}
 use Rattle.image.proofs.RoundTrips.{part-flat}
@@ -98,6 +98,13 @@ module _ (r : List ℕ) (p : Point) where
     unfolding filled
     b-back = part-written w3 bAt (p .b) (omega (arith, l3, g .long-b))
 
+    numbers-back : part (filled r p) numbersAt (length (flat (numbersOf p))) ≡ flat (numbersOf p)
+    unfolding filled
+    numbers-back =
+        part-apart w3 bAt (p .b) numbersAt _ (inl (omega (arith, forty p)))
+        ∙ part-apart w2 aAt (p .a) numbersAt _ (inl (omega (arith, forty p)))
+        ∙ part-written w1 numbersAt (flat (numbersOf p)) (omega (arith, forty p, l1))
+
     octas-a : 8 * numberAt (filled r p) 2 ≡ length (p .a)
     unfolding numbersOf
     octas-a = ap (λ (n : ℕ). 8 * n) (number-back 2 (omega arith) (omega (arith, g .long-a, g .whole-a))) ∙ g .whole-a
@@ -119,3 +126,19 @@ module _ (r : List ℕ) (p : Point) where
     pub taken-back : isTaken (filled r p) ≡ true
     unfolding isTaken numbersOf
     taken-back = rw (number-back 4 (omega arith) (omega arith))
+
+-- filled with the same point again it is as it was
+pub filled-again : (r : List ℕ) (p : Point) → length r ≡ roomLength → Fits p → filled (filled r p) p ≡ filled r p
+unfolding filled
+filled-again r p h g =
+    let n : length (filled r p) ≡ roomLength = length-filled r p ∙ h in
+    let e₁ : written (filled r p) 0 (p .image) ≡ filled r p
+    = written-again (filled r p) 0 (p .image) (omega (arith, n, g .image-long)) (ap (part (filled r p) 0) (g .image-long) ∙ image-back r p h g) in
+    let e₂ : written (filled r p) numbersAt (flat (numbersOf p)) ≡ filled r p
+    = written-again (filled r p) numbersAt (flat (numbersOf p)) (omega (arith, n, forty p)) (numbers-back r p h g) in
+    let e₃ : written (filled r p) aAt (p .a) ≡ filled r p = written-again (filled r p) aAt (p .a) (omega (arith, n, g .long-a)) (a-back r p h g) in
+    let e₄ : written (filled r p) bAt (p .b) ≡ filled r p = written-again (filled r p) bAt (p .b) (omega (arith, n, g .long-b)) (b-back r p h g) in
+    ap (λ (l : List ℕ). written (written (written l numbersAt (flat (numbersOf p))) aAt (p .a)) bAt (p .b)) e₁
+    ∙ ap (λ (l : List ℕ). written (written l aAt (p .a)) bAt (p .b)) e₂
+    ∙ ap (λ (l : List ℕ). written l bAt (p .b)) e₃
+    ∙ e₄
