@@ -7,6 +7,7 @@ use Prim.Native.Nat.{ℕ, _+_, _*_, _≤_, _<_, _^_}
 use native.Mathlib.Omega.{arith}
 use lib.ListN.{length, getD}
 use Rattle.model.specs.Octa.{part, written, valueOf}
+use Rattle.model.specs.Memory.{windowMax}
 use Rattle.model.specs.Kept.{imageLength, Point, Fits}
 use Rattle.model.proofs.Octa.{length-written, written-below, written-above, part-written, value-bytes}
 use Rattle.model.proofs.Slices.{part-apart, part-inside, written-again}
@@ -49,7 +50,7 @@ module _ (r : List ℕ) (p : Point) where
         ∙ written-above w1 numbersAt (flat (numbersOf p)) i (omega (arith, forty p))
         ∙ written-above r 0 (p .image) i (omega arith)
 
-    pub behind-b : (i : ℕ) → bAt + length (p .b) ≤ i → aAt + length (p .a) ≤ bAt → getD (filled r p) i 0 ≡ getD r i 0
+    pub behind-b : (i : ℕ) → bAt + length (p .b) ≤ i → length (p .a) ≤ windowMax → getD (filled r p) i 0 ≡ getD r i 0
     unfolding filled
     behind-b i h m =
         written-above w3 bAt (p .b) i h

@@ -4,6 +4,7 @@ use mathlib.Core.Path.{_≡_}
 use mathlib.Core.Logic.{_⊎_, _≢_}
 use mathlib.Core.List.{List, [], _∷_, _++_}
 use lib.ListN.{length, getD}
+use Rattle.model.specs.Memory.{windowMax}
 use Rattle.model.specs.Kept.{pointCount, imageLength, Point}
 use Rattle.store.specs.Store.{aAt, bAt, roomLength, storeLength, filled, roomOf, Took, GoneBack}
 
@@ -85,4 +86,4 @@ pub record Returns : Type 0 where
   pub long : (s : List ℕ) (cs : List Call) → Chain s cs → length (lastStore s cs) ≡ length s
   -- "the rest untouched": in a room that is filled, what lies behind A in its place and behind B in its
   pub rest-a : (r : List ℕ) (p : Point) → length (p .image) ≡ imageLength → (i : ℕ) → aAt + length (p .a) ≤ i → i < bAt → getD (filled r p) i 0 ≡ getD r i 0
-  pub rest-b : (r : List ℕ) (p : Point) → length (p .image) ≡ imageLength → (i : ℕ) → bAt + length (p .b) ≤ i → aAt + length (p .a) ≤ bAt → getD (filled r p) i 0 ≡ getD r i 0
+  pub rest-b : (r : List ℕ) (p : Point) → length (p .image) ≡ imageLength → (i : ℕ) → bAt + length (p .b) ≤ i → length (p .a) ≤ windowMax → getD (filled r p) i 0 ≡ getD r i 0
