@@ -1,0 +1,129 @@
+-- The theorem, from what a room gives back and from what a line tells.
+use Prim.Native.Nat.{ℕ, _+_, _*_, _≤_, _<_}
+use native.Mathlib.Omega.{arith}
+use mathlib.Core.Path.{_≡_, refl, sym, ap, _∙_}
+use mathlib.Core.Logic.{_≢_}
+use mathlib.Core.Bool.{true, cond}
+use mathlib.Core.List.{List}
+use lib.Dec.{eqb}
+use lib.ListN.{length, getD}
+use Rattle.model.specs.Octa.{part, written}
+use Rattle.model.specs.Kept.{Point, pointCount, Fits, OfBytes}
+use Rattle.model.proofs.Slices.{length-part, written-again}
+use Rattle.lines.specs.Line.{isPoint}
+use Rattle.lines.specs.PointLine.{lineOf, nameOf, Told, Read}
+use Rattle.lines.specs.PointLine as line
+use Rattle.lines.proofs.PointLine.{each-other}
+use Rattle.store.specs.Store.{roomLength, storeLength, filled, roomOf, taken, takeReply, Took}
+use Rattle.store.specs.Store as room
+use Rattle.store.proofs.Rooms.{point-back, filled-again}
+use Rattle.store.proofs.Stores.{length-room, room-same, room-other, beyond}
+use Rattle.store.proofs.Returns.{Passed, passed, fits}
+use Rattle.transfer.specs.Transfer.{lineFrom, filledBy, lineIn, storeWith, Keeps, RoomTold, LineTold, Transfers}
+
+-- ---- a room
+
+kept-point : (r : List ℕ) (p : Point) → Keeps r p → room.pointOf r ≡ p
+kept-point r p h = ap room.pointOf (h .room-is) ∙ point-back (h .before) p (h .long) (h .fits)
+
+-- filled with the point that it keeps
+kept-again : (r : List ℕ) (p : Point) → Keeps r p → filled r p ≡ r
+kept-again r p h = ap (λ (l : List ℕ). filled l p) (h .room-is) ∙ filled-again (h .before) p (h .long) (h .fits) ∙ sym (h .room-is)
+
+of-room : (k : ℕ) (r : List ℕ) (p : Point) → k < pointCount → Keeps r p → RoomTold k r p
+unfolding lineFrom filledBy
+of-room k r p b h =
+    let e : room.pointOf r ≡ p = kept-point r p h in
+    let t : Told k p = each-other .of-point k p b (h .fits) (h .of-bytes) in
+    let o : line.pointOf (lineOf k (room.pointOf r)) ≡ p = ap (λ (q : Point). line.pointOf (lineOf k q)) e ∙ t .point-is in
+    record {
+      is-kept = e;
+      line-good = ap (λ (q : Point). isPoint (lineOf k q)) e ∙ t .line-good;
+      name-is = ap (λ (q : Point). nameOf (lineOf k q)) e ∙ t .name-is;
+      point-is = o ∙ sym e;
+      room-left = ap (filled r) o ∙ kept-again r p h;
+    }
+
+put-keeps : (l r : List ℕ) → isPoint l ≡ true → length r ≡ roomLength → Keeps (filled r (line.pointOf l)) (line.pointOf l)
+put-keeps l r g n = record {
+  before = r;
+  long = n;
+  room-is = refl;
+  fits = each-other .of-line l g .point-fits;
+  of-bytes = each-other .of-line l g .of-bytes;
+}
+
+of-line : (l r : List ℕ) → isPoint l ≡ true → length r ≡ roomLength → LineTold l r
+unfolding lineFrom filledBy
+of-line l r g n =
+    let h : Keeps (filled r (line.pointOf l)) (line.pointOf l) = put-keeps l r g n in
+    let e : room.pointOf (filled r (line.pointOf l)) ≡ line.pointOf l = kept-point _ (line.pointOf l) h in
+    record { keeps = h; point-is = e; line-is = ap (lineOf (nameOf l)) e ∙ each-other .of-line l g .line-is }
+
+-- ---- a store
+
+of-take : (s : List ℕ) (k : ℕ) (p : Point) (t : List ℕ) → Took s k p 0 t → OfBytes p → Keeps (roomOf t k) p
+of-take s k p t h o =
+    let z : takeReply s k p ≡ 0 = sym (h .reply-is) in
+    let g : Passed s k p = passed s k p z in
+    let is : t ≡ taken s k p = h .store-is ∙ ap (λ (m : ℕ). cond (eqb m 0) (taken s k p) s) z in
+    record {
+      before = roomOf s k;
+      long = length-room s k;
+      room-is = ap (λ (l : List ℕ). roomOf l k) is ∙ room-same s k p (g .long) (g .named);
+      fits = fits s k p g;
+      of-bytes = o;
+    }
+
+-- a store into which the point of its own room k is taken
+taken-again : (s : List ℕ) (k : ℕ) (p : Point) → storeLength ≤ length s → k < pointCount → Keeps (roomOf s k) p → taken s k p ≡ s
+unfolding taken roomOf
+taken-again s k p n b h =
+    let e : filled (roomOf s k) p ≡ roomOf s k = kept-again (roomOf s k) p h in
+    ap (written s (k * roomLength)) e
+    ∙ written-again s (k * roomLength) (roomOf s k) (omega (arith, length-room s k)) (ap (part s (k * roomLength)) (length-room s k))
+
+-- the line of the point in room k, put into a store
+by-own-line : (s u : List ℕ) (k : ℕ) (p : Point) → k < pointCount → Keeps (roomOf s k) p → storeWith u (lineIn s k) ≡ taken u k p
+unfolding storeWith lineIn
+by-own-line s u k p b h =
+    let t : RoomTold k (roomOf s k) p = of-room k (roomOf s k) p b h in
+    ap (λ (n : ℕ). taken u n (line.pointOf (lineFrom k (roomOf s k)))) (t .name-is) ∙ ap (taken u k) (t .point-is ∙ t .is-kept)
+
+store-left : (s : List ℕ) (k : ℕ) (p : Point) → storeLength ≤ length s → k < pointCount → Keeps (roomOf s k) p → storeWith s (lineIn s k) ≡ s
+store-left s k p n b h = by-own-line s s k p b h ∙ taken-again s k p n b h
+
+line-left : (s l : List ℕ) → storeLength ≤ length s → isPoint l ≡ true → lineIn (storeWith s l) (nameOf l) ≡ l
+unfolding storeWith lineIn filledBy
+line-left s l n g =
+    ap (lineFrom (nameOf l)) (room-same s (nameOf l) (line.pointOf l) n (each-other .of-line l g .name-small))
+    ∙ of-line l (roomOf s (nameOf l)) g (length-room s (nameOf l)) .line-is
+
+moved : (s u : List ℕ) (k : ℕ) (p : Point) → storeLength ≤ length u → k < pointCount → Keeps (roomOf s k) p → Keeps (roomOf (storeWith u (lineIn s k)) k) p
+moved s u k p n b h = record {
+  before = roomOf u k;
+  long = length-room u k;
+  room-is = ap (λ (l : List ℕ). roomOf l k) (by-own-line s u k p b h) ∙ room-same u k p n b;
+  fits = h .fits;
+  of-bytes = h .of-bytes;
+}
+
+others : (s l : List ℕ) → storeLength ≤ length s → isPoint l ≡ true → (j : ℕ) → j < pointCount → j ≢ nameOf l → roomOf (storeWith s l) j ≡ roomOf s j
+unfolding storeWith
+others s l n g j b d = room-other s (nameOf l) (line.pointOf l) n (each-other .of-line l g .name-small) j b d
+
+behind : (s l : List ℕ) → storeLength ≤ length s → isPoint l ≡ true → (i : ℕ) → storeLength ≤ i → getD (storeWith s l) i 0 ≡ getD s i 0
+unfolding storeWith
+behind s l n g i b = beyond s (nameOf l) (line.pointOf l) n (each-other .of-line l g .name-small) i b
+
+pub transfers : Transfers
+transfers = record {
+  of-room = of-room;
+  of-line = of-line;
+  of-take = of-take;
+  store-left = store-left;
+  line-left = line-left;
+  moved = moved;
+  others = others;
+  behind = behind;
+}
