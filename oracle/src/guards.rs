@@ -4,9 +4,10 @@
 
 use std::alloc::{self, Layout};
 use std::cell::{Cell, RefCell};
-use std::ffi::{c_int, c_void};
+use std::ffi::c_int;
 use std::{process, ptr, slice};
 
+use crate::areas::{Area, PAGE};
 use crate::case::{Case, Instruction, Kind};
 use crate::lent::{Lent, Shown};
 use crate::model::points::STORE_LEN;
@@ -14,72 +15,16 @@ use crate::state::{IMAGE_LEN, State, WINDOW_MAX};
 use crate::subject::{Aim, Found, Parts, Subject};
 
 unsafe extern "C" {
-    fn mmap(at: *mut c_void, len: usize, protection: c_int, flags: c_int, file: c_int, offset: i64) -> *mut c_void;
-    fn mprotect(at: *mut c_void, len: usize, protection: c_int) -> c_int;
-    fn munmap(at: *mut c_void, len: usize) -> c_int;
     fn signal(number: c_int, handler: extern "C" fn(c_int)) -> usize;
 }
 
-const PROT_NONE: c_int = 0;
-const PROT_READ_WRITE: c_int = 3;
-const MAP_PRIVATE_ANONYMOUS: c_int = 0x22;
 const SIGSEGV: c_int = 11;
-
-const PAGE: usize = 4096;
-const CANARY: u8 = 0xC5;
 
 /// How buffers are guarded.
 #[derive(Clone, Copy, PartialEq, Eq, Debug)]
 pub enum Guard {
     Pages,
     Heap,
-}
-
-/// Pages that may be touched between two that may not. All bytes are canaries while nothing stands here.
-struct Area {
-    start: *mut u8,
-    len: usize,
-}
-
-impl Area {
-    fn new(len: usize) -> Self {
-        let len = len.next_multiple_of(PAGE);
-        // SAFETY: a new mapping, of which the part that is opened lies between its first and its last page.
-        unsafe {
-            let all = mmap(ptr::null_mut(), len + 2 * PAGE, PROT_NONE, MAP_PRIVATE_ANONYMOUS, -1, 0);
-            let start = all.cast::<u8>().wrapping_add(PAGE);
-            let opened = mprotect(start.cast(), len, PROT_READ_WRITE);
-            assert_eq!(opened, 0, "no memory between guard pages, or pages are not of {PAGE} bytes");
-            start.write_bytes(CANARY, len);
-            Self { start, len }
-        }
-    }
-
-    /// Where `len` bytes stand, flush against an end.
-    fn place(&self, len: usize, at_end: bool) -> *mut u8 {
-        self.start.wrapping_add(if at_end { self.len - len } else { 0 })
-    }
-
-    /// Put the canaries back over `len` bytes; whether all others are as they were.
-    fn clear(&mut self, at: *mut u8, len: usize) -> bool {
-        // SAFETY: `at` and `len` lie in the area, and no reference into it is left.
-        let bytes = unsafe {
-            at.write_bytes(CANARY, len);
-            slice::from_raw_parts(self.start, self.len)
-        };
-        let whole = bytes.as_chunks::<PAGE>().0.iter().all(|page| page == &[CANARY; PAGE]);
-        if !whole {
-            unsafe { self.start.write_bytes(CANARY, self.len) };
-        }
-        whole
-    }
-}
-
-impl Drop for Area {
-    fn drop(&mut self) {
-        // SAFETY: the mapping made by `new`, to which no reference is left.
-        unsafe { munmap(self.start.wrapping_sub(PAGE).cast(), self.len + 2 * PAGE) };
-    }
 }
 
 /// What has no padding and may hold any bytes.
@@ -143,7 +88,7 @@ impl Guarded {
         self.at_end.set(at_end);
         let mut used = [0; N];
         for k in 0..N {
-            let fits = |a: &usize| !used[..k].contains(a) && buffers[k].len() <= areas[*a].len;
+            let fits = |a: &usize| !used[..k].contains(a) && buffers[k].len() <= areas[*a].len();
             used[k] = (0..areas.len()).find(fits).expect("an area that is free and long enough");
         }
         let places: [*mut u8; N] = std::array::from_fn(|k| areas[used[k]].place(buffers[k].len(), at_end));

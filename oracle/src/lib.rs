@@ -5,10 +5,10 @@
 //! - `reference`, `fetched`: the Rust's answer to a case, the model's at an added opcode, with the octabytes that it touched; to
 //!   a run, instruction by instruction.
 //! - `subject`: the functions that are compared; `model` (01 as a program) and `library` (C) offer them, and
-//!   `guards` lends each of their buffers in a guarded place.
+//!   `guards` lends each of their buffers in a guarded place (`areas`).
 //! - `compare`: one case on all sides. `shrink`: a smaller case that still differs.
 //! - `random`, `states`, `windows`, `operands`, `numbers`, `fields`, `rounds`, `chains`, `programs`, `sweep`: the cases. `starts`, `points`:
-//!   short ones. `histories`: calls on one store, answered by a ledger. `tally`, `situations`, `met`, `lendings`, `runs`: the counts.
+//!   short ones. `histories`, `ledger`: calls on one store, and what they must answer. `tally`, `situations`, `met`, `lendings`, `runs`: the counts.
 
 // The model that is compared: `model`, or a copy with a fault in it (build.rs).
 #[cfg(changed_model)]
@@ -16,6 +16,7 @@ include!(concat!(env!("OUT_DIR"), "/compared.rs"));
 #[cfg(not(changed_model))]
 pub use model as compared;
 
+mod areas;
 pub mod case;
 pub mod chains;
 pub mod compare;
@@ -23,6 +24,7 @@ pub mod fetched;
 pub mod fields;
 pub mod guards;
 pub mod histories;
+pub mod ledger;
 pub mod lendings;
 pub mod lent;
 #[cfg(feature = "library")]
