@@ -8,7 +8,7 @@ use Rattle.model.specs.Plan.{Plan}
 use Rattle.model.specs.Registers.{admissible}
 use Rattle.model.specs.Opcodes.{Arm, armOf}
 use Rattle.model.specs.NoMemory.{Said, tell}
-use Rattle.model.specs.Step.{refusalOf, unruledBy, planOf, fromThree, stepPlan, stepOf}
+use Rattle.model.specs.Step.{refusalOf, unruledBy, planOf, stepOf}
 use Rattle.model.specs.declared.State.{State}
 use Rattle.model.specs.declared.Reply.{Reply}
 use Rattle.model.proofs.Entry.{performOn, step-open}
@@ -31,9 +31,3 @@ module _ (w : Windows) (s : State) (a : admissible s ≡ true) (u : unruledBy (s
   stack-step p v g h =
       rw (step-open w s op x y z a u (ap (λ (n : Arm). refusalOf n x y z) e ∙ f) ∙ ap (λ (n : Arm). performOn w s (planOf s n op x y z)) e ∙ ap (performOn w s) g)
       (rw (guarded-open w s p a u) at h)
-
--- the same of an arm that no refusal of 3 to 5 stands before, whatever the state and the windows are
-pub stack-whole : (w : Windows) (s : State) (op x y z : ℕ) (r : Reply) (t : State) (m : Arm) → armOf op ≡ m → refusalOf m x y z ≡ 0 → (p : Plan State) (v : Windows) → planOf s m op x y z ≡ p
-    → Whole (guardedOn w s p) r t v → Whole (stepOf w s op x y z) r t v
-unfolding stepOf stepPlan fromThree guardedOn
-stack-whole w s op x y z r t m e f p v g h = rw (e, f, g) h

@@ -15,7 +15,7 @@ use Rattle.model.specs.declared.Reply.{Reply}
 use Rattle.exceptions.specs.Told.{Told}
 use Rattle.instruction.specs.StepAnswer.{Whole}
 use Rattle.instruction.specs.Arms.{branchOf, jumpOf, addressOf, goOf, callTo, pushGoOf, pushJumpOf, returnOf}
-use Rattle.instruction.proofs.ArmSteps.{told-step, stack-step, stack-whole}
+use Rattle.instruction.proofs.ArmSteps.{told-step, stack-step}
 
 -- ---- the sum, the branch
 
@@ -70,13 +70,3 @@ module _ (w : Windows) (s : State) (a : admissible s ≡ true) (u : unruledBy (s
   pub step-pop : (v : Windows) → armOf op ≡ pop → Whole (returnOf w s x y z) r t v → Whole (stepOf w s op x y z) r t v
   unfolding refusalOf planOf
   step-pop v k q = stack-step w s a u op x y z r t pop k refl _ v refl q
-
--- PUSHJ and POP, which judge themselves
-module _ (w : Windows) (s : State) (op x y z : ℕ) (r : Reply) (t : State) where
-  pub whole-push-jump : (v : Windows) → armOf op ≡ pushJump (wayOf op) → Whole (pushJumpOf w s op x y z) r t v → Whole (stepOf w s op x y z) r t v
-  unfolding refusalOf planOf
-  whole-push-jump v k q = stack-whole w s op x y z r t (pushJump (wayOf op)) k refl _ v refl q
-
-  pub whole-pop : (v : Windows) → armOf op ≡ pop → Whole (returnOf w s x y z) r t v → Whole (stepOf w s op x y z) r t v
-  unfolding refusalOf planOf
-  whole-pop v k q = stack-whole w s op x y z r t pop k refl _ v refl q

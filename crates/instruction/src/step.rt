@@ -102,8 +102,8 @@ pub(crate) fn dispatch(
     }
 }
 
-/// 1, then 2, then 22, then 3 to 5 and the instruction's own.
-fn judged(
+/// One step in place: 1, then 2, then 22, then 3 to 5 and the instruction's own.
+pub fn step(
     general: &mut [u64; 256],
     special: &mut [u64; 32],
     pc: &mut u64,
@@ -133,32 +133,4 @@ fn judged(
         return Reply::Shared;
     }
     dispatch(general, special, pc, halt, marks, a, b, at, op, x, y, z)
-}
-
-/// One step in place. PUSHJ and POP judge 1, 2 and 22 themselves, so that it is done once.
-pub fn step(
-    general: &mut [u64; 256],
-    special: &mut [u64; 32],
-    pc: &mut u64,
-    halt: &mut u64,
-    marks: u64,
-    a: &mut [u8],
-    b: &mut [u8],
-    at: Bases,
-    op: u8,
-    x: u8,
-    y: u8,
-    z: u8,
-) -> Reply
-    ensures { λ r. ⌜ Whole
-        (stepOf (lent at (now (a .entry)) (now (b .entry)))
-        (made (now (general .entry)) (now (special .entry)) (now (pc .entry)) (now (halt .entry)) marks) op x y z)
-        r (made (now (general .exit)) (now (special .exit)) (now (pc .exit)) (now (halt .exit)) marks) (lent at (now (a .exit)) (now (b .exit))) ⌝ }
-{
-    match op {
-        opcode::PUSHJ => control::push_jump(general, special, pc, marks, a, b, at, op, x, y, z),
-        opcode::PUSHJB => { control::push_jump(general, special, pc, marks, a, b, at, op, x, y, z) }
-        opcode::POP => calls::pop_to(general, special, pc, halt, marks, a, b, at, x, y, z),
-        _ => judged(general, special, pc, halt, marks, a, b, at, op, x, y, z),
-    }
 }

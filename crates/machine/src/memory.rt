@@ -199,27 +199,6 @@ fn load_piece(
     end
 }
 
-/// The registers from `from` up to, not including, `to` become the octabytes from `addr` up, piece by piece.
-fn load_pieces(
-    general: &mut [u64; 256],
-    a: &[u8],
-    b: &[u8],
-    at: Bases,
-    addr: u64,
-    from: u64,
-    to: u64,
-)
-    requires { ⌜ (from < to) × (to ≤ 256) ⌝ }
-    ensures { λ _. ⌜ now (general .exit)
-        ≡ over (λ (k : ℕ). readOcta (lent at (now (a .entry)) (now (b .entry))) (addr + 8 * (k - from))) from to (now (general .entry)) ⌝ }
-{
-    let mut i = from;
-    while i < to {
-        let place = super::number::wrapping_add(addr, 8 * (i - from));
-        i = load_piece(general, a, b, at, place, i, to);
-    }
-}
-
 /// The general registers from `from` up to, not including, `to` become the octabytes from `addr` up; there are 256, whatever `to` says.
 pub fn load_range(
     general: &mut [u64; 256],
@@ -235,10 +214,11 @@ pub fn load_range(
 {
     super::registers::of_256(*general);
     let end = super::number::least(to, 256);
-    if end <= from {
-        return;
+    let mut i = from;
+    while i < end {
+        let place = super::number::wrapping_add(addr, 8 * (i - from));
+        i = load_piece(general, a, b, at, place, i, end);
     }
-    load_pieces(general, a, b, at, addr, from, end);
 }
 
 /// The registers from `from` up go to the octabytes of the piece from `addr` up, at most to `to`; how far.
@@ -269,27 +249,6 @@ fn store_piece(
     end
 }
 
-/// The registers from `from` up to, not including, `to` go to the octabytes from `addr` up, piece by piece.
-fn store_pieces(
-    general: &[u64; 256],
-    a: &mut [u8],
-    b: &mut [u8],
-    at: Bases,
-    addr: u64,
-    from: u64,
-    to: u64,
-)
-    requires { ⌜ (from < to) × (to ≤ 256) ⌝ }
-    ensures { λ _. ⌜ lent at (now (a .exit)) (now (b .exit))
-        ≡ writtenRun (lent at (now (a .entry)) (now (b .entry))) addr (to - from) (λ (i : ℕ). getD (now (general .entry)) (from + i) 0) ⌝ }
-{
-    let mut i = from;
-    while i < to {
-        let place = super::number::wrapping_add(addr, 8 * (i - from));
-        i = store_piece(general, a, b, at, place, i, to);
-    }
-}
-
 /// They go to the octabytes from `addr` up; those in neither window go nowhere.
 pub fn store_range(
     general: &[u64; 256],
@@ -303,9 +262,11 @@ pub fn store_range(
     ensures { λ _. ⌜ lent at (now (a .exit)) (now (b .exit))
         ≡ writtenRange (lent at (now (a .entry)) (now (b .entry))) addr from to (now (general .entry)) ⌝ }
 {
+    super::registers::of_256(*general);
     let end = super::number::least(to, 256);
-    if end <= from {
-        return;
+    let mut i = from;
+    while i < end {
+        let place = super::number::wrapping_add(addr, 8 * (i - from));
+        i = store_piece(general, a, b, at, place, i, end);
     }
-    store_pieces(general, a, b, at, addr, from, end);
 }

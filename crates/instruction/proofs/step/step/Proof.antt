@@ -1,22 +1,25 @@
--- `step` meets its contract: PUSHJ and POP judge themselves, and else it is `judged`.
-use Rattle.model.specs.Opcodes.{armOf}
-use Rattle.model.specs.Parts.{made}
-use Rattle.instruction.proofs.ControlArms.{whole-push-jump, whole-pop}
+-- `step` meets its contract: 1, 2 and 22 are the three tests, and else it is the dispatch.
+use mathlib.Core.Path.{sym, _∙_}
 use borrow.Author.Needs.{needs}
+use borrow.Author.Tests.{not-true, not-false}
+use Rattle.model.specs.Parts.{made, lent}
+use Rattle.instruction.proofs.EarlyRefusals.{broken-step, shared-step, inadmissible-step}
 use Rattle.instruction.proofs.step.step.Statement.{statement}
 use Rattle.instruction.proofs.step.step.Tie as tie
 
-push-jump-requires : tie.Need-push-jump-requires
-push-jump-requires c κs = search needs
+admissible-requires : tie.Need-admissible-requires
+admissible-requires c κs = search needs
 
-push-jump-requires-2 : tie.Need-push-jump-requires-2
-push-jump-requires-2 c κs = search needs
+returns : tie.Need-returns
+returns c =
+    let start = c .before .before .before .before .before in
+    let a = start .args in
+    let w = lent (a .at) (a .a .now) (a .b .now) in
+    let s = made (a .general .now) (a .special .now) (a .pc .now) (a .halt .now) (a .marks) in
+    inadmissible-step w s (a .op) (a .x) (a .y) (a .z) (sym (c .before .admissible .ensures (a .general .now) (a .pc .now) (a .halt .now)) ∙ not-true _ (c .if1 .taken))
 
-pop-to-requires : tie.Need-pop-to-requires
-pop-to-requires c κs = search needs
-
-judged-requires : tie.Need-judged-requires
-judged-requires c κs = search needs
+windows-refusal-requires : tie.Need-windows-refusal-requires
+windows-refusal-requires c κs = search needs
 
 same-length : tie.Need-same-length
 same-length c = search needs
@@ -24,11 +27,16 @@ same-length c = search needs
 same-length-2 : tie.Need-same-length-2
 same-length-2 c = search needs
 
-returns : tie.Need-returns
-unfolding armOf
-returns c =
-    let key = c .before .before .before .before .before .before .before .before .before .before in
-    whole-push-jump _ _ _ _ _ _ _ (made _ _ _ _ _) _ (rw (key .match .keys1)) (c .before .before .before .before .push-jump .ensures _)
+returns-2 : tie.Need-returns-2
+returns-2 c =
+    let asks = c .before in
+    let passed = asks .before .before .before in
+    let start = passed .before .before .before .before .before in
+    let a = start .args in
+    let w = lent (a .at) (a .a .now) (a .b .now) in
+    let s = made (a .general .now) (a .special .now) (a .pc .now) (a .halt .now) (a .marks) in
+    broken-step w s (a .op) (a .x) (a .y) (a .z) _ (sym (passed .before .admissible .ensures (a .general .now) (a .pc .now) (a .halt .now)) ∙ not-false _ (passed .if1 .left))
+    (asks .windows-refusal .ensures) (c .if2 .taken)
 
 same-length-3 : tie.Need-same-length-3
 same-length-3 c = search needs
@@ -36,29 +44,31 @@ same-length-3 c = search needs
 same-length-4 : tie.Need-same-length-4
 same-length-4 c = search needs
 
-returns-2 : tie.Need-returns-2
-unfolding armOf
-returns-2 c =
-    let key = c .before .before .before .before .before .before .before .before .before .before in
-    whole-push-jump _ _ _ _ _ _ _ (made _ _ _ _ _) _ (rw (key .match .keys2)) (c .before .before .before .before .push-jump2 .ensures _)
+returns-3 : tie.Need-returns-3
+returns-3 c =
+    let obeys = c .before in
+    let asks = obeys .before in
+    let passed = asks .before .before .before in
+    let start = passed .before .before .before .before .before in
+    let a = start .args in
+    let w = lent (a .at) (a .a .now) (a .b .now) in
+    let s = made (a .general .now) (a .special .now) (a .pc .now) (a .halt .now) (a .marks) in
+    shared-step w s (a .op) (a .x) (a .y) (a .z) _ (sym (passed .before .admissible .ensures (a .general .now) (a .pc .now) (a .halt .now)) ∙ not-false _ (passed .if1 .left))
+    (asks .windows-refusal .ensures) (obeys .if2 .left) (c .if3 .taken)
+
+dispatch-requires : tie.Need-dispatch-requires
+dispatch-requires c κs =
+    let apart = c .before .before .before .before .before .before in
+    let asks = apart .before .before in
+    let passed = asks .before .before .before in
+    let a = passed .before .before .before .before .before .args in
+    (sym (passed .before .admissible .ensures (a .general .now) (a .pc .now) (a .halt .now)) ∙ not-false _ (passed .if1 .left), sym (asks .windows-refusal .ensures) ∙ apart .if3 .left)
 
 same-length-5 : tie.Need-same-length-5
 same-length-5 c = search needs
 
 same-length-6 : tie.Need-same-length-6
 same-length-6 c = search needs
-
-returns-3 : tie.Need-returns-3
-unfolding armOf
-returns-3 c =
-    let key = c .before .before .before .before .before .before .before in
-    whole-pop _ _ _ _ _ _ _ (made _ _ _ _ _) _ (rw (key .match .keys3)) (c .pop-to .ensures)
-
-same-length-7 : tie.Need-same-length-7
-same-length-7 c = search needs
-
-same-length-8 : tie.Need-same-length-8
-same-length-8 c = search needs
 
 returns-4 : tie.Need-returns-4
 returns-4 c = search needs
@@ -67,19 +77,16 @@ pub step-spec : {M : Type 1} → statement M
 step-spec =
     tie.close
     (tie.spec
-    push-jump-requires
-    push-jump-requires-2
-    pop-to-requires
-    judged-requires
+    admissible-requires
+    returns
+    windows-refusal-requires
     same-length
     same-length-2
-    returns
+    returns-2
     same-length-3
     same-length-4
-    returns-2
+    returns-3
+    dispatch-requires
     same-length-5
     same-length-6
-    returns-3
-    same-length-7
-    same-length-8
     returns-4)
