@@ -25,7 +25,7 @@ use Rattle.model.proofs.Runs.{octa-mod, worst-of, length-tab, look-mod}
 use Rattle.machine.specs.Octas.{readBy, writtenBy, writtenRunBy, readOcta, writtenOcta, writtenRun, lentOne, roomIn}
 use Rattle.machine.specs.Pieces.{PieceIs}
 use Rattle.machine.proofs.RegisterRanges.{over-alike}
-use Rattle.machine.proofs.RunTest.{has-room, no-room, room-has, room-offset, has-b, has-a, has-none}
+use Rattle.machine.proofs.RunTest.{room-has, room-offset, room-short, has-b, has-a, has-none, piece-b}
 
 -- ---- any memory
 
@@ -114,26 +114,26 @@ unfolding look one octaBytes
 look-is w a = refl
 
 module _ (base : ℕ) (l : List ℕ) (a : ℕ) where
-  abbrev room : ℕ
-  room = roomIn (shapeOf (lentOne base l)) a
+  abbrev there-is : Bool
+  there-is = has (shapeOf (lentOne base l)) a
 
-  pub room-fits : (room ≡ 0 → ⊥) → offset base a + 8 ≤ length l
+  pub has-fits : there-is ≡ true → offset base a + 8 ≤ length l
   unfolding has shapeOf
-  room-fits h = leb-true _ _ (has-room (shapeOf (lentOne base l)) a h)
+  has-fits h = leb-true _ _ h
 
-  pub room-read : (room ≡ 0 → ⊥) → readBy one (lentOne base l) a ≡ valueOf 0 (part l (offset base a) 8)
-  room-read h = inside-read one (lentOne base l) a (unfold one in (has-room (shapeOf (lentOne base l)) a h)) ∙ look-is (lentOne base l) a
+  pub has-read : there-is ≡ true → readBy one (lentOne base l) a ≡ valueOf 0 (part l (offset base a) 8)
+  has-read h = inside-read one (lentOne base l) a (unfold one in h) ∙ look-is (lentOne base l) a
 
-  pub none-read : room ≡ 0 → readBy one (lentOne base l) a ≡ 0
-  none-read h = outside-read one (lentOne base l) a (unfold one in (no-room (shapeOf (lentOne base l)) a h))
+  pub none-read : there-is ≡ false → readBy one (lentOne base l) a ≡ 0
+  none-read h = outside-read one (lentOne base l) a (unfold one in h)
 
-  pub room-written : (v d : ℕ) (m : List ℕ) → (room ≡ 0 → ⊥) → d ≡ offset base a → m ≡ written l d (bytesOf v) → lentOne base m ≡ writtenBy one (lentOne base l) a v
-  room-written v d m h e f =
+  pub has-written : (v d : ℕ) (m : List ℕ) → there-is ≡ true → d ≡ offset base a → m ≡ written l d (bytesOf v) → lentOne base m ≡ writtenBy one (lentOne base l) a v
+  has-written v d m h e f =
       ap (lentOne base) (f ∙ ap (λ (k : ℕ). written l k (bytesOf v)) e)
-      ∙ sym (inside-written one (lentOne base l) a v (unfold one in (has-room (shapeOf (lentOne base l)) a h)) ∙ (unfold one writeOcta in refl))
+      ∙ sym (inside-written one (lentOne base l) a v (unfold one in h) ∙ (unfold one writeOcta in refl))
 
-  pub none-written : (v : ℕ) → room ≡ 0 → lentOne base l ≡ writtenBy one (lentOne base l) a v
-  none-written v h = sym (outside-written one (lentOne base l) a v (unfold one in (no-room (shapeOf (lentOne base l)) a h)))
+  pub none-written : (v : ℕ) → there-is ≡ false → lentOne base l ≡ writtenBy one (lentOne base l) a v
+  none-written v h = sym (outside-written one (lentOne base l) a v (unfold one in h))
 
 -- octabyte j of those from x up that a window has room for, as code has it
 module _ (base : ℕ) (l : List ℕ) (x j : ℕ) (short : length l < 2 ^ 64) (h : j < roomIn (shapeOf (lentOne base l)) x) where
@@ -266,6 +266,11 @@ module _ (m : Windows) (x v : ℕ) where
 
   pub write-in-a : (w : Window) → w ≡ writtenBy one (m .a) x v → holder (shapesOf m) x ≡ 0 → record { a = w; b = m .b } ≡ writtenOcta m x v
   write-in-a w e h = ap (λ (u : Window). record { a = u; b = m .b }) e ∙ write-a m x v (in-a m x h .0) (in-a m x h .1)
+
+-- the registers from `from` to `to`, where B has room for them, are one piece
+pub whole-b : (m : Windows) (x from to : ℕ) → length (m .b .bytes) < 2 ^ 64 → from < to → to ≤ from + roomIn (shapeOf (m .b)) x → PieceIs (shapesOf m) x 1 (roomIn (shapeOf (m .b)) x)
+unfolding shapesOf shapeOf
+whole-b m x from to short some l = piece-b (shapesOf m) x (roomIn (shapeOf (m .b)) x) short (λ z. omega arith) refl (room-short (shapeOf (m .b)) x short)
 
 -- a piece as code loads and stores it, `end` at most its end
 module _ (m : Windows) (x from end h octas : ℕ) (g : List ℕ) (piece : PieceIs (shapesOf m) x h octas) (short : end ≤ from + octas) where

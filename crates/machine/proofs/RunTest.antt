@@ -1,7 +1,7 @@
 -- Laws of rooms and pieces: distances; how many octabytes from an address up lie in a window, of any length below 2^64; which window holds
 -- them; and the test of a run over two windows, piece by piece. What is read and written is in Octas.
 use mathlib.Core.Path.{_≡_, refl, sym, ap, _∙_}
-use mathlib.Core.Logic.{_≢_, ⊎-elim}
+use mathlib.Core.Logic.{_≢_, _⊎_, inl, inr, ⊎-elim}
 use mathlib.Core.Bool.{Bool, true, false, cond, _&&_, _||_}
 use mathlib.Core.List.{List}
 use Prim.Native.Nat.{ℕ, zero, suc, _+_, _-_, _*_, _/_, _%_, _^_, _≤_, _<_}
@@ -9,7 +9,7 @@ use native.Mathlib.Nat.{mod-eq-of-lt}
 use native.Mathlib.Omega.{arith}
 use lib.Dec.{ltb, eqb}
 use lib.ListN.{length}
-use borrow.Author.Tests.{le-leb, lt-leb, leb-false, ne-eqb}
+use borrow.Author.Tests.{le-leb, lt-leb, le-ltb, leb-false, ne-eqb}
 use Rattle.model.specs.Octa.{octa}
 use Rattle.model.specs.Memory.{Shape, shapeOf, offset, has, Shapes, holder, inside, ruledOne, ruled, shares}
 use Rattle.model.specs.Plan.{worst}
@@ -57,6 +57,16 @@ pub room-is : (base : ℕ) (l : List ℕ) (x at : ℕ) → at ≡ offset base x 
 unfolding roomIn shapeOf
 room-is base l x at e = rw e
 
+-- the test of one octabyte, as code has it
+module _ (base : ℕ) (l : List ℕ) (x at : ℕ) (e : at ≡ offset base x) where
+  pub fits-in : at + 8 ≤ length l → has (shapeOf (lentOne base l)) x ≡ true
+  unfolding has shapeOf
+  fits-in h = le-leb (offset base x + 8) (length l) (omega arith)
+
+  pub fits-not : length l < at + 8 → has (shapeOf (lentOne base l)) x ≡ false
+  unfolding has shapeOf
+  fits-not h = lt-leb (offset base x + 8) (length l) (omega arith)
+
 module _ (w : Shape) (x : ℕ) where
   -- there is none where the first octabyte lies outside
   pub no-room : roomIn w x ≡ 0 → has w x ≡ false
@@ -75,6 +85,10 @@ module _ (w : Shape) (x : ℕ) where
     pub room-offset : (i : ℕ) → i < roomIn w x → offset (w .from) (x + 8 * i) ≡ offset (w .from) x + 8 * i
     unfolding roomIn
     room-offset i l = offset-run i (w .from) x (omega arith)
+
+    pub room-short : 8 * roomIn w x < 2 ^ 64
+    unfolding roomIn
+    room-short = omega arith
 
     -- the first octabyte past it lies outside
     pub room-ends : 0 < roomIn w x → has w (x + 8 * roomIn w x) ≡ false
@@ -257,6 +271,28 @@ module _ (base other d : ℕ) (b : base < 2 ^ 64) (o : other < 2 ^ 64) (p : base
   pub unreached : (len : ℕ) → len ≤ d → has (record { from = base; size = len }) other ≡ false
   unfolding has
   unreached len l = rw apart-by (lt-leb (d + 8) len (omega arith))
+
+pub and-none : (t u : Bool) → u ≡ false → (t && u) ≡ false
+and-none true u e = e
+and-none false u e = refl
+
+-- the way back from one base to the other
+way-back : (a b d : ℕ) → a < 2 ^ 64 → b < 2 ^ 64 → d ≡ (b + (2 ^ 64 - a)) % 2 ^ 64 → 0 < d → (a + (2 ^ 64 - b)) % 2 ^ 64 ≡ 2 ^ 64 - d
+way-back a b d p q e l = omega arith
+
+-- two windows, each base behind the other one's end
+module _ (a b m n d r : ℕ) (p : a < 2 ^ 64) (q : b < 2 ^ 64) (ea : a % 8 ≡ 0) (eb : b % 8 ≡ 0) (e : d ≡ (b + (2 ^ 64 - a)) % 2 ^ 64) (f : r ≡ (d + (2 ^ 64 - m)) % 2 ^ 64)
+    (lm : m < 2 ^ 60) (ln : n < 2 ^ 60) (l : r ≤ 2 ^ 64 - 1 - (m + n)) where
+  past : (m ≤ d) × (d + n < 2 ^ 64)
+  past = (omega arith, omega arith)
+
+  pub are-apart : shares (record { a = record { from = a; size = m }; b = record { from = b; size = n } }) ≡ false
+  unfolding shares
+  are-apart = rw (and-none (ltb 0 n) _ (unreached a b d p q ea eb e m (past .0))) (no-second (lt-or-le 0 m))
+    where
+      no-second : (0 < m) ⊎ (m ≤ 0) → (ltb 0 m && has (record { from = b; size = n }) a) ≡ false
+      no-second (inl some) = and-none (ltb 0 m) _ (unreached b a (2 ^ 64 - d) q p eb ea (sym (way-back a b d p q e (omega (arith, past)))) n (omega (arith, past)))
+      no-second (inr none) = rw (le-ltb 0 m none)
 
 module _ (w : Shapes) where
   pub first-unruled : ruledOne (w .a) ≡ false → ruled w ≡ false

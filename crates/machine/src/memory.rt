@@ -1,12 +1,12 @@
 // The octabytes of the two lent windows, A and B, as one memory: an octabyte is B's where B holds it, else A's. A run of octabytes goes
 // piece by piece, each in one window.
 ghost use mathlib.Core.Path.{_≡_};
-ghost use Prim.Native.Nat.{ℕ, _+_, _-_, _*_, _%_, _<_, _≤_};
-ghost use mathlib.Core.Bool.{_&&_};
+ghost use Prim.Native.Nat.{ℕ, _+_, _-_, _*_, _%_, _^_, _<_, _≤_};
+ghost use mathlib.Core.Bool.{true, false, _&&_};
 ghost use lib.Dec.{ltb};
 ghost use lib.ListN.{getD};
 ghost use Rattle.model.specs.Fill.{over};
-ghost use Rattle.model.specs.Memory.{has, shapesOf, holder};
+ghost use Rattle.model.specs.Memory.{has, shapesOf, holder, shares};
 ghost use Rattle.model.specs.Plan.{worst};
 ghost use Rattle.model.specs.Step.{unruledBy, refusing};
 ghost use Rattle.model.specs.Parts.{lent};
@@ -27,10 +27,23 @@ fn reaches(len: u64, base: u64, other_len: u64, other: u64) -> bool
     requires { ⌜ (base % 8 ≡ 0) × (other % 8 ≡ 0) × (len % 8 ≡ 0) ⌝ }
     ensures { λ r. ⌜ r ≡ (ltb 0 «other_len» && has (record { from = base; size = len }) other) ⌝ }
 {
-    if other_len == 0 {
-        return false;
-    }
     if super::number::wrapping_sub(other, base) < len {
+        if other_len == 0 {
+            return false;
+        }
+        return true;
+    }
+    false
+}
+
+/// Whether two windows that obey their rules are seen to lie apart by one comparison: B's base comes behind A, and A's base behind B. Where it says no they
+/// may still lie apart.
+fn are_apart(a_len: u64, a: u64, b_len: u64, b: u64) -> bool
+    requires { ⌜ (a % 8 ≡ 0) × (b % 8 ≡ 0) × («a_len» < 2 ^ 60) × («b_len» < 2 ^ 60) ⌝ }
+    ensures { λ r. ⌜ (r ≡ true → shares (record { a = record { from = a; size = «a_len» }; b = record { from = b; size = «b_len» } }) ≡ false) ⌝ }
+{
+    let behind = super::number::wrapping_sub(super::number::wrapping_sub(b, a), a_len);
+    if behind <= 0xFFFF_FFFF_FFFF_FFFF - (a_len + b_len) {
         return true;
     }
     false
@@ -48,6 +61,9 @@ pub fn windows_refusal(a: &[u8], b: &[u8], at: Bases) -> u64
     }
     let a_len = a.len() as u64;
     let b_len = b.len() as u64;
+    if are_apart(a_len, at.a, b_len, at.b) {
+        return 0;
+    }
     if reaches(a_len, at.a, b_len, at.b) {
         return 22;
     }
@@ -61,10 +77,10 @@ pub fn windows_refusal(a: &[u8], b: &[u8], at: Bases) -> u64
 fn holder_of(a: &[u8], b: &[u8], at: Bases, addr: u64) -> u64
     ensures { λ r. ⌜ r ≡ holder (shapesOf (lent at (now (a .entry)) (now (b .entry)))) addr ⌝ }
 {
-    if super::window::room(b, at.b, addr) != 0 {
+    if super::window::holds(b, at.b, addr) {
         return 1;
     }
-    if super::window::room(a, at.a, addr) != 0 {
+    if super::window::holds(a, at.a, addr) {
         return 0;
     }
     2
@@ -199,8 +215,8 @@ fn load_piece(
     end
 }
 
-/// The general registers from `from` up to, not including, `to` become the octabytes from `addr` up; there are 256, whatever `to` says.
-pub fn load_range(
+/// The general registers from `from` up to, not including, `to` become the octabytes from `addr` up, piece by piece; there are 256, whatever `to` says.
+fn load_pieces(
     general: &mut [u64; 256],
     a: &[u8],
     b: &[u8],
@@ -219,6 +235,27 @@ pub fn load_range(
         let place = super::number::wrapping_add(addr, 8 * (i - from));
         i = load_piece(general, a, b, at, place, i, end);
     }
+}
+
+/// The general registers from `from` up to, not including, `to` become the octabytes from `addr` up; there are 256, whatever `to` says. Where B has them all it is
+/// asked once.
+pub fn load_range(
+    general: &mut [u64; 256],
+    a: &[u8],
+    b: &[u8],
+    at: Bases,
+    addr: u64,
+    from: u64,
+    to: u64,
+)
+    ensures { λ _. ⌜ now (general .exit)
+        ≡ over (λ (k : ℕ). readOcta (lent at (now (a .entry)) (now (b .entry))) (addr + 8 * (k - from))) from to (now (general .entry)) ⌝ }
+{
+    if super::window::has_room(b, at.b, addr, from, to) {
+        super::window::load_range(general, b, at.b, addr, from, to);
+        return;
+    }
+    load_pieces(general, a, b, at, addr, from, to);
 }
 
 /// The registers from `from` up go to the octabytes of the piece from `addr` up, at most to `to`; how far.
@@ -249,8 +286,8 @@ fn store_piece(
     end
 }
 
-/// They go to the octabytes from `addr` up; those in neither window go nowhere.
-pub fn store_range(
+/// The general registers from `from` up to, not including, `to` go to the octabytes from `addr` up, piece by piece; those in neither window go nowhere.
+fn store_pieces(
     general: &[u64; 256],
     a: &mut [u8],
     b: &mut [u8],
@@ -269,4 +306,24 @@ pub fn store_range(
         let place = super::number::wrapping_add(addr, 8 * (i - from));
         i = store_piece(general, a, b, at, place, i, end);
     }
+}
+
+/// They go to the octabytes from `addr` up; those in neither window go nowhere.
+pub fn store_range(
+    general: &[u64; 256],
+    a: &mut [u8],
+    b: &mut [u8],
+    at: Bases,
+    addr: u64,
+    from: u64,
+    to: u64,
+)
+    ensures { λ _. ⌜ lent at (now (a .exit)) (now (b .exit))
+        ≡ writtenRange (lent at (now (a .entry)) (now (b .entry))) addr from to (now (general .entry)) ⌝ }
+{
+    if super::window::has_room(b, at.b, addr, from, to) {
+        super::window::store_range(general, b, at.b, addr, from, to);
+        return;
+    }
+    store_pieces(general, a, b, at, addr, from, to);
 }

@@ -1,9 +1,10 @@
 // The octabytes of one lent window (memory.rs). Distances from the base wrap at 2^64, so a window may cross the end of memory.
 ghost use mathlib.Core.Path.{_≡_};
+ghost use mathlib.Core.Bool.{true};
 ghost use Prim.Native.Nat.{ℕ, _+_, _-_, _*_, _^_, _<_, _≤_};
 ghost use lib.ListN.{getD};
 ghost use Rattle.model.specs.Fill.{over};
-ghost use Rattle.model.specs.Memory.{shapeOf, ruledOne, offset, one};
+ghost use Rattle.model.specs.Memory.{shapeOf, ruledOne, offset, has, one};
 ghost use Rattle.machine.specs.Octas.{lentOne, roomIn, readBy, writtenBy, writtenRunBy};
 
 /// The longest window, in bytes.
@@ -45,11 +46,41 @@ pub fn room(window: &[u8], base: u64, addr: u64) -> u64
     (len - at) / 8
 }
 
+/// Whether the octabyte that `addr` names lies in the window.
+pub fn holds(window: &[u8], base: u64, addr: u64) -> bool
+    ensures { λ r. ⌜ r ≡ has (shapeOf (lentOne base (now (window .entry)))) addr ⌝ }
+{
+    let len = window.len() as u64;
+    if len < 8 {
+        return false;
+    }
+    if distance(base, addr) <= len - 8 {
+        return true;
+    }
+    false
+}
+
+/// Whether the registers from `from` up to, not including, `to` are some of the 256 and the window has room for them from `addr` up.
+pub(crate) fn has_room(window: &[u8], base: u64, addr: u64, from: u64, to: u64) -> bool
+    ensures { λ r. ⌜ (r ≡ true → (from < to) × (to ≤ 256) × (to ≤ from + roomIn (shapeOf (lentOne base (now (window .entry)))) addr)) ⌝ }
+{
+    if to <= from {
+        return false;
+    }
+    if 256 < to {
+        return false;
+    }
+    if to - from <= room(window, base, addr) {
+        return true;
+    }
+    false
+}
+
 /// The octabyte that `addr` names, or 0 where it lies outside the window.
 pub fn read_octa(window: &[u8], base: u64, addr: u64) -> u64
     ensures { λ r. ⌜ r ≡ readBy one (lentOne base (now (window .entry))) addr ⌝ }
 {
-    if room(window, base, addr) == 0 {
+    if !holds(window, base, addr) {
         return 0;
     }
     let at = distance(base, addr) as usize;
@@ -60,7 +91,7 @@ pub fn read_octa(window: &[u8], base: u64, addr: u64) -> u64
 pub fn write_octa(window: &mut [u8], base: u64, addr: u64, v: u64)
     ensures { λ _. ⌜ lentOne base (now (window .exit)) ≡ writtenBy one (lentOne base (now (window .entry))) addr v ⌝ }
 {
-    if room(window, base, addr) == 0 {
+    if !holds(window, base, addr) {
         return;
     }
     let at = distance(base, addr) as usize;

@@ -1,85 +1,33 @@
--- `load_range` meets its contract. The loop's invariant: the registers below i are loaded; those past the 256th are none.
-use mathlib.Core.Path.{_≡_, ap, sym, _∙_}
-use Prim.Native.Nat.{ℕ, _+_, _-_, _*_, _%_, _^_, _≤_, max}
+-- `load_range` meets its contract: where B has room for all they are one piece.
+use mathlib.Core.Path.{_∙_, refl}
 use native.Mathlib.Omega.{arith}
-use Rattle.model.specs.Fill.{over}
 use Rattle.model.specs.Parts.{lent}
-use Rattle.model.proofs.Fill.{over-none, over-end}
-use Rattle.machine.specs.Octas.{readOcta}
-use Rattle.machine.proofs.Octas.{alike-at}
-use Rattle.machine.proofs.RegisterRanges.{over-joined, over-cut}
+use Rattle.machine.proofs.Octas.{load-b, whole-b}
 use borrow.Author.Needs.{needs}
 use Rattle.machine.proofs.memory.load_range.Statement.{statement}
 use Rattle.machine.proofs.memory.load_range.Tie as tie
 
-abbrev Inv-loop : tie.InvT-loop
-Inv-loop general₀ a b at addr from to end i₀ general i =
-    (general ≡ over (λ (k : ℕ). readOcta (lent at a b) (addr + 8 * (k - from))) from i general₀) × (from ≤ i) × (i ≤ max from end)
+has-room-requires : tie.Need-has-room-requires
+has-room-requires c κs = search needs
 
-abbrev μ-loop : tie.MeasureT-loop
-μ-loop general₀ a b at addr from to end i₀ general i = end - i
+load-range-requires : tie.Need-load-range-requires
+load-range-requires c κs = c .before .before .has-room .ensures (c .before .if1 .taken)
 
-of-256-requires : tie.Need-of-256-requires Inv-loop μ-loop
-of-256-requires c κs = search needs
-
-least-requires : tie.Need-least-requires Inv-loop μ-loop
-least-requires c κs = search needs
-
-loop-holds : tie.Need-loop-holds Inv-loop μ-loop
-loop-holds c = (sym (over-none _ _ _ _ (omega arith)), omega arith, omega arith)
-
-sub-wrapping-add : tie.Need-sub-wrapping-add Inv-loop μ-loop
-sub-wrapping-add c = omega arith
-
-mul-wrapping-add : tie.Need-mul-wrapping-add Inv-loop μ-loop
-mul-wrapping-add c = omega arith
-
-wrapping-add-requires : tie.Need-wrapping-add-requires Inv-loop μ-loop
-wrapping-add-requires c κs = search needs
-
-load-piece-requires : tie.Need-load-piece-requires Inv-loop μ-loop
-load-piece-requires c κs = (omega arith, omega (arith, c .before .before .before .before .least .ensures))
-
-loop-less : tie.Need-loop-less Inv-loop μ-loop
-loop-less c = omega (arith, c .load-piece .ensures .1)
-
-loop-again : tie.Need-loop-again Inv-loop μ-loop
-loop-again c =
-    let sum = c .before .before in
-    let at-loop = sum .before .before in
-    let a = at-loop .before .before .before .before .before .before .args in
-    let m = lent (a .at) (a .a .now) (a .b .now) in
-    let i = at-loop .loop .i in
-    let f : ℕ → ℕ = λ k. readOcta m (a .addr + 8 * (k - a .from)) in
-    let here : sum .wrapping-add .result % 2 ^ 64 ≡ (a .addr + 8 * (i - a .from)) % 2 ^ 64 = omega (arith, sum .wrapping-add .ensures) in (
-      c .load-piece .ensures .0 ∙ rw (at-loop .loop .inv .0)
-          (over-joined f _ (a .from) i _ (a .general .now) (at-loop .loop .inv .1) (omega (arith, c .load-piece .ensures .1)) (λ k p q. alike-at m (a .addr) _ (a .from) i k (at-loop .loop .inv .1) p here)),
-      omega (arith, c .load-piece .ensures .1, at-loop .loop .inv .1),
-      omega (arith, c .load-piece .ensures .2),
-    )
-
-returns : tie.Need-returns Inv-loop μ-loop
+returns : tie.Need-returns
 returns c =
-    let a = c .before .before .before .before .before .before .before .args in
-    let f : ℕ → ℕ = λ k. readOcta (lent (a .at) (a .a .now) (a .b .now)) (a .addr + 8 * (k - a .from)) in
-    c .before .loop .inv .0
-    ∙ over-end _ _ _ _ _ (omega arith) (omega arith) (omega arith)
-    ∙ ap (λ (n : ℕ). over f (a .from) n (a .general .now)) (c .before .before .least .ensures)
-    ∙ over-cut f (a .from) (a .to) 256 (a .general .now) (omega arith)
+    let room = c .before .before .before in
+    let a = room .before .before .before .args in
+    let held = room .has-room .ensures (c .before .before .if1 .taken) in
+    c .load-range .ensures
+    ∙ load-b (lent (a .at) (a .a .now) (a .b .now)) (a .addr) (a .from) (a .to) 1 _ (a .general .now) (whole-b (lent (a .at) (a .a .now) (a .b .now)) (a .addr) (a .from) (a .to) (omega arith) (held .0) (held .2)) (held .2) refl
+
+load-pieces-requires : tie.Need-load-pieces-requires
+load-pieces-requires c κs = search needs
+
+returns-2 : tie.Need-returns-2
+returns-2 c = search needs
 
 pub load-range-spec : {M : Type 1} → statement M
 load-range-spec =
     tie.close
-    (tie.spec
-    Inv-loop
-    μ-loop
-    of-256-requires
-    least-requires
-    loop-holds
-    sub-wrapping-add
-    mul-wrapping-add
-    wrapping-add-requires
-    load-piece-requires
-    loop-less
-    loop-again
-    returns)
+    (tie.spec has-room-requires load-range-requires returns load-pieces-requires returns-2)

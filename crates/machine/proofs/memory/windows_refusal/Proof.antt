@@ -24,13 +24,13 @@ unfolding shapesOf
 returns-2 c =
     sym (unruled-two _ (second-unruled _ (granted _ _ (c .before .before .before .is-ruled .ensures) (c .before .before .if1 .left)) (denied _ _ (c .before .is-ruled2 .ensures) (c .if2 .taken))))
 
-reaches-requires : tie.Need-reaches-requires
+are-apart-requires : tie.Need-are-apart-requires
 unfolding shapesOf shapeOf
-reaches-requires c κs =
+are-apart-requires c κs =
     let second = c in
     let first = second .before .before in
     let good = both-ruled _ (granted _ _ (first .before .is-ruled .ensures) (first .if1 .left)) (granted _ _ (second .before .is-ruled2 .ensures) (second .if2 .left)) in
-    (ruled-a _ good .base-aligned, ruled-b _ good .base-aligned, ruled-a _ good .size-octas)
+    (ruled-a _ good .base-aligned, ruled-b _ good .base-aligned, ruled-a _ good .size-most, ruled-b _ good .size-most)
 
 returns-3 : tie.Need-returns-3
 unfolding shapesOf shapeOf
@@ -38,15 +38,15 @@ returns-3 c =
     let second = c .before .before in
     let first = second .before .before in
     let good = both-ruled _ (granted _ _ (first .before .is-ruled .ensures) (first .if1 .left)) (granted _ _ (second .before .is-ruled2 .ensures) (second .if2 .left)) in
-    sym (unruled-shared _ good (sym (shared-first _ _ (c .before .reaches .ensures) (c .if3 .taken))))
+    sym (none-unruled _ good (c .before .are-apart .ensures (c .if3 .taken)))
 
-reaches-requires-2 : tie.Need-reaches-requires-2
+reaches-requires : tie.Need-reaches-requires
 unfolding shapesOf shapeOf
-reaches-requires-2 c κs =
+reaches-requires c κs =
     let second = c .before .before in
     let first = second .before .before in
     let good = both-ruled _ (granted _ _ (first .before .is-ruled .ensures) (first .if1 .left)) (granted _ _ (second .before .is-ruled2 .ensures) (second .if2 .left)) in
-    (ruled-b _ good .base-aligned, ruled-a _ good .base-aligned, ruled-b _ good .size-octas)
+    (ruled-a _ good .base-aligned, ruled-b _ good .base-aligned, ruled-a _ good .size-octas)
 
 returns-4 : tie.Need-returns-4
 unfolding shapesOf shapeOf
@@ -54,17 +54,33 @@ returns-4 c =
     let second = c .before .before .before .before in
     let first = second .before .before in
     let good = both-ruled _ (granted _ _ (first .before .is-ruled .ensures) (first .if1 .left)) (granted _ _ (second .before .is-ruled2 .ensures) (second .if2 .left)) in
-    let shared = shared-second _ _ _ (c .before .before .before .reaches .ensures) (c .before .before .if3 .left) (c .before .reaches2 .ensures) in
-    sym (unruled-shared _ good (sym shared ∙ c .if4 .taken))
+    sym (unruled-shared _ good (sym (shared-first _ _ (c .before .reaches .ensures) (c .if4 .taken))))
+
+reaches-requires-2 : tie.Need-reaches-requires-2
+unfolding shapesOf shapeOf
+reaches-requires-2 c κs =
+    let second = c .before .before .before .before in
+    let first = second .before .before in
+    let good = both-ruled _ (granted _ _ (first .before .is-ruled .ensures) (first .if1 .left)) (granted _ _ (second .before .is-ruled2 .ensures) (second .if2 .left)) in
+    (ruled-b _ good .base-aligned, ruled-a _ good .base-aligned, ruled-b _ good .size-octas)
 
 returns-5 : tie.Need-returns-5
 unfolding shapesOf shapeOf
 returns-5 c =
-    let second = c .before .before .before .before in
+    let second = c .before .before .before .before .before .before in
     let first = second .before .before in
     let good = both-ruled _ (granted _ _ (first .before .is-ruled .ensures) (first .if1 .left)) (granted _ _ (second .before .is-ruled2 .ensures) (second .if2 .left)) in
-    let shared = shared-second _ _ _ (c .before .before .before .reaches .ensures) (c .before .before .if3 .left) (c .before .reaches2 .ensures) in
-    sym (none-unruled _ good (sym shared ∙ c .if4 .left))
+    let shared = shared-second _ _ _ (c .before .before .before .reaches .ensures) (c .before .before .if4 .left) (c .before .reaches2 .ensures) in
+    sym (unruled-shared _ good (sym shared ∙ c .if5 .taken))
+
+returns-6 : tie.Need-returns-6
+unfolding shapesOf shapeOf
+returns-6 c =
+    let second = c .before .before .before .before .before .before in
+    let first = second .before .before in
+    let good = both-ruled _ (granted _ _ (first .before .is-ruled .ensures) (first .if1 .left)) (granted _ _ (second .before .is-ruled2 .ensures) (second .if2 .left)) in
+    let shared = shared-second _ _ _ (c .before .before .before .reaches .ensures) (c .before .before .if4 .left) (c .before .reaches2 .ensures) in
+    sym (none-unruled _ good (sym shared ∙ c .if5 .left))
 
 pub windows-refusal-spec : {M : Type 1} → statement M
 windows-refusal-spec =
@@ -74,8 +90,10 @@ windows-refusal-spec =
     returns
     is-ruled-requires-2
     returns-2
-    reaches-requires
+    are-apart-requires
     returns-3
-    reaches-requires-2
+    reaches-requires
     returns-4
-    returns-5)
+    reaches-requires-2
+    returns-5
+    returns-6)
