@@ -11,8 +11,8 @@ use Rattle.model.specs.Trips.{wordOf}
 use Rattle.model.specs.LoadStore.{loadFrom, storeTo}
 use Rattle.model.specs.Step.{refusing}
 use Rattle.model.specs.declared.State.{State}
-use Rattle.stack.specs.GivenBack.{guardedOn}
-use Rattle.stack.specs.SaveUnsave.{unsaveOf}
+use Rattle.stack.specs.GivenBack.{onlyIf, placed}
+use Rattle.stack.specs.SaveUnsave.{unsaveIn}
 use Rattle.instruction.specs.NoMemoryArms.{arithmeticOf}
 
 -- a branch
@@ -34,9 +34,9 @@ goTo s x target = goes (setRegister s x (following s)) target
 abbrev pub goOf : State → ℕ → ℕ → ℕ → ℕ → State
 goOf s op x y z = goTo s x (sumOf s (lastOf op) y z)
 
--- the arms that touch memory judge 1, 2 and 22 themselves, as the stack does: a call of a target with the hole that x makes,
+-- the arms of the stack ask what the stack asks in place: a call of a target with the hole that x makes,
 abbrev pub callTo : Windows → State → ℕ → ℕ → Outcome State Windows
-callTo w s x target = guardedOn w s (pushFrame s (hole s x) target)
+callTo w s x target = onlyIf (placed s) w s (pushFrame s (hole s x) target)
 
 -- by PUSHGO and by PUSHJ;
 abbrev pub pushGoOf : Windows → State → ℕ → ℕ → ℕ → ℕ → Outcome State Windows
@@ -47,11 +47,11 @@ pushJumpOf w s op x y z = callTo w s x (near s (wayOf op) y z)
 
 -- and POP
 abbrev pub returnOf : Windows → State → ℕ → ℕ → ℕ → Outcome State Windows
-returnOf w s x y z = guardedOn w s (popFrame s x ((sp s rJ + 4 * yzOf y z) % 2 ^ 64))
+returnOf w s x y z = onlyIf (placed s) w s (popFrame s x ((sp s rJ + 4 * yzOf y z) % 2 ^ 64))
 
 -- UNSAVE of the context at $z
 abbrev pub unsaveAt : Windows → State → ℕ → Outcome State Windows
-unsaveAt w s z = unsaveOf w s (reg s z)
+unsaveAt w s z = unsaveIn w s (reg s z)
 
 -- a load, a store, once 1, 2 and 22 have passed
 abbrev pub carriedOut : Windows → State → Plan State → Outcome State Windows

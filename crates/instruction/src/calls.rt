@@ -1,5 +1,5 @@
 // Arms that work on the register stack's frames (control.rs: PUSHJ, PUSHGO, POP), in place: the stack moves registers and octabytes,
-// and PC is sent on where that is done. Each judges 1, 2 and 22, as the stack does.
+// and PC is sent on where that is done. State and windows are judged before the choice of the arm.
 ghost use Prim.Native.Nat.{ℕ};
 ghost use Rattle.model.specs.Parts.{made, lent};
 ghost use Rattle.instruction.specs.StepAnswer.{Whole};
@@ -14,20 +14,19 @@ pub fn push_to(
     general: &mut [u64; 256],
     special: &mut [u64; 32],
     pc: &mut u64,
-    marks: u64,
     a: &mut [u8],
     b: &mut [u8],
     at: Bases,
     x: u8,
     target: u64,
 ) -> Reply
-    ensures { λ r. ⌜ ((halt : ℕ) → Whole
+    ensures { λ r. ⌜ ((halt marks : ℕ) → Whole
         (callTo (lent at (now (a .entry)) (now (b .entry)))
         (made (now (general .entry)) (now (special .entry)) (now (pc .entry)) halt marks) x target)
         r (made (now (general .exit)) (now (special .exit)) (now (pc .exit)) halt marks) (lent at (now (a .exit)) (now (b .exit)))) ⌝ }
 {
     let from = *pc;
-    let reply = stack::frame::push_frame(general, special, from, marks, a, b, at, x);
+    let reply = stack::frame::push_frame(general, special, from, a, b, at, x);
     match reply {
         Reply::Done => {
             *pc = target;
@@ -43,7 +42,6 @@ pub fn pop_to(
     special: &mut [u64; 32],
     pc: &mut u64,
     halt: &mut u64,
-    marks: u64,
     a: &[u8],
     b: &[u8],
     at: Bases,
@@ -51,15 +49,15 @@ pub fn pop_to(
     y: u8,
     z: u8,
 ) -> Reply
-    ensures { λ r. ⌜ Whole
+    ensures { λ r. ⌜ ((marks : ℕ) → Whole
         (returnOf (lent at (now (a .entry)) (now (b .entry)))
         (made (now (general .entry)) (now (special .entry)) (now (pc .entry)) (now (halt .entry)) marks) x y z)
-        r (made (now (general .exit)) (now (special .exit)) (now (pc .exit)) (now (halt .exit)) marks) (lent at (now (a .entry)) (now (b .entry))) ⌝ }
+        r (made (now (general .exit)) (now (special .exit)) (now (pc .exit)) (now (halt .exit)) marks) (lent at (now (a .entry)) (now (b .entry)))) ⌝ }
 {
     let rj = special[State::RJ];
     let yz = 256 * (y as u16) + z as u16;
     let target = stack::pass::wrapping_add(rj, 4 * (yz as u64));
-    let found = stack::frame::pop_frame(general, special, halt, marks, a, b, at, x, yz);
+    let found = stack::frame::pop_frame(general, special, halt, a, b, at, x, yz);
     match found {
         PopFrame::Frame(to) => {
             *pc = to;

@@ -1,7 +1,8 @@
 // Arms that work on saved contexts (system.rs: SAVE, UNSAVE), in place: the stack moves registers and octabytes, and PC goes on to
-// @ + 4 where that is done. Each judges 1, 2 and 22, as the stack does.
+// @ + 4 where that is done. State and windows are judged before the choice of the arm.
+ghost use Prim.Native.Nat.{ℕ};
 ghost use Rattle.model.specs.Parts.{made, lent};
-ghost use Rattle.stack.specs.SaveUnsave.{saveOf, unsaveOf};
+ghost use Rattle.stack.specs.SaveUnsave.{saveIn, unsaveIn};
 ghost use Rattle.instruction.specs.StepAnswer.{Whole};
 use model::Bases;
 use model::Reply;
@@ -19,7 +20,7 @@ pub fn save_to(
     x: u8,
 ) -> Reply
     ensures { λ r. ⌜ Whole
-        (saveOf (lent at (now (a .entry)) (now (b .entry)))
+        (saveIn (lent at (now (a .entry)) (now (b .entry)))
         (made (now (general .entry)) (now (special .entry)) (now (pc .entry)) (now (halt .entry)) marks) x)
         r (made (now (general .exit)) (now (special .exit)) (now (pc .exit)) (now (halt .exit)) marks) (lent at (now (a .exit)) (now (b .exit))) ⌝ }
 {
@@ -39,18 +40,17 @@ pub fn unsave_from(
     special: &mut [u64; 32],
     pc: &mut u64,
     halt: &mut u64,
-    marks: u64,
     a: &[u8],
     b: &[u8],
     at: Bases,
     address: u64,
 ) -> Reply
-    ensures { λ r. ⌜ Whole
-        (unsaveOf (lent at (now (a .entry)) (now (b .entry)))
+    ensures { λ r. ⌜ ((marks : ℕ) → Whole
+        (unsaveIn (lent at (now (a .entry)) (now (b .entry)))
         (made (now (general .entry)) (now (special .entry)) (now (pc .entry)) (now (halt .entry)) marks) address)
-        r (made (now (general .exit)) (now (special .exit)) (now (pc .exit)) (now (halt .exit)) marks) (lent at (now (a .entry)) (now (b .entry))) ⌝ }
+        r (made (now (general .exit)) (now (special .exit)) (now (pc .exit)) (now (halt .exit)) marks) (lent at (now (a .entry)) (now (b .entry)))) ⌝ }
 {
-    let reply = stack::context::unsave_context(general, special, halt, marks, a, b, at, address);
+    let reply = stack::context::unsave_context(general, special, halt, a, b, at, address);
     match reply {
         Reply::Done => {
             *pc = decode::target::following(*pc);

@@ -78,7 +78,6 @@ pub(crate) fn push_go(
     general: &mut [u64; 256],
     special: &mut [u64; 32],
     pc: &mut u64,
-    marks: u64,
     a: &mut [u8],
     b: &mut [u8],
     at: Bases,
@@ -87,13 +86,13 @@ pub(crate) fn push_go(
     y: u8,
     z: u8,
 ) -> Reply
-    ensures { λ r. ⌜ ((halt : ℕ) → Whole
+    ensures { λ r. ⌜ ((halt marks : ℕ) → Whole
         (pushGoOf (lent at (now (a .entry)) (now (b .entry)))
         (made (now (general .entry)) (now (special .entry)) (now (pc .entry)) halt marks) op x y z)
         r (made (now (general .exit)) (now (special .exit)) (now (pc .exit)) halt marks) (lent at (now (a .exit)) (now (b .exit)))) ⌝ }
 {
     let target = sum(general, op, y, z);
-    calls::push_to(general, special, pc, marks, a, b, at, x, target)
+    calls::push_to(general, special, pc, a, b, at, x, target)
 }
 
 /// PUSHJ and PUSHJB.
@@ -101,7 +100,6 @@ pub(crate) fn push_jump(
     general: &mut [u64; 256],
     special: &mut [u64; 32],
     pc: &mut u64,
-    marks: u64,
     a: &mut [u8],
     b: &mut [u8],
     at: Bases,
@@ -110,11 +108,11 @@ pub(crate) fn push_jump(
     y: u8,
     z: u8,
 ) -> Reply
-    ensures { λ r. ⌜ ((halt : ℕ) → Whole
+    ensures { λ r. ⌜ ((halt marks : ℕ) → Whole
         (pushJumpOf (lent at (now (a .entry)) (now (b .entry)))
         (made (now (general .entry)) (now (special .entry)) (now (pc .entry)) halt marks) op x y z)
         r (made (now (general .exit)) (now (special .exit)) (now (pc .exit)) halt marks) (lent at (now (a .exit)) (now (b .exit)))) ⌝ }
 {
     let target = target::near(*pc, op, y, z);
-    calls::push_to(general, special, pc, marks, a, b, at, x, target)
+    calls::push_to(general, special, pc, a, b, at, x, target)
 }

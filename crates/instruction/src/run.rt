@@ -7,35 +7,36 @@ ghost use Prim.Native.Nat.{ℕ, _^_, _≤_, _<_};
 ghost use lib.ListN.{getD};
 ghost use Rattle.model.specs.Registers.{rL, admissible, isMarginal};
 ghost use Rattle.model.specs.Memory.{shapesOf, both};
-ghost use Rattle.model.specs.Numbers.{numberOf};
 ghost use Rattle.model.specs.Step.{unruledBy, claims, keepsClaim, fetchedOf, fetched, mmix};
 ghost use Rattle.model.specs.Run.{runFor, runOf};
 ghost use Rattle.model.specs.Parts.{made, lent};
-ghost use Rattle.instruction.specs.StepAnswer.{Whole, RunWhole};
+ghost use Rattle.instruction.specs.StepAnswer.{Numbered, RunNumbered};
 ghost use Rattle.instruction.specs.FetchedArms.{claimedOf, saidBy};
 use super::control;
 use super::step;
 use decode::opcode;
 use model::Bases;
-use model::Reply;
 use model::State;
 
 /// The largest grant.
 const GRANT_MOST: u64 = 1_000_000;
 
-// The numbers of the replies by which a claim is kept.
+// Numbers of replies; by the first two a claim is kept.
 const DONE: u64 = 0;
 
 const NOT_LOADED: u64 = 19;
 
+const NOT_FETCHED: u64 = 24;
+
+const GRANT_TOO_LARGE: u64 = 25;
+
 /// The holder of an octabyte that is in neither window.
 const NEITHER: u64 = 2;
 
-/// Whether a claim is kept by a reply.
-fn keeps_claim(reply: Reply) -> bool
-    ensures { λ r. ⌜ r ≡ keepsClaim (numberOf reply) ⌝ }
+/// Whether a claim is kept by a reply of this number.
+fn keeps_claim(number: u64) -> bool
+    ensures { λ r. ⌜ r ≡ keepsClaim number ⌝ }
 {
-    let number = stack::reply::number_of(reply);
     if number == DONE {
         return true;
     }
@@ -91,13 +92,13 @@ fn claimed_clear(
     x: u8,
     y: u8,
     z: u8,
-) -> Reply
+) -> u64
     requires { ⌜ (admissible (made (now general) (now special) (now pc) (now halt) marks) ≡ true)
         × (unruledBy (shapesOf (lent at (now a) (now b))) ≡ 0)
         × (claims op ≡ true)
         × (isMarginal (made (now general) (now special) (now pc) (now halt) marks) x ≡ true)
         × ((k : ℕ) → getD (now special) rL 0 ≤ k → k ≤ x → getD (now general) k 0 ≡ 0) ⌝ }
-    ensures { λ r. ⌜ Whole
+    ensures { λ r. ⌜ Numbered
         (claimedOf (lent at (now (a .entry)) (now (b .entry)))
         (made (now (general .entry)) (now (special .entry)) (now (pc .entry)) (now (halt .entry)) marks) op x y z)
         r (made (now (general .exit)) (now (special .exit)) (now (pc .exit)) (now (halt .exit)) marks) (lent at (now (a .exit)) (now (b .exit))) ⌝ }
@@ -105,12 +106,27 @@ fn claimed_clear(
     stack::pass::counted(general, special);
     let rl = special[State::RL];
     special[State::RL] = x as u64 + 1;
-    let reply = step::dispatch(general, special, pc, halt, marks, a, b, at, op, x, y, z);
-    if keeps_claim(reply) {
-        return reply;
+    let code = step::JUDGED + op as u64;
+    let number = step::stepped(
+        at.a,
+        at.b,
+        code,
+        x,
+        y,
+        z,
+        general,
+        special,
+        pc,
+        halt,
+        marks,
+        a,
+        b,
+    );
+    if keeps_claim(number) {
+        return number;
     }
     special[State::RL] = rl;
-    reply
+    number
 }
 
 /// The claim where it clears something: the general registers are kept, and put back with rL.
@@ -127,12 +143,12 @@ fn claimed_kept(
     x: u8,
     y: u8,
     z: u8,
-) -> Reply
+) -> u64
     requires { ⌜ (admissible (made (now general) (now special) (now pc) (now halt) marks) ≡ true)
         × (unruledBy (shapesOf (lent at (now a) (now b))) ≡ 0)
         × (claims op ≡ true)
         × (isMarginal (made (now general) (now special) (now pc) (now halt) marks) x ≡ true) ⌝ }
-    ensures { λ r. ⌜ Whole
+    ensures { λ r. ⌜ Numbered
         (claimedOf (lent at (now (a .entry)) (now (b .entry)))
         (made (now (general .entry)) (now (special .entry)) (now (pc .entry)) (now (halt .entry)) marks) op x y z)
         r (made (now (general .exit)) (now (special .exit)) (now (pc .exit)) (now (halt .exit)) marks) (lent at (now (a .exit)) (now (b .exit))) ⌝ }
@@ -141,13 +157,28 @@ fn claimed_kept(
     let kept = *general;
     let rl = special[State::RL];
     stack::pass::claim_local(general, special, x);
-    let reply = step::dispatch(general, special, pc, halt, marks, a, b, at, op, x, y, z);
-    if keeps_claim(reply) {
-        return reply;
+    let code = step::JUDGED + op as u64;
+    let number = step::stepped(
+        at.a,
+        at.b,
+        code,
+        x,
+        y,
+        z,
+        general,
+        special,
+        pc,
+        halt,
+        marks,
+        a,
+        b,
+    );
+    if keeps_claim(number) {
+        return number;
     }
     *general = kept;
     special[State::RL] = rl;
-    reply
+    number
 }
 
 /// An instruction that claims $x, a marginal one: claimed before the arm, and the claim taken back where it is refused by any number but 19.
@@ -164,12 +195,12 @@ fn claimed(
     x: u8,
     y: u8,
     z: u8,
-) -> Reply
+) -> u64
     requires { ⌜ (admissible (made (now general) (now special) (now pc) (now halt) marks) ≡ true)
         × (unruledBy (shapesOf (lent at (now a) (now b))) ≡ 0)
         × (claims op ≡ true)
         × (isMarginal (made (now general) (now special) (now pc) (now halt) marks) x ≡ true) ⌝ }
-    ensures { λ r. ⌜ Whole
+    ensures { λ r. ⌜ Numbered
         (claimedOf (lent at (now (a .entry)) (now (b .entry)))
         (made (now (general .entry)) (now (special .entry)) (now (pc .entry)) (now (halt .entry)) marks) op x y z)
         r (made (now (general .exit)) (now (special .exit)) (now (pc .exit)) (now (halt .exit)) marks) (lent at (now (a .exit)) (now (b .exit))) ⌝ }
@@ -192,11 +223,11 @@ fn attempt(
     b: &mut [u8],
     at: Bases,
     tetra: u64,
-) -> Reply
+) -> u64
     requires { ⌜ (admissible (made (now general) (now special) (now pc) (now halt) marks) ≡ true)
         × (unruledBy (shapesOf (lent at (now a) (now b))) ≡ 0)
         × (tetra < 2 ^ 32) ⌝ }
-    ensures { λ r. ⌜ Whole
+    ensures { λ r. ⌜ Numbered
         (saidBy (lent at (now (a .entry)) (now (b .entry)))
         (made (now (general .entry)) (now (special .entry)) (now (pc .entry)) (now (halt .entry)) marks) tetra)
         r (made (now (general .exit)) (now (special .exit)) (now (pc .exit)) (now (halt .exit)) marks) (lent at (now (a .exit)) (now (b .exit))) ⌝ }
@@ -207,12 +238,28 @@ fn attempt(
     let y = (tetra / 0x100 % 0x100) as u8;
     let z = (tetra % 0x100) as u8;
     if opcode::is_among(op, opcode::FIRST_BRANCH, opcode::LAST_BRANCH) {
-        return control::branch(general, pc, op, x, y, z);
+        control::branch(general, pc, op, x, y, z);
+        return DONE;
     }
     if is_claimed(special, op, x) {
         return claimed(general, special, pc, halt, marks, a, b, at, op, x, y, z);
     }
-    step::dispatch(general, special, pc, halt, marks, a, b, at, op, x, y, z)
+    let code = step::JUDGED + op as u64;
+    step::stepped(
+        at.a,
+        at.b,
+        code,
+        x,
+        y,
+        z,
+        general,
+        special,
+        pc,
+        halt,
+        marks,
+        a,
+        b,
+    )
 }
 
 /// One instruction at PC, once 1, 2 and 22 have passed: 24, then the instruction that the tetra there says.
@@ -225,10 +272,10 @@ fn fetched(
     a: &mut [u8],
     b: &mut [u8],
     at: Bases,
-) -> Reply
+) -> u64
     requires { ⌜ (admissible (made (now general) (now special) (now pc) (now halt) marks) ≡ true)
         × (unruledBy (shapesOf (lent at (now a) (now b))) ≡ 0) ⌝ }
-    ensures { λ r. ⌜ Whole
+    ensures { λ r. ⌜ Numbered
         (fetchedOf (lent at (now (a .entry)) (now (b .entry)))
         (made (now (general .entry)) (now (special .entry)) (now (pc .entry)) (now (halt .entry)) marks))
         r (made (now (general .exit)) (now (special .exit)) (now (pc .exit)) (now (halt .exit)) marks) (lent at (now (a .exit)) (now (b .exit))) ⌝ }
@@ -236,7 +283,7 @@ fn fetched(
     let from = *pc;
     let found = stack::pass::read_octa(a, b, at, from);
     if found.holder == NEITHER {
-        return Reply::NotFetched;
+        return NOT_FETCHED;
     }
     let v = found.value;
     let tetra = decode::operand::tetra_at(from, v);
@@ -255,10 +302,10 @@ fn turns(
     at: Bases,
     grant: u64,
     done: &mut u64,
-) -> Reply
+) -> u64
     requires { ⌜ (admissible (made (now general) (now special) (now pc) (now halt) marks) ≡ true)
         × (unruledBy (shapesOf (lent at (now a) (now b))) ≡ 0) ⌝ }
-    ensures { λ r. ⌜ RunWhole
+    ensures { λ r. ⌜ RunNumbered
         (runFor both mmix fetched grant
         (made (now (general .entry)) (now (special .entry)) (now (pc .entry)) (now (halt .entry)) marks) (lent at (now (a .entry)) (now (b .entry))))
         r (now (done .exit))
@@ -267,15 +314,15 @@ fn turns(
     stack::pass::counted(general, special);
     let mut i: u64 = 0;
     while i < grant {
-        let reply = fetched(general, special, pc, halt, marks, a, b, at);
-        if stack::reply::number_of(reply) != DONE {
+        let number = fetched(general, special, pc, halt, marks, a, b, at);
+        if number != DONE {
             *done = i;
-            return reply;
+            return number;
         }
         i += 1;
     }
     *done = i;
-    Reply::Done
+    DONE
 }
 
 /// A run in place: 1, 2, 22 and 25 judged once, in this order; then up to `grant` instructions. How many were done is written at every reply.
@@ -290,26 +337,20 @@ pub fn run(
     at: Bases,
     grant: u64,
     done: &mut u64,
-) -> Reply
-    ensures { λ r. ⌜ RunWhole
+) -> u64
+    ensures { λ r. ⌜ RunNumbered
         (runOf (lent at (now (a .entry)) (now (b .entry)))
         (made (now (general .entry)) (now (special .entry)) (now (pc .entry)) (now (halt .entry)) marks) grant)
         r (now (done .exit))
         (made (now (general .exit)) (now (special .exit)) (now (pc .exit)) (now (halt .exit)) marks) (lent at (now (a .exit)) (now (b .exit))) ⌝ }
 {
     *done = 0;
-    if !stack::pass::admissible(special, marks) {
-        return Reply::NotAdmissible;
-    }
-    let number = stack::pass::windows_refusal(a, b, at);
-    if number == 2 {
-        return Reply::WindowRule;
-    }
+    let number = stack::pass::refusal(special, marks, a, b, at);
     if number != 0 {
-        return Reply::Shared;
+        return number;
     }
     if GRANT_MOST < grant {
-        return Reply::GrantTooLarge;
+        return GRANT_TOO_LARGE;
     }
     turns(general, special, pc, halt, marks, a, b, at, grant, done)
 }

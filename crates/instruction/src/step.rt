@@ -1,11 +1,14 @@
 // One step in place: the judging of 1, 2 and 22, then the choice by opcode. The arms are in the other files.
 ghost use mathlib.Core.Path.{_≡_};
 ghost use mathlib.Core.Bool.{true};
+ghost use mathlib.Core.List.{List};
+ghost use Prim.Native.Nat.{ℕ, _%_, _≤_};
 ghost use Rattle.model.specs.Memory.{shapesOf};
 ghost use Rattle.model.specs.Registers.{admissible};
 ghost use Rattle.model.specs.Parts.{made, lent};
 ghost use Rattle.model.specs.Step.{unruledBy, stepOf};
-ghost use Rattle.instruction.specs.StepAnswer.{Whole};
+ghost use Rattle.stack.specs.GivenBack.{refusalOn};
+ghost use Rattle.instruction.specs.StepAnswer.{Whole, Numbered, judged, lentAt};
 ghost use Rattle.instruction.specs.Arms.{rangedOf};
 use super::calls;
 use super::contexts;
@@ -79,21 +82,19 @@ pub(crate) fn dispatch(
         opcode::TRAP => exceptions::trap_arm(general, special, *pc, halt, op, x, y, z),
         opcode::GO => control::go_by(general, special, pc, op, x, y, z),
         opcode::GOI => control::go_by(general, special, pc, op, x, y, z),
-        opcode::PUSHGO => control::push_go(general, special, pc, marks, a, b, at, op, x, y, z),
-        opcode::PUSHGOI => control::push_go(general, special, pc, marks, a, b, at, op, x, y, z),
+        opcode::PUSHGO => control::push_go(general, special, pc, a, b, at, op, x, y, z),
+        opcode::PUSHGOI => control::push_go(general, special, pc, a, b, at, op, x, y, z),
         opcode::JMP => control::jump(pc, op, x, y, z),
         opcode::JMPB => control::jump(pc, op, x, y, z),
-        opcode::PUSHJ => control::push_jump(general, special, pc, marks, a, b, at, op, x, y, z),
-        opcode::PUSHJB => { control::push_jump(general, special, pc, marks, a, b, at, op, x, y, z) }
+        opcode::PUSHJ => control::push_jump(general, special, pc, a, b, at, op, x, y, z),
+        opcode::PUSHJB => { control::push_jump(general, special, pc, a, b, at, op, x, y, z) }
         opcode::GETA => registers::get_address(general, special, pc, op, x, y, z),
         opcode::GETAB => registers::get_address(general, special, pc, op, x, y, z),
         opcode::PUT => system::put_register(general, special, pc, halt, x, z),
         opcode::PUTI => registers::put_value(general, special, pc, halt, x, z as u64),
-        opcode::POP => calls::pop_to(general, special, pc, halt, marks, a, b, at, x, y, z),
+        opcode::POP => calls::pop_to(general, special, pc, halt, a, b, at, x, y, z),
         opcode::SAVE => contexts::save_to(general, special, pc, halt, marks, a, b, at, x),
-        opcode::UNSAVE => {
-            system::unsave_register(general, special, pc, halt, marks, a, b, at, z)
-        }
+        opcode::UNSAVE => { system::unsave_register(general, special, pc, halt, a, b, at, z) }
         opcode::SYNC => registers::synchronize(pc, halt, x, y, z),
         opcode::SWYM => system::skip(pc),
         opcode::GET => registers::get_special(general, special, pc, x, z),
@@ -102,7 +103,59 @@ pub(crate) fn dispatch(
     }
 }
 
-/// One step in place: 1, then 2, then 22, then 3 to 5 and the instruction's own.
+/// What is added to an opcode to say that 1, 2 and 22 have passed.
+pub(crate) const JUDGED: u64 = 256;
+
+/// The number by which state or windows are refused, where they are still to be judged.
+fn refusal_of(special: &[u64; 32], marks: u64, a: &[u8], b: &[u8], at: Bases, op: u64) -> u64
+    requires { ⌜ (judged ≤ op → (general : List ℕ) (pc halt : ℕ) → refusalOn (lent at (now a) (now b)) (made general (now special) pc halt marks) ≡ 0) ⌝ }
+    ensures { λ r. ⌜ ((general : List ℕ) (pc halt : ℕ) → r
+        ≡ refusalOn (lent at (now (a .entry)) (now (b .entry))) (made general (now (special .entry)) pc halt marks)) ⌝ }
+{
+    if JUDGED <= op {
+        return 0;
+    }
+    stack::pass::refusal(special, marks, a, b, at)
+}
+
+/// One step in place: 1, then 2, then 22, unless the opcode says that they have passed; then 3 to 5 and the instruction's own. This is the one place where an
+/// arm is chosen, by a step as by a run, so that the arms stand in line. Its parameters are those of mmix_step_parts, in their order: nothing is moved to call it.
+pub(crate) fn stepped(
+    base_a: u64,
+    base_b: u64,
+    op: u64,
+    x: u8,
+    y: u8,
+    z: u8,
+    general: &mut [u64; 256],
+    special: &mut [u64; 32],
+    pc: &mut u64,
+    halt: &mut u64,
+    marks: u64,
+    a: &mut [u8],
+    b: &mut [u8],
+) -> u64
+    requires { ⌜ (judged ≤ op → refusalOn (lentAt «base_a» «base_b» (now a) (now b)) (made (now general) (now special) (now pc) (now halt) marks) ≡ 0) ⌝ }
+    ensures { λ r. ⌜ Numbered
+        (stepOf (lentAt «base_a» «base_b» (now (a .entry)) (now (b .entry)))
+        (made (now (general .entry)) (now (special .entry)) (now (pc .entry)) (now (halt .entry)) marks) (op % judged) x y z)
+        r (made (now (general .exit)) (now (special .exit)) (now (pc .exit)) (now (halt .exit)) marks)
+        (lentAt «base_a» «base_b» (now (a .exit)) (now (b .exit))) ⌝ }
+{
+    let at = Bases {
+        a: base_a,
+        b: base_b,
+    };
+    let number = refusal_of(special, marks, a, b, at, op);
+    if number != 0 {
+        return number;
+    }
+    let code = (op % JUDGED) as u8;
+    let reply = dispatch(general, special, pc, halt, marks, a, b, at, code, x, y, z);
+    stack::reply::number_of(reply)
+}
+
+/// One step in place, and the number of its reply.
 pub fn step(
     general: &mut [u64; 256],
     special: &mut [u64; 32],
@@ -116,21 +169,25 @@ pub fn step(
     x: u8,
     y: u8,
     z: u8,
-) -> Reply
-    ensures { λ r. ⌜ Whole
+) -> u64
+    ensures { λ r. ⌜ Numbered
         (stepOf (lent at (now (a .entry)) (now (b .entry)))
         (made (now (general .entry)) (now (special .entry)) (now (pc .entry)) (now (halt .entry)) marks) op x y z)
         r (made (now (general .exit)) (now (special .exit)) (now (pc .exit)) (now (halt .exit)) marks) (lent at (now (a .exit)) (now (b .exit))) ⌝ }
 {
-    if !stack::pass::admissible(special, marks) {
-        return Reply::NotAdmissible;
-    }
-    let number = stack::pass::windows_refusal(a, b, at);
-    if number == 2 {
-        return Reply::WindowRule;
-    }
-    if number != 0 {
-        return Reply::Shared;
-    }
-    dispatch(general, special, pc, halt, marks, a, b, at, op, x, y, z)
+    stepped(
+        at.a,
+        at.b,
+        op as u64,
+        x,
+        y,
+        z,
+        general,
+        special,
+        pc,
+        halt,
+        marks,
+        a,
+        b,
+    )
 }

@@ -46,17 +46,16 @@ pub(crate) fn unsave_register(
     special: &mut [u64; 32],
     pc: &mut u64,
     halt: &mut u64,
-    marks: u64,
     a: &[u8],
     b: &[u8],
     at: Bases,
     z: u8,
 ) -> Reply
-    ensures { λ r. ⌜ Whole
+    ensures { λ r. ⌜ ((marks : ℕ) → Whole
         (unsaveAt (lent at (now (a .entry)) (now (b .entry)))
         (made (now (general .entry)) (now (special .entry)) (now (pc .entry)) (now (halt .entry)) marks) z)
-        r (made (now (general .exit)) (now (special .exit)) (now (pc .exit)) (now (halt .exit)) marks) (lent at (now (a .entry)) (now (b .entry))) ⌝ }
+        r (made (now (general .exit)) (now (special .exit)) (now (pc .exit)) (now (halt .exit)) marks) (lent at (now (a .entry)) (now (b .entry)))) ⌝ }
 {
     let address = general[z as usize];
-    contexts::unsave_from(general, special, pc, halt, marks, a, b, at, address)
+    contexts::unsave_from(general, special, pc, halt, a, b, at, address)
 }

@@ -5,7 +5,7 @@ ghost use Rattle.model.specs.Step.{stepOf, exceptionOf};
 ghost use Rattle.model.specs.Numbers.{numberOf};
 ghost use Rattle.model.specs.Parts.{lent};
 ghost use Rattle.exceptions.specs.Told.{Told};
-ghost use Rattle.instruction.specs.StepAnswer.{Whole};
+ghost use Rattle.instruction.specs.StepAnswer.{Numbered};
 use model::Bases;
 use model::Reply;
 use model::State;
@@ -13,6 +13,12 @@ use model::State;
 /// A reply and the state that it leaves.
 pub struct Outcome {
     pub reply: Reply,
+    pub state: State,
+}
+
+/// The number of a step's reply and the state that it leaves.
+pub struct Stepped {
+    pub number: u64,
     pub state: State,
 }
 
@@ -78,16 +84,16 @@ pub fn step(
     x: u8,
     y: u8,
     z: u8,
-) -> Outcome
-    ensures { λ r. ⌜ Whole (stepOf (lent at (now (a .entry)) (now (b .entry))) state op x y z)
-        (r .reply) (r .state) (lent at (now (a .exit)) (now (b .exit))) ⌝ }
+) -> Stepped
+    ensures { λ r. ⌜ Numbered (stepOf (lent at (now (a .entry)) (now (b .entry))) state op x y z)
+        (r .number) (r .state) (lent at (now (a .exit)) (now (b .exit))) ⌝ }
 {
     let mut general = state.general;
     let mut special = state.special;
     let mut pc = state.pc;
     let mut halt = state.halt;
     let marks = state.marks;
-    let reply = super::step::step(
+    let number = super::step::step(
         &mut general,
         &mut special,
         &mut pc,
@@ -108,8 +114,8 @@ pub fn step(
         halt: halt,
         marks: marks,
     };
-    Outcome {
-        reply: reply,
+    Stepped {
+        number: number,
         state: next,
     }
 }

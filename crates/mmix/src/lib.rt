@@ -263,8 +263,7 @@ pub extern "C" fn mmix_step_parts(
         a: base_a,
         b: base_b,
     };
-    let reply = instruction::step::step(general, special, pc, halt, marks, a, b, at, op, x, y, z);
-    instruction::value::number_of(reply)
+    instruction::step::step(general, special, pc, halt, marks, a, b, at, op, x, y, z)
 }
 
 /// A run in place on the parts of a state, for a host that runs programs: state and windows are judged once a call.
@@ -291,8 +290,7 @@ pub extern "C" fn mmix_run_parts(
         a: base_a,
         b: base_b,
     };
-    let stopped = instruction::run::run(general, special, pc, halt, marks, a, b, at, grant, done);
-    instruction::value::number_of(stopped)
+    instruction::run::run(general, special, pc, halt, marks, a, b, at, grant, done)
 }
 
 /// One exception in place on the parts of a state.

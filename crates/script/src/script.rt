@@ -98,10 +98,9 @@ fn step(
         a: 0,
         b: State::STACK_START,
     };
-    let outcome = instruction::value::step(state, a, b, bases, i.op, i.x, i.y, i.z);
-    let reply = outcome.reply;
-    let after = outcome.state;
-    let number = instruction::value::number_of(reply);
+    let stepped = instruction::value::step(state, a, b, bases, i.op, i.x, i.y, i.z);
+    let number = stepped.number;
+    let after = stepped.state;
     let end = put_step(out, at, i, number, after);
     After {
         going: number == 0,

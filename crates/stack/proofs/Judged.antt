@@ -3,7 +3,7 @@
 -- ReaderAnswers.
 use mathlib.Core.Path.{_≡_, sym, ap, _∙_}
 use mathlib.Core.Logic.{⊎-elim, inl, inr}
-use mathlib.Core.Bool.{true, false}
+use mathlib.Core.Bool.{Bool, true, false}
 use mathlib.Core.List.{List}
 use Prim.Native.Nat.{ℕ, _≤_}
 use native.Mathlib.Omega.{arith}
@@ -18,11 +18,12 @@ use Rattle.model.specs.Numbers.{Lost, replyOf}
 use Rattle.model.specs.declared.State.{State}
 use Rattle.model.specs.declared.Reply.{Reply}
 use Rattle.model.specs.declared.Reply.the-variants.{Missing}
+use Rattle.model.proofs.Bools.{on}
 use Rattle.model.proofs.Runs.{worst-of, of-worst}
 use Rattle.model.proofs.Entry.{performOn, Inside, unruled-is}
 use Rattle.model.proofs.Entry as entry
 use Rattle.model.proofs.ArmAnswers.{worst-six}
-use Rattle.stack.specs.GivenBack.{Unruled, guardedOn}
+use Rattle.stack.specs.GivenBack.{Refused, Unruled, guardedOn, refusalOn, onlyIf}
 
 abbrev pub ended : {S : Type 0} → ℕ → S → Windows → Outcome S Windows
 ended n t v = record { reply = n; state = t; memory = v }
@@ -41,6 +42,37 @@ module _ (w : Windows) (s : State) where
   unfolding guardedOn
   guarded-open p a r = entry.guarded-open w s s p a r
 
+  -- the same by the number of both
+  pub refused-guarded : (p : Plan State) (n : ℕ) → n ≡ refusalOn w s → (n ≡ 0 → ⊥) → guardedOn w s p ≡ ended n s w
+  unfolding refusalOn
+  refused-guarded p n = on (λ (k : ℕ). n ≡ k → (n ≡ 0 → ⊥) → guardedOn w s p ≡ ended n s w) (admissible s)
+      (λ a e f. guarded-unruled p a n e f)
+      (λ a e f. guarded-one p a ∙ ap (λ (k : ℕ). ended k s w) (sym e))
+
+  pub judged-by : refusalOn w s ≡ 0 → (admissible s ≡ true) × (unruledBy (shapesOf w) ≡ 0)
+  unfolding refusalOn
+  judged-by = on (λ (k : ℕ). k ≡ 0 → (admissible s ≡ true) × (unruledBy (shapesOf w) ≡ 0)) (admissible s) (λ a e. (a, e)) (λ a e. absurd (omega arith))
+
+  pub refused-one : admissible s ≡ false → 1 ≡ refusalOn w s
+  unfolding refusalOn
+  refused-one a = rw a
+
+  pub refused-windows : admissible s ≡ true → unruledBy (shapesOf w) ≡ refusalOn w s
+  unfolding refusalOn
+  refused-windows a = rw a
+
+  -- in place
+  pub only-open : (t : Bool) (p : Plan State) → t ≡ true → onlyIf t w s p ≡ performOn w s p
+  unfolding onlyIf
+  only-open t p e = rw e
+
+  pub only-one : (t : Bool) (p : Plan State) → t ≡ false → onlyIf t w s p ≡ ended 1 s w
+  unfolding onlyIf
+  only-one t p e = rw e
+
+  pub guarded-only : (t : Bool) (p : Plan State) → refusalOn w s ≡ 0 → (admissible s ≡ true → t ≡ true) → guardedOn w s p ≡ onlyIf t w s p
+  guarded-only t p e f = let j = judged-by e in guarded-open p (j .0) (j .1) ∙ sym (only-open t p (f (j .0)))
+
   lacking : (a n : ℕ) → (Inside w a n → ⊥) → eqb (worst (refusing (shapesOf w)) a n) 0 ≡ false
   lacking a n f = ne-eqb _ _ f
 
@@ -55,6 +87,11 @@ module _ (w : Windows) (s : State) where
 pub unruled-by : (w : Windows) (n : ℕ) → n ≡ unruledBy (shapesOf w) → (n ≡ 0 → ⊥) → Unruled n
 unruled-by w n e f =
     ⊎-elim (λ z. absurd (f (e ∙ z))) (⊎-elim (λ two. inl (e ∙ two)) (λ shared. inr (e ∙ shared))) (unruled-is (shapesOf w))
+
+pub refused-by : (w : Windows) (s : State) (n : ℕ) → n ≡ refusalOn w s → (n ≡ 0 → ⊥) → Refused n
+unfolding refusalOn
+refused-by w s n =
+    on (λ (k : ℕ). n ≡ k → (n ≡ 0 → ⊥) → Refused n) (admissible s) (λ a e f. inr (unruled-by w n e f)) (λ a e f. inl e)
 
 -- the run that code judges against the one that is needed: where the longer passes the shorter does, where the shorter fails the longer does
 module _ (w : Windows) (a m n r : ℕ) where

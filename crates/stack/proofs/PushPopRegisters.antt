@@ -8,12 +8,12 @@ use Prim.Native.Nat.{ℕ, _+_, _-_, _*_, _%_, _^_, _≤_, _<_, min}
 use native.Mathlib.Nat.{eq-or-lt-of-le}
 use native.Mathlib.Omega.{arith}
 use lib.Dec.{leb, eqb}
-use lib.ListN.{length, getD, set, length-set, List·getD-eq-default}
+use lib.ListN.{length, getD, set, length-set}
 use lib.Seq.{ext-getD, getD-set-same, getD-set-other}
-use borrow.Author.Tests.{lt-ltb, le-ltb, lt-leb, le-leb, eq-eqb, ne-eqb, ltb-true}
+use borrow.Author.Tests.{lt-ltb, le-ltb, lt-leb, le-leb, eq-eqb, ne-eqb, leb-true, ltb-true}
 use Rattle.model.specs.Fill.{over, tab}
-use Rattle.model.specs.Registers.{rJ, rO, rS, rG, rL, stackStart, sp, reg, admissible, withParts, withSpecial, cleared, spilled}
-use Rattle.model.specs.Memory.{Windows, shapesOf, both}
+use Rattle.model.specs.Registers.{rJ, rO, rS, rG, rL, stackStart, sp, reg, withParts, withSpecial, cleared, spilled}
+use Rattle.model.specs.Memory.{Windows, shapesOf, holder, both}
 use Rattle.model.specs.Plan.{worst, looks, puts}
 use Rattle.model.specs.Frames.{framed, slid, slide, pushedRule, pushed, countOf, lastOutput, restored, unslide, popped, misplaced}
 use Rattle.model.specs.PopOrder.{lowered, between}
@@ -22,25 +22,30 @@ use Rattle.model.specs.Step.{refusing}
 use Rattle.model.specs.declared.State.{State}
 use Rattle.model.proofs.Fill.{lt-or-le, length-over, over-in, over-below, over-above, over-after}
 use Rattle.model.proofs.PopOrder.{first-general, then-clears}
-use Rattle.model.proofs.Bools.{and-right, granted}
+use Rattle.model.proofs.Bools.{and-left, and-right, granted}
 use Rattle.model.proofs.Memory.{both-lawful}
 use Rattle.model.proofs.Runs.{getD-looks}
-use Rattle.model.proofs.AdmissibleKept.{adm, spec-other}
+use Rattle.model.proofs.AdmissibleKept.{spec-other}
 use Rattle.machine.specs.Octas.{writtenRangeBy, readOcta, writtenOcta, writtenRange}
 use Rattle.machine.proofs.Octas.{puts-none, puts-tab, puts-run, run-read}
+use Rattle.machine.proofs.RunTest.{run-one, held-inside, held-outside}
+use Rattle.stack.specs.GivenBack.{placed}
 use Rattle.stack.specs.PushPop.{Held, Placed, bottomOf, betweenBy}
 
 -- ---- what judging gives
 
--- rG is not 0, so the list has it
-pub held-by : (s : State) → admissible s ≡ true → Held (s .special)
-held-by s a =
-    let f = adm s a in
+pub held-by : (s : State) → placed s ≡ true → rO < length (s .special) → Held (s .special)
+unfolding placed
+held-by s a n =
     record {
-      long = ⊎-elim (λ n. omega arith) (λ n. let z : sp s rG ≡ 0 = List·getD-eq-default (s .special) 0 n in absurd (omega (arith, f .g-low))) (lt-or-le rG (length (s .special)));
-      g-high = f .g-high;
-      l-g = f .l-g;
+      long = n;
+      g-high = leb-true _ _ (and-left (leb (sp s rG) 255) _ a);
+      l-g = leb-true _ _ (and-right (leb (sp s rG) 255) _ a);
     }
+
+pub held-placed : (s : State) → Held (s .special) → placed s ≡ true
+unfolding placed
+held-placed s h = rw (le-leb (sp s rG) 255 (h .g-high), le-leb (sp s rL) (sp s rG) (h .l-g))
 
 pub placed-by : (s : State) → stackStart < sp s rO → misplaced s ≡ false → Placed (s .special)
 unfolding misplaced
@@ -228,8 +233,14 @@ module _ (w : Windows) (l : List ℕ) (placed : Placed l) where
     at-hole : b ≡ getD l rO 0 - 8
     at-hole = e ∙ below (getD l rO 0) 8 (placed .above) (placed .beneath) (omega arith)
 
-    pub hole-run : (n : ℕ) → n ≡ worst (refusing (shapesOf w)) b 1 → n ≡ worst (refusing (shapesOf w)) (getD l rO 0 - 8) 1
-    hole-run n q = q ∙ ap (λ (a : ℕ). worst (refusing (shapesOf w)) a 1) at-hole
+    -- by which window holds it, 2 for neither
+    pub hole-held : (n : ℕ) → n ≡ holder (shapesOf w) b → (n ≡ 2 → ⊥) → worst (refusing (shapesOf w)) (getD l rO 0 - 8) 1 ≡ 0
+    hole-held n q f = run-one (shapesOf w) _ ∙ held-inside (shapesOf w) (getD l rO 0 - 8) (λ two. f (q ∙ ap (holder (shapesOf w)) at-hole ∙ two))
+
+    pub hole-lost : (n : ℕ) → n ≡ holder (shapesOf w) b → n ≡ 2 → worst (refusing (shapesOf w)) (getD l rO 0 - 8) 1 ≡ 0 → ⊥
+    hole-lost n q two z =
+        let six : refusing (shapesOf w) (getD l rO 0 - 8) ≡ 6 = held-outside (shapesOf w) (getD l rO 0 - 8) (sym (ap (holder (shapesOf w)) at-hole) ∙ sym q ∙ two) in
+        omega (arith, run-one (shapesOf w) (getD l rO 0 - 8))
 
     pub hole-is : (v : ℕ) → v ≡ readOcta w b → v % 256 ≡ readOcta w (getD l rO 0 - 8) % 256
     hole-is v q = ap (λ (n : ℕ). n % 256) (q ∙ ap (readOcta w) at-hole)

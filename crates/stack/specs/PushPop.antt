@@ -11,7 +11,7 @@ use Rattle.model.specs.Registers.{rJ, rO, rG, rL, stackStart, sp, admissible, g
 use Rattle.model.specs.Frames.{hole, pushFrame, noFrame, misplaced, popped, popFrame}
 use Rattle.model.specs.PopOrder.{between}
 use Rattle.model.specs.Step.{unruledBy}
-use Rattle.stack.specs.GivenBack.{guardedOn, Gives}
+use Rattle.stack.specs.GivenBack.{guardedOn, onlyIf, placed, Gives}
 use Rattle.model.specs.declared.State.{State}
 use Rattle.model.specs.declared.Reply.{Reply}
 use Rattle.stack.specs.declared.frame.PopFrame.{PopFrame}
@@ -21,6 +21,10 @@ use Rattle.stack.specs.declared.frame.PopFrame.the-variants.{Frame, NoFr
 unfoldable pub pushOf : Windows → State → ℕ → Outcome State Windows
 pushOf w s x = guardedOn w s (pushFrame s (hole s x) (s .pc))
 
+-- the same in place
+unfoldable pub pushIn : Windows → State → ℕ → Outcome State Windows
+pushIn w s x = onlyIf (placed s) w s (pushFrame s (hole s x) (s .pc))
+
 -- PUSH with x of s and w answers r and leaves t and v
 abbrev pub PushGives : Windows → State → ℕ → Reply → State → Windows → Type 0
 PushGives w s x r t v = Gives (pushOf w s x) s r t v
@@ -28,6 +32,10 @@ PushGives w s x r t v = Gives (pushOf w s x) s r t v
 -- POP with x; where it goes is the arm's business
 unfoldable pub popOf : Windows → State → ℕ → Outcome State Windows
 popOf w s x = guardedOn w s (popFrame s x (s .pc))
+
+-- the same in place
+unfoldable pub popIn : Windows → State → ℕ → Outcome State Windows
+popIn w s x = onlyIf (placed s) w s (popFrame s x (s .pc))
 
 -- "PC is rJ + 4 × YZ"
 abbrev pub returnTo : State → ℕ → ℕ
@@ -49,23 +57,15 @@ popAnswer s yz n =
     cond (eqb n 0) (cond (noFrame s) NoFrame (Frame (returnTo s yz)))
     (cond (eqb n 12) Rejected (cond (eqb n 6) Missing (cond (eqb n 1) NotAdmissible (cond (eqb n 2) WindowRule Shared))))
 
-pub record PopGives (w : Windows) (s : State) (x yz : ℕ) (r : PopFrame) (t : State) : Type 0 where
-  pub answer-is : r ≡ popAnswer s yz (popOf w s x .reply)
-  pub number-is : popNumber r ≡ popOf w s x .reply
-  pub state-is : t ≡ goes (popOf w s x .state) (s .pc)
+-- a POP of s whose outcome is o answers r and leaves t; it writes nothing
+pub record PopGives (o : Outcome State Windows) (s : State) (yz : ℕ) (r : PopFrame) (t : State) : Type 0 where
+  pub answer-is : r ≡ popAnswer s yz (o .reply)
+  pub number-is : popNumber r ≡ o .reply
+  pub state-is : t ≡ goes (o .state) (s .pc)
 
 -- ---- what the private functions go by
 
--- what has passed 1, 2, 22 and 12
-pub record Passed (w : Windows) (s : State) : Type 0 where
-  pub state-good : admissible s ≡ true
-  pub windows-good : unruledBy (shapesOf w) ≡ 0
-  pub place-good : misplaced s ≡ false
-
-abbrev pub PassedPopGives : Windows → State → ℕ → ℕ → PopFrame → State → Type 0
-PassedPopGives w s x yz r t = Passed w s → PopGives w s x yz r t
-
--- the special registers of an admissible state
+-- the special registers of a state whose rG and rL are placed
 pub record Held (special : List ℕ) : Type 0 where
   pub long : rO < length special
   pub g-high : getD special rG 0 ≤ 255

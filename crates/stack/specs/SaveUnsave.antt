@@ -8,13 +8,14 @@ use lib.ListN.{length}
 use denote.Ref.{RefT, ptr, now}
 use Rattle.model.specs.Memory.{Window, shapeOf, offset, Windows, shapesOf, inside, both}
 use Rattle.model.specs.Plan.{Outcome, perform, look}
+use Rattle.model.specs.Registers.{admissible}
 use Rattle.model.specs.Contexts.{below, saveContext, contextAt, unsaveContext, packedAt, countBelow}
 use Rattle.model.specs.Step.{refusing}
 use Rattle.model.specs.Reader.{windowOf, across, partAt, readContext, bytesIn}
 use Rattle.model.specs.Numbers.{numberOf, replyOf}
 use Rattle.model.specs.Parts.{lent}
 use Rattle.machine.specs.Octas.{roomIn}
-use Rattle.stack.specs.GivenBack.{guardedOn, Gives}
+use Rattle.stack.specs.GivenBack.{guardedOn, onlyIf, Gives}
 use Rattle.model.specs.declared.Bases.{Bases}
 use Rattle.model.specs.declared.State.{State}
 use Rattle.model.specs.declared.Reply.{Reply}
@@ -32,6 +33,13 @@ saveOf w s x = guardedOn w s (saveContext s x)
 
 unfoldable pub unsaveOf : Windows → State → ℕ → Outcome State Windows
 unsaveOf w s p = guardedOn w s (unsaveContext s p)
+
+-- the same in place
+unfoldable pub saveIn : Windows → State → ℕ → Outcome State Windows
+saveIn w s x = onlyIf (admissible s) w s (saveContext s x)
+
+unfoldable pub unsaveIn : Windows → State → ℕ → Outcome State Windows
+unsaveIn w s p = perform both (refusing (shapesOf w)) s (unsaveContext s p) w
 
 -- SAVE $x of s and w answers r and leaves t and v
 abbrev pub SaveGives : Windows → State → ℕ → Reply → State → Windows → Type 0

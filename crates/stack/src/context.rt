@@ -1,4 +1,5 @@
-// Contexts in place: SAVE and UNSAVE.
+// Contexts in place: SAVE and UNSAVE. State and windows are judged by the layer above; SAVE asks for an admissible state, since a context rests on its
+// ranges.
 ghost use mathlib.Core.Path.{_≡_};
 ghost use Prim.Native.Nat.{ℕ, _+_, _*_, _%_, _^_, _≤_, _<_};
 ghost use lib.ListN.{getD};
@@ -6,7 +7,8 @@ ghost use Rattle.model.specs.Fill.{over};
 ghost use Rattle.model.specs.Contexts.{savedSpecial, unsavedGeneral, octasOf};
 ghost use Rattle.model.specs.Parts.{made, lent};
 ghost use Rattle.machine.specs.Octas.{readOcta, writtenRun};
-ghost use Rattle.stack.specs.SaveUnsave.{SaveGives, UnsaveGives, contextSpecials};
+ghost use Rattle.stack.specs.GivenBack.{Gives};
+ghost use Rattle.stack.specs.SaveUnsave.{saveIn, unsaveIn, contextSpecials};
 ghost use Rattle.stack.specs.ContextWork.{Ranged, StoresContext, leftGeneral, leftSpecial, octasFrom, unsavedAs, loaded};
 use super::layout::AT_PACKED;
 use super::layout::AT_SPECIALS;
@@ -114,16 +116,13 @@ pub fn save_context(
     at: Bases,
     x: u8,
 ) -> Reply
-    ensures { λ r. ⌜ ((pc : ℕ) → SaveGives (lent at (now (a .entry)) (now (b .entry)))
-        (made (now (general .entry)) (now (special .entry)) pc (now (halt .entry)) marks) x r
+    ensures { λ r. ⌜ ((pc : ℕ) → Gives
+        (saveIn (lent at (now (a .entry)) (now (b .entry))) (made (now (general .entry)) (now (special .entry)) pc (now (halt .entry)) marks) x)
+        (made (now (general .entry)) (now (special .entry)) pc (now (halt .entry)) marks) r
         (made (now (general .exit)) (now (special .exit)) pc (now (halt .exit)) marks) (lent at (now (a .exit)) (now (b .exit)))) ⌝ }
 {
     if !machine::registers::admissible(special, marks) {
         return Reply::NotAdmissible;
-    }
-    let refusal = machine::memory::windows_refusal(a, b, at);
-    if refusal != 0 {
-        return super::reply::unruled(refusal);
     }
     let rg = special[State::RG];
     let rl = special[State::RL];
@@ -211,23 +210,16 @@ pub fn unsave_context(
     general: &mut [u64; 256],
     special: &mut [u64; 32],
     halt: &mut u64,
-    marks: u64,
     a: &[u8],
     b: &[u8],
     at: Bases,
     address: u64,
 ) -> Reply
-    ensures { λ r. ⌜ ((pc : ℕ) → UnsaveGives (lent at (now (a .entry)) (now (b .entry)))
-        (made (now (general .entry)) (now (special .entry)) pc (now (halt .entry)) marks) address r
-        (made (now (general .exit)) (now (special .exit)) pc (now (halt .exit)) marks)) ⌝ }
+    ensures { λ r. ⌜ ((pc marks : ℕ) → Gives
+        (unsaveIn (lent at (now (a .entry)) (now (b .entry))) (made (now (general .entry)) (now (special .entry)) pc (now (halt .entry)) marks) address)
+        (made (now (general .entry)) (now (special .entry)) pc (now (halt .entry)) marks) r
+        (made (now (general .exit)) (now (special .exit)) pc (now (halt .exit)) marks) (lent at (now (a .entry)) (now (b .entry)))) ⌝ }
 {
-    if !machine::registers::admissible(special, marks) {
-        return Reply::NotAdmissible;
-    }
-    let refusal = machine::memory::windows_refusal(a, b, at);
-    if refusal != 0 {
-        return super::reply::unruled(refusal);
-    }
     let located = super::layout::locate(a, b, at, address);
     match located {
         Located::Found(context) => {

@@ -1,9 +1,10 @@
-// Frames in place: PUSH and POP.
+// Frames in place: PUSH and POP. State and windows are judged by the layer above.
 ghost use mathlib.Core.Path.{_≡_};
 ghost use mathlib.Core.List.{List};
-ghost use Prim.Native.Nat.{ℕ, _+_, _≤_, min};
+ghost use mathlib.Core.Bool.{false};
+ghost use Prim.Native.Nat.{ℕ, _+_, _-_, _*_, _≤_, min};
 ghost use lib.ListN.{getD};
-ghost use Rattle.model.specs.Fill.{tab};
+ghost use Rattle.model.specs.Fill.{over, tab};
 ghost use Rattle.model.specs.Memory.{shapesOf, both};
 ghost use Rattle.model.specs.Plan.{worst, puts};
 ghost use Rattle.model.specs.Registers.{rO, rG, rL, sp};
@@ -12,7 +13,9 @@ ghost use Rattle.model.specs.PopOrder.{lowered};
 ghost use Rattle.model.specs.Parts.{made, lent};
 ghost use Rattle.model.specs.Step.{refusing};
 ghost use Rattle.model.specs.declared.State.{State};
-ghost use Rattle.stack.specs.PushPop.{Held, Placed, PushGives, bottomOf, betweenBy, poppedAs, PassedPopGives, PopGives};
+ghost use Rattle.machine.specs.Octas.{readOcta, writtenRange};
+ghost use Rattle.stack.specs.GivenBack.{Refused, placed, Gives};
+ghost use Rattle.stack.specs.PushPop.{popNumber, popAnswer, Held, Placed, pushIn, bottomOf, betweenBy, poppedAs, popIn, PopGives};
 use model::Bases;
 use model::Reply;
 use model::State;
@@ -35,6 +38,36 @@ pub enum PopFrame {
     Shared,
 }
 
+/// The case of a number by which state or windows are refused.
+pub(crate) fn refused(number: u64) -> PopFrame
+    requires { ⌜ Refused number ⌝ }
+    ensures { λ r. ⌜ (popNumber r ≡ number) × ((s : State) (yz : ℕ) → r ≡ popAnswer s yz number) ⌝ }
+{
+    if number == 1 {
+        return PopFrame::NotAdmissible;
+    }
+    if number == 2 {
+        return PopFrame::WindowRule;
+    }
+    PopFrame::Shared
+}
+
+/// The holder of an octabyte that is in neither window.
+const NEITHER: u64 = 2;
+
+/// Whether rG and rL are numbers of registers, in order.
+fn is_placed(rg: u64, rl: u64) -> bool
+    ensures { λ r. ⌜ ((s : State) → sp s rG ≡ rg → sp s rL ≡ rl → r ≡ placed s) ⌝ }
+{
+    if 255 < rg {
+        return false;
+    }
+    if rg < rl {
+        return false;
+    }
+    true
+}
+
 /// The hole's number.
 fn hole_of(rg: u64, rl: u64, x: u8) -> u64
     requires { ⌜ rl ≤ 255 ⌝ }
@@ -47,13 +80,35 @@ fn hole_of(rg: u64, rl: u64, x: u8) -> u64
     at
 }
 
+/// The first n general registers go to the octabytes from `addr` up; where there are none it is no call.
+fn store_locals(general: &[u64; 256], a: &mut [u8], b: &mut [u8], at: Bases, addr: u64, n: u64)
+    ensures { λ _. ⌜ lent at (now (a .exit)) (now (b .exit))
+        ≡ writtenRange (lent at (now (a .entry)) (now (b .entry))) addr 0 n (now (general .entry)) ⌝ }
+{
+    if n == 0 {
+        return;
+    }
+    machine::memory::store_range(general, a, b, at, addr, 0, n);
+}
+
+/// They become the octabytes from `addr` up.
+fn load_locals(general: &mut [u64; 256], a: &[u8], b: &[u8], at: Bases, addr: u64, n: u64)
+    ensures { λ _. ⌜ now (general .exit)
+        ≡ over (λ (k : ℕ). readOcta (lent at (now (a .entry)) (now (b .entry))) (addr + 8 * (k - 0))) 0 n (now (general .entry)) ⌝ }
+{
+    if n == 0 {
+        return;
+    }
+    machine::memory::load_range(general, a, b, at, addr, 0, n);
+}
+
 /// The frame with hole h, stored from address ro up.
 fn store_frame(general: &[u64; 256], a: &mut [u8], b: &mut [u8], at: Bases, ro: u64, h: u64)
     requires { ⌜ (h ≤ 255) × (worst (refusing (shapesOf (lent at (now a) (now b)))) ro (h + 1) ≡ 0) ⌝ }
     ensures { λ _. ⌜ ((special : List ℕ) (pc halt marks : ℕ) → lent at (now (a .exit)) (now (b .exit))
         ≡ puts both (lent at (now (a .entry)) (now (b .entry))) ro (tab 0 (h + 1) (framed (made (now (general .entry)) special pc halt marks) h))) ⌝ }
 {
-    machine::memory::store_range(general, a, b, at, ro, 0, h);
+    store_locals(general, a, b, at, ro, h);
     let addr = machine::number::wrapping_add(ro, 8 * h);
     machine::memory::write_octa(a, b, at, addr, h);
 }
@@ -83,26 +138,23 @@ pub fn push_frame(
     general: &mut [u64; 256],
     special: &mut [u64; 32],
     pc: u64,
-    marks: u64,
     a: &mut [u8],
     b: &mut [u8],
     at: Bases,
     x: u8,
 ) -> Reply
-    ensures { λ r. ⌜ ((halt : ℕ) → PushGives (lent at (now (a .entry)) (now (b .entry)))
-        (made (now (general .entry)) (now (special .entry)) pc halt marks) x r
+    ensures { λ r. ⌜ ((halt marks : ℕ) → Gives
+        (pushIn (lent at (now (a .entry)) (now (b .entry))) (made (now (general .entry)) (now (special .entry)) pc halt marks) x)
+        (made (now (general .entry)) (now (special .entry)) pc halt marks) r
         (made (now (general .exit)) (now (special .exit)) pc halt marks) (lent at (now (a .exit)) (now (b .exit)))) ⌝ }
 {
-    if !machine::registers::admissible(special, marks) {
-        return Reply::NotAdmissible;
-    }
-    let refusal = machine::memory::windows_refusal(a, b, at);
-    if refusal != 0 {
-        return super::reply::unruled(refusal);
-    }
+    machine::registers::counted(general, special);
     let rg = special[State::RG];
     let rl = special[State::RL];
     let ro = special[State::RO];
+    if !is_placed(rg, rl) {
+        return Reply::NotAdmissible;
+    }
     let h = hole_of(rg, rl, x);
     let number = machine::memory::run_refusal(a, b, at, ro, h + 1);
     if number != 0 {
@@ -163,10 +215,10 @@ fn restore(
     super::slide::slide_up(general, h + 1, low);
     if h < low {
         general[h as usize] = last;
-        machine::memory::load_range(general, a, b, at, bottom, 0, h);
+        load_locals(general, a, b, at, bottom, h);
         return;
     }
-    machine::memory::load_range(general, a, b, at, bottom, 0, low);
+    load_locals(general, a, b, at, bottom, low);
 }
 
 /// Whether rO, above the stack's start, cannot hold a frame.
@@ -207,7 +259,7 @@ fn leave(
     special[State::RS] = bottom;
 }
 
-/// POP of a state and windows that obey their rules, with rO above the stack's start and well placed.
+/// POP where rG and rL are placed, with rO above the stack's start and well placed.
 fn pop_at(
     general: &mut [u64; 256],
     special: &mut [u64; 32],
@@ -218,18 +270,19 @@ fn pop_at(
     yz: u16,
 ) -> PopFrame
     requires { ⌜ (Held (now special)) × (Placed (now special)) ⌝ }
-    ensures { λ r. ⌜ ((pc halt marks : ℕ) → PassedPopGives (lent at (now (a .entry)) (now (b .entry)))
-        (made (now (general .entry)) (now (special .entry)) pc halt marks) x yz r
+    ensures { λ r. ⌜ ((pc halt marks : ℕ) → misplaced (made (now (general .entry)) (now (special .entry)) pc halt marks) ≡ false → PopGives
+        (popIn (lent at (now (a .entry)) (now (b .entry))) (made (now (general .entry)) (now (special .entry)) pc halt marks) x)
+        (made (now (general .entry)) (now (special .entry)) pc halt marks) yz r
         (made (now (general .exit)) (now (special .exit)) pc halt marks)) ⌝ }
 {
     let ro = special[State::RO];
     let rg = special[State::RG];
     let rj = special[State::RJ];
     let below = machine::number::wrapping_sub(ro, 8);
-    if machine::memory::run_refusal(a, b, at, below, 1) != 0 {
+    let octa = machine::memory::read_octa(a, b, at, below);
+    if octa.holder == NEITHER {
         return PopFrame::Missing;
     }
-    let octa = machine::memory::read_octa(a, b, at, below);
     let h = octa.value % 256;
     let bottom = machine::number::wrapping_sub(ro, 8 * (h + 1));
     let n = machine::number::least(h, rg);
@@ -246,28 +299,24 @@ pub fn pop_frame(
     general: &mut [u64; 256],
     special: &mut [u64; 32],
     halt: &mut u64,
-    marks: u64,
     a: &[u8],
     b: &[u8],
     at: Bases,
     x: u8,
     yz: u16,
 ) -> PopFrame
-    ensures { λ r. ⌜ ((pc : ℕ) → PopGives (lent at (now (a .entry)) (now (b .entry)))
-        (made (now (general .entry)) (now (special .entry)) pc (now (halt .entry)) marks) x yz r
+    ensures { λ r. ⌜ ((pc marks : ℕ) → PopGives
+        (popIn (lent at (now (a .entry)) (now (b .entry))) (made (now (general .entry)) (now (special .entry)) pc (now (halt .entry)) marks) x)
+        (made (now (general .entry)) (now (special .entry)) pc (now (halt .entry)) marks) yz r
         (made (now (general .exit)) (now (special .exit)) pc (now (halt .exit)) marks)) ⌝ }
 {
-    if !machine::registers::admissible(special, marks) {
+    machine::registers::counted(general, special);
+    let rg = special[State::RG];
+    let rl = special[State::RL];
+    let ro = special[State::RO];
+    if !is_placed(rg, rl) {
         return PopFrame::NotAdmissible;
     }
-    let refusal = machine::memory::windows_refusal(a, b, at);
-    if refusal == 2 {
-        return PopFrame::WindowRule;
-    }
-    if refusal != 0 {
-        return PopFrame::Shared;
-    }
-    let ro = special[State::RO];
     if ro <= State::STACK_START {
         return PopFrame::NoFrame;
     }

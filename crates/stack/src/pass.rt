@@ -5,13 +5,14 @@ ghost use Prim.Native.Nat.{ℕ, _+_, _-_, _%_, _^_};
 ghost use lib.ListN.{length};
 ghost use Rattle.model.specs.Memory.{shapesOf, holder};
 ghost use Rattle.model.specs.Plan.{worst};
-ghost use Rattle.model.specs.Step.{unruledBy, refusing};
+ghost use Rattle.model.specs.Step.{refusing};
 ghost use Rattle.model.specs.Registers.{withParts, admissible, claimLocal, setRegister};
 ghost use Rattle.model.specs.Control.{isNegative};
 ghost use Rattle.model.specs.Parts.{made, lent};
 ghost use Rattle.model.specs.declared.State.{State};
 ghost use Rattle.machine.specs.Octas.{readOcta, writtenOcta};
 ghost use Rattle.machine.specs.Put.{PutGives};
+ghost use Rattle.stack.specs.GivenBack.{refusalOn};
 use model::Bases;
 use model::Octabyte;
 use model::Reply;
@@ -41,10 +42,15 @@ pub fn admissible(special: &[u64; 32], marks: u64) -> bool
     machine::registers::admissible(special, marks)
 }
 
-pub fn windows_refusal(a: &[u8], b: &[u8], at: Bases) -> u64
-    ensures { λ r. ⌜ r ≡ unruledBy (shapesOf (lent at (now (a .entry)) (now (b .entry)))) ⌝ }
+/// The number by which state or windows are refused, 0 where both pass: 1, then 2 and 22.
+pub fn refusal(special: &[u64; 32], marks: u64, a: &[u8], b: &[u8], at: Bases) -> u64
+    ensures { λ r. ⌜ ((general : List ℕ) (pc halt : ℕ) → r
+        ≡ refusalOn (lent at (now (a .entry)) (now (b .entry))) (made general (now (special .entry)) pc halt marks)) ⌝ }
 {
-    machine::memory::windows_refusal(a, b, at)
+    if machine::registers::admissible(special, marks) {
+        return machine::memory::windows_refusal(a, b, at);
+    }
+    1
 }
 
 pub fn run_refusal(a: &[u8], b: &[u8], at: Bases, addr: u64, n: u64) -> u64

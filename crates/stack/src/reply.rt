@@ -1,7 +1,7 @@
 // Replies and their numbers.
 ghost use mathlib.Core.Path.{_≡_};
 ghost use Rattle.model.specs.Numbers.{numberOf, replyOf, Lost};
-ghost use Rattle.stack.specs.GivenBack.{Unruled};
+ghost use Rattle.stack.specs.GivenBack.{Refused, Unruled};
 use model::Reply;
 
 /// The number of a reply.
@@ -47,6 +47,17 @@ pub(crate) fn lost(number: u64) -> Reply
     ensures { λ r. ⌜ r ≡ replyOf number ⌝ }
 {
     Reply::Missing
+}
+
+/// The reply of a number by which state or windows are refused.
+pub(crate) fn refused(number: u64) -> Reply
+    requires { ⌜ Refused number ⌝ }
+    ensures { λ r. ⌜ r ≡ replyOf number ⌝ }
+{
+    if number == 1 {
+        return Reply::NotAdmissible;
+    }
+    unruled(number)
 }
 
 /// The reply of a number by which the machine refuses the windows.

@@ -1,7 +1,7 @@
-// The Rust's functions on a state by value, under its names: the fields go into locals, the work is done in place. 01 asks for them;
+// The Rust's functions on a state by value, under its names: 1, 2 and 22 are judged, the fields go into locals, the work is done in place. 01 asks for them;
 // the layer above works in place and calls none.
 ghost use Rattle.model.specs.Parts.{lent};
-ghost use Rattle.stack.specs.PushPop.{PushGives, PopGives};
+ghost use Rattle.stack.specs.PushPop.{PushGives, popOf, PopGives};
 ghost use Rattle.stack.specs.SaveUnsave.{SaveGives, UnsaveGives};
 use super::frame::PopFrame;
 use model::Bases;
@@ -28,7 +28,14 @@ pub fn push_frame(state: State, a: &mut [u8], b: &mut [u8], at: Bases, x: u8) ->
     let pc = state.pc;
     let halt = state.halt;
     let marks = state.marks;
-    let reply = super::frame::push_frame(&mut general, &mut special, pc, marks, a, b, at, x);
+    let number = super::pass::refusal(&special, marks, &*a, &*b, at);
+    if number != 0 {
+        return Answer {
+            reply: super::reply::refused(number),
+            state: state,
+        };
+    }
+    let reply = super::frame::push_frame(&mut general, &mut special, pc, a, b, at, x);
     let next = State {
         general: general,
         special: special,
@@ -43,24 +50,21 @@ pub fn push_frame(state: State, a: &mut [u8], b: &mut [u8], at: Bases, x: u8) ->
 }
 
 pub fn pop_frame(state: State, a: &[u8], b: &[u8], at: Bases, x: u8, yz: u16) -> Popped
-    ensures { λ r. ⌜ PopGives (lent at (now (a .entry)) (now (b .entry))) state x yz (r .answer) (r .state) ⌝ }
+    ensures { λ r. ⌜ PopGives (popOf (lent at (now (a .entry)) (now (b .entry))) state x) state yz (r .answer) (r .state) ⌝ }
 {
     let mut general = state.general;
     let mut special = state.special;
     let mut halt = state.halt;
     let pc = state.pc;
     let marks = state.marks;
-    let answer = super::frame::pop_frame(
-        &mut general,
-        &mut special,
-        &mut halt,
-        marks,
-        a,
-        b,
-        at,
-        x,
-        yz,
-    );
+    let number = super::pass::refusal(&special, marks, a, b, at);
+    if number != 0 {
+        return Popped {
+            answer: super::frame::refused(number),
+            state: state,
+        };
+    }
+    let answer = super::frame::pop_frame(&mut general, &mut special, &mut halt, a, b, at, x, yz);
     let next = State {
         general: general,
         special: special,
@@ -82,6 +86,13 @@ pub fn save_context(state: State, a: &mut [u8], b: &mut [u8], at: Bases, x: u8) 
     let mut halt = state.halt;
     let pc = state.pc;
     let marks = state.marks;
+    let number = super::pass::refusal(&special, marks, &*a, &*b, at);
+    if number != 0 {
+        return Answer {
+            reply: super::reply::refused(number),
+            state: state,
+        };
+    }
     let reply = super::context::save_context(
         &mut general,
         &mut special,
@@ -113,11 +124,17 @@ pub fn unsave_context(state: State, a: &[u8], b: &[u8], at: Bases, address: u64)
     let mut halt = state.halt;
     let pc = state.pc;
     let marks = state.marks;
+    let number = super::pass::refusal(&special, marks, a, b, at);
+    if number != 0 {
+        return Answer {
+            reply: super::reply::refused(number),
+            state: state,
+        };
+    }
     let reply = super::context::unsave_context(
         &mut general,
         &mut special,
         &mut halt,
-        marks,
         a,
         b,
         at,

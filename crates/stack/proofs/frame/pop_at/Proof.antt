@@ -2,7 +2,7 @@
 use mathlib.Core.Path.{sym, _∙_}
 use native.Mathlib.Omega.{arith}
 use Rattle.model.specs.Parts.{made, lent}
-use Rattle.stack.proofs.PushPopRegisters.{hole-run, hole-is, frame-run}
+use Rattle.stack.proofs.PushPopRegisters.{held-placed, hole-held, hole-lost, hole-is, frame-run}
 use Rattle.stack.proofs.PushPopAnswers.{pop-lacks, pop-short, pop-done}
 use borrow.Author.Needs.{needs}
 use Rattle.stack.proofs.frame.pop_at.Statement.{statement}
@@ -20,23 +20,21 @@ element-copy-out-rj c = search needs
 wrapping-sub-requires : tie.Need-wrapping-sub-requires
 wrapping-sub-requires c κs = search needs
 
-run-refusal-requires : tie.Need-run-refusal-requires
-run-refusal-requires c κs = search needs
+read-octa-requires : tie.Need-read-octa-requires
+read-octa-requires c κs = search needs
 
 returns : tie.Need-returns
 returns c =
-    λ pc halt marks good.
-    let start = c .before .before .before .before .before .before .before .before in
+    λ pc halt marks m.
+    let start = c .before .before .before .before .before .before .before .before .before in
     let a = start .args in
     let w = lent (a .at) (a .a .now) (a .b .now) in
     let l = a .special .now in
-    let first = c .before .run-refusal in
-    let hole = c .before .before .wrapping-sub in
-    pop-lacks w (made (a .general .now) l pc halt marks) (a .x) (a .yz) (good .state-good) (good .windows-good) (start .pre .1 .above) (good .place-good)
-    (λ i. c .if1 .taken (hole-run w l (start .pre .1) _ (hole .ensures) _ (first .ensures) ∙ i))
-
-read-octa-requires : tie.Need-read-octa-requires
-read-octa-requires c κs = search needs
+    let hole = c .before .before .before .wrapping-sub in
+    let found = c .before .before .read-octa in
+    let s = made (a .general .now) l pc halt marks in
+    let good = held-placed s (start .pre .0) in
+    pop-lacks w s (a .x) (a .yz) good (start .pre .1 .above) m (hole-lost w l (start .pre .1) _ (hole .ensures) _ (found .ensures .1) (c .if1 .taken))
 
 add-wrapping-sub : tie.Need-add-wrapping-sub
 add-wrapping-sub c = search needs
@@ -50,22 +48,22 @@ wrapping-sub-requires-2 c κs = search needs
 least-requires : tie.Need-least-requires
 least-requires c κs = search needs
 
-run-refusal-requires-2 : tie.Need-run-refusal-requires-2
-run-refusal-requires-2 c κs = search needs
+run-refusal-requires : tie.Need-run-refusal-requires
+run-refusal-requires c κs = search needs
 
 returns-2 : tie.Need-returns-2
 returns-2 c =
-    λ pc halt marks good.
+    λ pc halt marks m.
     let start = c .before .before .before .before .before .before .before .before .before .before .before .before .before .before in
     let a = start .args in
     let w = lent (a .at) (a .a .now) (a .b .now) in
     let l = a .special .now in
-    let first = c .before .before .before .before .before .before .before .run-refusal in
     let hole = c .before .before .before .before .before .before .before .before .wrapping-sub in
-    pop-short w (made (a .general .now) l pc halt marks) (a .x) (a .yz) (good .state-good) (good .windows-good) (start .pre .1 .above) (good .place-good)
-    (sym (hole-run w l (start .pre .1) _ (hole .ensures) _ (first .ensures)) ∙ c .before .before .before .before .before .before .if1 .left)
-    _ (hole-is w l (start .pre .1) _ (hole .ensures) _ (c .before .before .before .before .before .read-octa .ensures .0))
-    (λ i. c .if2 .taken ((frame-run w l (start .pre .1) _ _ _ _ (omega arith) (c .before .before .before .wrapping-sub2 .ensures) (c .before .before .least .ensures) (c .before .run-refusal2 .ensures)) ∙ i))
+    let found = c .before .before .before .before .before .before .before .read-octa in
+    let s = made (a .general .now) l pc halt marks in
+    let good = held-placed s (start .pre .0) in
+    pop-short w s (a .x) (a .yz) good (start .pre .1 .above) m (hole-held w l (start .pre .1) _ (hole .ensures) _ (found .ensures .1) (c .before .before .before .before .before .if1 .left)) _ (hole-is w l (start .pre .1) _ (hole .ensures) _ (found .ensures .0))
+    (λ i. c .if2 .taken ((frame-run w l (start .pre .1) _ _ _ _ (omega arith) (c .before .before .before .wrapping-sub2 .ensures) (c .before .before .least .ensures) (c .before .run-refusal .ensures)) ∙ i))
 
 leave-requires : tie.Need-leave-requires
 leave-requires c κs =
@@ -73,7 +71,7 @@ leave-requires c κs =
     let a = start .args in
     let w = lent (a .at) (a .a .now) (a .b .now) in
     let l = a .special .now in
-    (start .pre .0, omega arith, start .pre .1, sym (frame-run w l (start .pre .1) _ _ _ _ (omega arith) (c .before .before .before .before .before .wrapping-sub2 .ensures) (c .before .before .before .before .least .ensures) (c .before .before .before .run-refusal2 .ensures)) ∙ c .before .before .if2 .left)
+    (start .pre .0, omega arith, start .pre .1, sym (frame-run w l (start .pre .1) _ _ _ _ (omega arith) (c .before .before .before .before .before .wrapping-sub2 .ensures) (c .before .before .before .before .least .ensures) (c .before .before .before .run-refusal .ensures)) ∙ c .before .before .if2 .left)
 
 mul-wrapping-add : tie.Need-mul-wrapping-add
 mul-wrapping-add c = search needs
@@ -83,17 +81,17 @@ wrapping-add-requires c κs = search needs
 
 returns-3 : tie.Need-returns-3
 returns-3 c =
-    λ pc halt marks good.
+    λ pc halt marks m.
     let start = c .before .before .before .before .before .before .before .before .before .before .before .before .before .before .before .before .before .before in
     let a = start .args in
     let w = lent (a .at) (a .a .now) (a .b .now) in
     let l = a .special .now in
-    let first = c .before .before .before .before .before .before .before .before .before .before .before .run-refusal in
     let hole = c .before .before .before .before .before .before .before .before .before .before .before .before .wrapping-sub in
-    pop-done w (made (a .general .now) l pc halt marks) (a .x) (a .yz) (good .state-good) (good .windows-good) (start .pre .1 .above) (good .place-good)
-    (sym (hole-run w l (start .pre .1) _ (hole .ensures) _ (first .ensures)) ∙ c .before .before .before .before .before .before .before .before .before .before .if1 .left)
-    _ (hole-is w l (start .pre .1) _ (hole .ensures) _ (c .before .before .before .before .before .before .before .before .before .read-octa .ensures .0)) _ _
-    (sym (frame-run w l (start .pre .1) _ _ _ _ (omega arith) (c .before .before .before .before .before .before .before .wrapping-sub2 .ensures) (c .before .before .before .before .before .before .least .ensures) (c .before .before .before .before .before .run-refusal2 .ensures)) ∙ c .before .before .before .before .if2 .left)
+    let found = c .before .before .before .before .before .before .before .before .before .before .before .read-octa in
+    let s = made (a .general .now) l pc halt marks in
+    let good = held-placed s (start .pre .0) in
+    pop-done w s (a .x) (a .yz) good (start .pre .1 .above) m (hole-held w l (start .pre .1) _ (hole .ensures) _ (found .ensures .1) (c .before .before .before .before .before .before .before .before .before .if1 .left)) _ (hole-is w l (start .pre .1) _ (hole .ensures) _ (found .ensures .0)) _ _
+    (sym (frame-run w l (start .pre .1) _ _ _ _ (omega arith) (c .before .before .before .before .before .before .before .wrapping-sub2 .ensures) (c .before .before .before .before .before .before .least .ensures) (c .before .before .before .before .before .run-refusal .ensures)) ∙ c .before .before .before .before .if2 .left)
     (c .before .leave .ensures pc halt marks) (c .wrapping-add .ensures)
 
 pub pop-at-spec : {M : Type 1} → statement M
@@ -104,14 +102,13 @@ pop-at-spec =
     element-copy-out-rg
     element-copy-out-rj
     wrapping-sub-requires
-    run-refusal-requires
-    returns
     read-octa-requires
+    returns
     add-wrapping-sub
     mul-wrapping-sub
     wrapping-sub-requires-2
     least-requires
-    run-refusal-requires-2
+    run-refusal-requires
     returns-2
     leave-requires
     mul-wrapping-add

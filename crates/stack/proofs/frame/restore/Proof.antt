@@ -21,8 +21,8 @@ mul-general c = search needs
 element-write-general : tie.Need-element-write-general
 element-write-general c = search needs
 
-load-range-requires : tie.Need-load-range-requires
-load-range-requires c κs = search needs
+load-locals-requires : tie.Need-load-locals-requires
+load-locals-requires c κs = search needs
 
 returns : tie.Need-returns
 returns c =
@@ -30,10 +30,10 @@ returns c =
     let start = c .before .before .before .before .before .before .before .before .before in
     let a = start .args in
     written-hole (lent (a .at) (a .a .now) (a .b .now)) (a .bottom) (a .h) (a .low) (a .x) (made (a .general .now) special pc halt marks) low (start .pre .2) _ _ _ refl
-    (c .before .before .before .slide-up .ensures) _ (c .before .before .before .before .before .last-output .ensures special pc halt marks l) (c .before .before .if1 .taken) (c .load-range .ensures)
+    (c .before .before .before .slide-up .ensures) _ (c .before .before .before .before .before .last-output .ensures special pc halt marks l) (c .before .before .if1 .taken) (c .load-locals .ensures)
 
-load-range-requires-2 : tie.Need-load-range-requires-2
-load-range-requires-2 c κs = search needs
+load-locals-requires-2 : tie.Need-load-locals-requires-2
+load-locals-requires-2 c κs = search needs
 
 returns-2 : tie.Need-returns-2
 returns-2 c =
@@ -41,7 +41,7 @@ returns-2 c =
     let start = c .before .before .before .before .before .before .before .before .before in
     let a = start .args in
     written-all (lent (a .at) (a .a .now) (a .b .now)) (a .bottom) (a .h) (a .low) (a .x) (made (a .general .now) special pc halt marks) low (start .pre .2) _ _ _ refl
-    (c .before .before .before .slide-up .ensures) (c .before .before .if1 .left) (c .load-range2 .ensures)
+    (c .before .before .before .slide-up .ensures) (c .before .before .if1 .left) (c .load-locals2 .ensures)
 
 pub restore-spec : {M : Type 1} → statement M
 restore-spec =
@@ -52,7 +52,7 @@ restore-spec =
     slide-up-requires
     mul-general
     element-write-general
-    load-range-requires
+    load-locals-requires
     returns
-    load-range-requires-2
+    load-locals-requires-2
     returns-2)

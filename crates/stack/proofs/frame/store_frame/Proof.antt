@@ -9,8 +9,8 @@ use borrow.Author.Needs.{needs}
 use Rattle.stack.proofs.frame.store_frame.Statement.{statement}
 use Rattle.stack.proofs.frame.store_frame.Tie as tie
 
-store-range-requires : tie.Need-store-range-requires
-store-range-requires c κs = search needs
+store-locals-requires : tie.Need-store-locals-requires
+store-locals-requires c κs = search needs
 
 mul-wrapping-add : tie.Need-mul-wrapping-add
 mul-wrapping-add c = search needs
@@ -34,14 +34,14 @@ returns c =
     let a = start .args in
     let s = made (a .general .now) special pc halt marks in
     store-next (lent (a .at) (a .a .now) (a .b .now)) (a .ro) (a .h + 1) (a .h) _ (start .pre .1) (omega arith) (c .before .before .before .before .before .before .before .wrapping-add .ensures) (framed s (a .h)) _ _ _
-    (c .before .before .before .before .write-octa .ensures .0) (locals-stored _ _ s (a .ro) (a .h) (start .pre .0) (start .pre .1) (c .before .before .before .before .before .before .before .before .before .before .before .before .store-range .ensures))
+    (c .before .before .before .before .write-octa .ensures .0) (locals-stored _ _ s (a .ro) (a .h) (start .pre .0) (start .pre .1) (c .before .before .before .before .before .before .before .before .before .before .before .before .store-locals .ensures))
     (sym (framed-hole s (a .h)))
 
 pub store-frame-spec : {M : Type 1} → statement M
 store-frame-spec =
     tie.close
     (tie.spec
-    store-range-requires
+    store-locals-requires
     mul-wrapping-add
     wrapping-add-requires
     write-octa-requires

@@ -1,13 +1,30 @@
--- `pop_frame` of a state meets its contract: the state made anew is the one whose registers were lent.
+-- `pop_frame` of a state meets its contract: refused, or the work in place on the fields.
+use mathlib.Core.Path.{sym, _∙_}
+use Rattle.model.specs.Parts.{lent}
+use Rattle.stack.proofs.Judged.{refused-by}
+use Rattle.stack.proofs.PushPopAnswers.{pop-refused, pop-judged}
 use borrow.Author.Needs.{needs}
 use Rattle.stack.proofs.value.pop_frame.Statement.{statement}
 use Rattle.stack.proofs.value.pop_frame.Tie as tie
 
+refusal-requires : tie.Need-refusal-requires
+refusal-requires c κs = search needs
+
+refused-requires : tie.Need-refused-requires
+refused-requires c κs = let a = c .before .before .before .before .before .before .before .args in refused-by (lent (a .at) (a .a .now) (a .b .now)) (a .state) _ (c .before .refusal .ensures (a .state .general) (a .state .pc) (a .state .halt)) (c .if1 .taken)
+
+returns : tie.Need-returns
+returns c = let a = c .before .before .before .before .before .before .before .before .args in pop-refused (lent (a .at) (a .a .now) (a .b .now)) (a .state) (a .x) (a .yz) _ (c .before .before .refusal .ensures (a .state .general) (a .state .pc) (a .state .halt)) (c .before .if1 .taken) _ (c .refused .ensures .0) (c .refused .ensures .1 (a .state) (a .yz))
+
 pop-frame-requires : tie.Need-pop-frame-requires
 pop-frame-requires c κs = search needs
 
-returns : tie.Need-returns
-returns c = c .pop-frame .ensures (c .before .before .before .before .before .before .before .before .args .state .pc)
+returns-2 : tie.Need-returns-2
+returns-2 c =
+    let a = c .before .before .before .before .before .before .before .before .before .before .before .args in
+    let w = lent (a .at) (a .a .now) (a .b .now) in
+    rw (pop-judged w (a .state) (a .x) (a .yz) (sym (c .before .before .before .before .before .refusal .ensures (a .state .general) (a .state .pc) (a .state .halt)) ∙ c .before .before .before .before .if1 .left)) at (c .pop-frame .ensures (a .state .pc) (a .state .marks))
 
 pub pop-frame-spec : {M : Type 1} → statement M
-pop-frame-spec = tie.close (tie.spec pop-frame-requires returns)
+pop-frame-spec =
+    tie.close (tie.spec refusal-requires refused-requires returns pop-frame-requires returns-2)

@@ -1,10 +1,17 @@
--- `push_frame` of a state meets its contract: the state made anew is the one whose registers were lent.
+-- `push_frame` of a state meets its contract: refused, or the work in place on the fields.
+use mathlib.Core.Path.{sym, _∙_}
+use Rattle.model.specs.Parts.{lent}
+use Rattle.stack.proofs.Judged.{refused-by}
+use Rattle.stack.proofs.PushPopAnswers.{push-refused, push-judged}
 use borrow.Author.Needs.{needs}
 use Rattle.stack.proofs.value.push_frame.Statement.{statement}
 use Rattle.stack.proofs.value.push_frame.Tie as tie
 
-push-frame-requires : tie.Need-push-frame-requires
-push-frame-requires c κs = search needs
+refusal-requires : tie.Need-refusal-requires
+refusal-requires c κs = search needs
+
+refused-requires : tie.Need-refused-requires
+refused-requires c κs = let a = c .before .before .before .before .before .before .before .before .before .args in refused-by (lent (a .at) (a .a .now) (a .b .now)) (a .state) _ (c .before .refusal .ensures (a .state .general) (a .state .pc) (a .state .halt)) (c .if1 .taken)
 
 same-length : tie.Need-same-length
 same-length c = search needs
@@ -13,7 +20,33 @@ same-length-2 : tie.Need-same-length-2
 same-length-2 c = search needs
 
 returns : tie.Need-returns
-returns c = c .before .before .before .before .push-frame .ensures (c .before .before .before .before .before .before .before .before .before .before .before .before .before .args .state .halt)
+returns c = let a = c .before .before .before .before .before .before .before .before .before .before .args in push-refused (lent (a .at) (a .a .now) (a .b .now)) (a .state) (a .x) _ (c .before .before .refusal .ensures (a .state .general) (a .state .pc) (a .state .halt)) (c .before .if1 .taken) _ (c .refused .ensures)
+
+push-frame-requires : tie.Need-push-frame-requires
+push-frame-requires c κs = search needs
+
+same-length-3 : tie.Need-same-length-3
+same-length-3 c = search needs
+
+same-length-4 : tie.Need-same-length-4
+same-length-4 c = search needs
+
+returns-2 : tie.Need-returns-2
+returns-2 c =
+    let a = c .before .before .before .before .before .before .before .before .before .before .before .before .before .before .before .before .before .before .args in
+    let w = lent (a .at) (a .a .now) (a .b .now) in
+    rw (push-judged w (a .state) (a .x) (sym (c .before .before .before .before .before .before .before .before .before .before .refusal .ensures (a .state .general) (a .state .pc) (a .state .halt)) ∙ c .before .before .before .before .before .before .before .before .before .if1 .left)) at (c .before .before .before .before .push-frame .ensures (a .state .halt) (a .state .marks))
 
 pub push-frame-spec : {M : Type 1} → statement M
-push-frame-spec = tie.close (tie.spec push-frame-requires same-length same-length-2 returns)
+push-frame-spec =
+    tie.close
+    (tie.spec
+    refusal-requires
+    refused-requires
+    same-length
+    same-length-2
+    returns
+    push-frame-requires
+    same-length-3
+    same-length-4
+    returns-2)

@@ -1,13 +1,31 @@
--- `unsave_context` by value meets its contract: it is the one in place, on the fields.
+-- `unsave_context` of a state meets its contract: refused, or the work in place on the fields.
+use mathlib.Core.Path.{sym, _∙_}
+use Rattle.model.specs.Parts.{lent}
+use Rattle.stack.proofs.Judged.{refused-by}
+use Rattle.stack.proofs.SaveUnsaveAnswers.{unsave-refused, unsave-judged}
 use borrow.Author.Needs.{needs}
 use Rattle.stack.proofs.value.unsave_context.Statement.{statement}
 use Rattle.stack.proofs.value.unsave_context.Tie as tie
 
+refusal-requires : tie.Need-refusal-requires
+refusal-requires c κs = search needs
+
+refused-requires : tie.Need-refused-requires
+refused-requires c κs = let a = c .before .before .before .before .before .before .before .args in refused-by (lent (a .at) (a .a .now) (a .b .now)) (a .state) _ (c .before .refusal .ensures (a .state .general) (a .state .pc) (a .state .halt)) (c .if1 .taken)
+
+returns : tie.Need-returns
+returns c = let a = c .before .before .before .before .before .before .before .before .args in unsave-refused (lent (a .at) (a .a .now) (a .b .now)) (a .state) (a .address) _ (c .before .before .refusal .ensures (a .state .general) (a .state .pc) (a .state .halt)) (c .before .if1 .taken) _ (c .refused .ensures)
+
 unsave-context-requires : tie.Need-unsave-context-requires
 unsave-context-requires c κs = search needs
 
-returns : tie.Need-returns
-returns c = c .unsave-context .ensures (c .before .before .before .before .before .before .before .before .args .state .pc)
+returns-2 : tie.Need-returns-2
+returns-2 c =
+    let a = c .before .before .before .before .before .before .before .before .before .before .before .args in
+    let w = lent (a .at) (a .a .now) (a .b .now) in
+    rw (unsave-judged w (a .state) (a .address) (sym (c .before .before .before .before .before .refusal .ensures (a .state .general) (a .state .pc) (a .state .halt)) ∙ c .before .before .before .before .if1 .left)) at (c .unsave-context .ensures (a .state .pc) (a .state .marks))
 
 pub unsave-context-spec : {M : Type 1} → statement M
-unsave-context-spec = tie.close (tie.spec unsave-context-requires returns)
+unsave-context-spec =
+    tie.close
+    (tie.spec refusal-requires refused-requires returns unsave-context-requires returns-2)
