@@ -18,10 +18,8 @@ use Rattle.model.specs.Opcodes.{firstBranch, lastBranch, among, armOf}
 use Rattle.model.specs.Step.{unruledBy, fromThree, stepOf, claims, opcodeIn, xIn, yIn, zIn, keepsClaim, settledBy, tetraPlan}
 use Rattle.model.specs.Fetched.{settled}
 use Rattle.model.specs.Leaves.{StepLeaves}
-use Rattle.model.specs.Numbers.{numberOf}
 use Rattle.model.specs.Parts.{made}
 use Rattle.model.specs.declared.State.{State}
-use Rattle.model.specs.declared.Reply.{Reply}
 use Rattle.model.proofs.Bools.{on, each, at-each, or-left, or-right}
 use Rattle.model.proofs.Fill.{length-over, over-in, over-below, over-above, lt-or-le}
 use Rattle.model.proofs.Numbers.{step-number}
@@ -32,7 +30,7 @@ use Rattle.model.proofs.AdmissibleKept.{adm, claim-good}
 use Rattle.model.proofs.Leaves.{replies-leave}
 use Rattle.model.proofs.FetchedLeaves.{no-trap}
 use Rattle.model.proofs.Fetched.{step-three, claim-admissible, instruction-claims, instruction-free}
-use Rattle.instruction.specs.StepAnswer.{Whole}
+use Rattle.instruction.specs.StepAnswer.{Numbered}
 use Rattle.instruction.specs.FetchedArms.{claimedOf, saidBy}
 
 -- ---- a claim made
@@ -96,22 +94,22 @@ module _ (w : Windows) (c : State) (op x y z : ℕ) (n : Sized c) (a : admissibl
           (lt-or-le (o .reply) 6)
 
   -- as code has it: the reply is r
-  module _ (r : Reply) (t : State) (v : Windows) (h : Whole o r t v) where
-    number : numberOf r ≡ o .reply
-    number = ap numberOf (h .reply-is) ∙ step-number (o .reply) (l .most)
+  module _ (r : ℕ) (t : State) (v : Windows) (h : Numbered o r t v) where
+    number : r ≡ o .reply
+    number = h .reply-is ∙ step-number (o .reply) (l .most)
 
-    refused : keepsClaim (numberOf r) ≡ false → (o .reply ≢ 0) × (o .reply ≢ 19)
+    refused : keepsClaim (r) ≡ false → (o .reply ≢ 0) × (o .reply ≢ 19)
     unfolding keepsClaim
-    refused e = (λ q. eqb-false _ _ (or-left (eqb (numberOf r) 0) _ e) (number ∙ q), λ q. eqb-false _ _ (or-right (eqb (numberOf r) 0) _ e) (number ∙ q))
+    refused e = (λ q. eqb-false _ _ (or-left (eqb (r) 0) _ e) (number ∙ q), λ q. eqb-false _ _ (or-right (eqb (r) 0) _ e) (number ∙ q))
 
-    pub general-left : keepsClaim (numberOf r) ≡ false → t .general ≡ c .general
+    pub general-left : keepsClaim (r) ≡ false → t .general ≡ c .general
     general-left e = ap (λ (s : State). s .general) (h .state-is ∙ sym (registers-left (refused e .0) (refused e .1)))
 
-    pub special-left : keepsClaim (numberOf r) ≡ false → t .special ≡ c .special
+    pub special-left : keepsClaim (r) ≡ false → t .special ≡ c .special
     special-left e = ap (λ (s : State). s .special) (h .state-is ∙ sym (registers-left (refused e .0) (refused e .1)))
 
     -- the claim is kept
-    pub keeps : (s : State) → keepsClaim (numberOf r) ≡ true → Whole (settled s o) r t v
+    pub keeps : (s : State) → keepsClaim (r) ≡ true → Numbered (settled s o) r t v
     unfolding settledBy
     keeps s e = record {
       reply-is = h .reply-is;
@@ -120,8 +118,8 @@ module _ (w : Windows) (c : State) (op x y z : ℕ) (n : Sized c) (a : admissibl
     }
 
     -- it is taken back
-    pub takes-back : (s : State) → keepsClaim (numberOf r) ≡ false → (g m : List ℕ) → g ≡ s .general → m ≡ s .special
-        → Whole (settled s o) r (made g m (t .pc) (t .halt) (t .marks)) v
+    pub takes-back : (s : State) → keepsClaim (r) ≡ false → (g m : List ℕ) → g ≡ s .general → m ≡ s .special
+        → Numbered (settled s o) r (made g m (t .pc) (t .halt) (t .marks)) v
     unfolding settledBy
     takes-back s e g m p q = record {
       reply-is = h .reply-is;
@@ -140,21 +138,21 @@ module _ (w : Windows) (s c : State) (op x y z : ℕ) (n : Sized s) (a : admissi
   m : Sized (claimLocal s x)
   m = claim-good s x (record { size = n; admits = adm s a }) .size
 
-  module _ (r : Reply) (t : State) (v : Windows) (h : Whole (stepOf w c op x y z) r t v) where
-    claimed-whole : Whole (stepOf w (claimLocal s x) op x y z) r t v
+  module _ (r : ℕ) (t : State) (v : Windows) (h : Numbered (stepOf w c op x y z) r t v) where
+    claimed-whole : Numbered (stepOf w (claimLocal s x) op x y z) r t v
     claimed-whole = rw e at h
 
-    pub claim-kept : keepsClaim (numberOf r) ≡ true → Whole (claimedOf w s op x y z) r t v
+    pub claim-kept : keepsClaim (r) ≡ true → Numbered (claimedOf w s op x y z) r t v
     claim-kept q = keeps w (claimLocal s x) op x y z m (claim-admissible s x n a) u b k r t v claimed-whole s q
 
-    pub claim-gone : keepsClaim (numberOf r) ≡ false → Whole (claimedOf w s op x y z) r (made (s .general) (set (t .special) rL (sp s rL)) (t .pc) (t .halt) (t .marks)) v
+    pub claim-gone : keepsClaim (r) ≡ false → Numbered (claimedOf w s op x y z) r (made (s .general) (set (t .special) rL (sp s rL)) (t .pc) (t .halt) (t .marks)) v
     claim-gone q =
         takes-back w (claimLocal s x) op x y z m (claim-admissible s x n a) u b k r t v claimed-whole s q (s .general) (set (t .special) rL (sp s rL)) refl
         (ap (λ (i : List ℕ). set i rL (sp s rL)) (special-left w (claimLocal s x) op x y z m (claim-admissible s x n a) u b k r t v claimed-whole q) ∙ special-back s x)
 
     -- where the general registers were left alone
-    pub claim-gone-clear : keepsClaim (numberOf r) ≡ false → c .general ≡ s .general
-        → Whole (claimedOf w s op x y z) r (made (t .general) (set (t .special) rL (sp s rL)) (t .pc) (t .halt) (t .marks)) v
+    pub claim-gone-clear : keepsClaim (r) ≡ false → c .general ≡ s .general
+        → Numbered (claimedOf w s op x y z) r (made (t .general) (set (t .special) rL (sp s rL)) (t .pc) (t .halt) (t .marks)) v
     claim-gone-clear q f =
         takes-back w (claimLocal s x) op x y z m (claim-admissible s x n a) u b k r t v claimed-whole s q (t .general) (set (t .special) rL (sp s rL))
         (general-left w (claimLocal s x) op x y z m (claim-admissible s x n a) u b k r t v claimed-whole q ∙ sym (ap (λ (i : State). i .general) e) ∙ f)
@@ -175,9 +173,9 @@ branch-free op l h = go (among firstBranch lastBranch op) (claims op) h (at-each
     go true false e f = refl
     go false q e f = (cc)
 
-module _ (w : Windows) (s : State) (n : Sized s) (a : admissible s ≡ true) (u : unruledBy (shapesOf w) ≡ 0) (tetra : ℕ) (b : tetra < 2 ^ 32) (r : Reply) (t : State) (v : Windows) where
-  pub tetra-claims : claims (opcodeIn tetra) ≡ true → Whole (claimedOf w s (opcodeIn tetra) (xIn tetra) (yIn tetra) (zIn tetra)) r t v
-      → Whole (saidBy w s tetra) r t v
+module _ (w : Windows) (s : State) (n : Sized s) (a : admissible s ≡ true) (u : unruledBy (shapesOf w) ≡ 0) (tetra : ℕ) (b : tetra < 2 ^ 32) (r : ℕ) (t : State) (v : Windows) where
+  pub tetra-claims : claims (opcodeIn tetra) ≡ true → Numbered (claimedOf w s (opcodeIn tetra) (xIn tetra) (yIn tetra) (zIn tetra)) r t v
+      → Numbered (saidBy w s tetra) r t v
   unfolding tetraPlan
   tetra-claims k h =
       rw (
@@ -186,30 +184,30 @@ module _ (w : Windows) (s : State) (n : Sized s) (a : admissible s ≡ true) (u 
       ) h
 
   -- an opcode that claims nothing, or a claim that changes nothing
-  pub tetra-plain : (isMarginal s (xIn tetra) && claims (opcodeIn tetra)) ≡ false → Whole (stepOf w s (opcodeIn tetra) (xIn tetra) (yIn tetra) (zIn tetra)) r t v
-      → Whole (saidBy w s tetra) r t v
+  pub tetra-plain : (isMarginal s (xIn tetra) && claims (opcodeIn tetra)) ≡ false → Numbered (stepOf w s (opcodeIn tetra) (xIn tetra) (yIn tetra) (zIn tetra)) r t v
+      → Numbered (saidBy w s tetra) r t v
   tetra-plain e h = go (claims (opcodeIn tetra)) refl
     where
       local : (p q : Bool) → (p && q) ≡ false → q ≡ true → p ≡ false
       local true q f g = sym g ∙ f
       local false q f g = refl
 
-      go : (p : Bool) → claims (opcodeIn tetra) ≡ p → Whole (saidBy w s tetra) r t v
+      go : (p : Bool) → claims (opcodeIn tetra) ≡ p → Numbered (saidBy w s tetra) r t v
       go false k =
           unfold tetraPlan in (rw (instruction-free w s (opcodeIn tetra) (xIn tetra) (yIn tetra) (zIn tetra) k, ← step-three w s (opcodeIn tetra) (xIn tetra) (yIn tetra) (zIn tetra) a u) h)
-      go true k = tetra-claims k (rw same (settles (keepsClaim (numberOf r)) refl))
+      go true k = tetra-claims k (rw same (settles (keepsClaim (r)) refl))
         where
           same : claimLocal s (xIn tetra) ≡ s
           same = unfold claimLocal in (rw (local (isMarginal s (xIn tetra)) (claims (opcodeIn tetra)) e k))
 
-          settles : (q : Bool) → keepsClaim (numberOf r) ≡ q → Whole (settled s (stepOf w s (opcodeIn tetra) (xIn tetra) (yIn tetra) (zIn tetra))) r t v
+          settles : (q : Bool) → keepsClaim (r) ≡ q → Numbered (settled s (stepOf w s (opcodeIn tetra) (xIn tetra) (yIn tetra) (zIn tetra))) r t v
           settles true f = keeps w s (opcodeIn tetra) (xIn tetra) (yIn tetra) (zIn tetra) n a u (omega arith) k r t v h s f
           settles false f =
               takes-back w s (opcodeIn tetra) (xIn tetra) (yIn tetra) (zIn tetra) n a u (omega arith) k r t v h s f (t .general) (t .special)
               (general-left w s (opcodeIn tetra) (xIn tetra) (yIn tetra) (zIn tetra) n a u (omega arith) k r t v h f)
               (special-left w s (opcodeIn tetra) (xIn tetra) (yIn tetra) (zIn tetra) n a u (omega arith) k r t v h f)
 
-  pub tetra-branch : among firstBranch lastBranch (opcodeIn tetra) ≡ true → Whole (stepOf w s (opcodeIn tetra) (xIn tetra) (yIn tetra) (zIn tetra)) r t v → Whole (saidBy w s tetra) r t v
+  pub tetra-branch : among firstBranch lastBranch (opcodeIn tetra) ≡ true → Numbered (stepOf w s (opcodeIn tetra) (xIn tetra) (yIn tetra) (zIn tetra)) r t v → Numbered (saidBy w s tetra) r t v
   tetra-branch e h = tetra-plain (none (isMarginal s (xIn tetra)) (claims (opcodeIn tetra)) (branch-free (opcodeIn tetra) (omega arith) e)) h
     where
       none : (p q : Bool) → q ≡ false → (p && q) ≡ false

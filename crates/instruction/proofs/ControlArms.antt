@@ -12,6 +12,8 @@ use Rattle.model.specs.Control.{near, sumOf, holds}
 use Rattle.model.specs.Step.{refusalOf, unruledBy, planOf, stepOf}
 use Rattle.model.specs.declared.State.{State}
 use Rattle.model.specs.declared.Reply.{Reply}
+use Rattle.stack.specs.GivenBack.{placed}
+use Rattle.stack.proofs.PushPopAnswers.{admissible-placed}
 use Rattle.exceptions.specs.Told.{Told}
 use Rattle.instruction.specs.StepAnswer.{Whole}
 use Rattle.instruction.specs.Arms.{branchOf, jumpOf, addressOf, goOf, callTo, pushGoOf, pushJumpOf, returnOf}
@@ -61,12 +63,12 @@ module _ (w : Windows) (s : State) (a : admissible s ≡ true) (u : unruledBy (s
 
   pub step-push-go : (v : Windows) → armOf op ≡ pushGo (lastOf op) → Whole (pushGoOf w s op x y z) r t v → Whole (stepOf w s op x y z) r t v
   unfolding refusalOf planOf
-  step-push-go v k q = stack-step w s a u op x y z r t (pushGo (lastOf op)) k refl _ v refl q
+  step-push-go v k q = stack-step w s a u op x y z r t (pushGo (lastOf op)) k refl (placed s) (admissible-placed s a) _ v refl q
 
   pub step-push-jump : (v : Windows) → armOf op ≡ pushJump (wayOf op) → Whole (pushJumpOf w s op x y z) r t v → Whole (stepOf w s op x y z) r t v
   unfolding refusalOf planOf
-  step-push-jump v k q = stack-step w s a u op x y z r t (pushJump (wayOf op)) k refl _ v refl q
+  step-push-jump v k q = stack-step w s a u op x y z r t (pushJump (wayOf op)) k refl (placed s) (admissible-placed s a) _ v refl q
 
   pub step-pop : (v : Windows) → armOf op ≡ pop → Whole (returnOf w s x y z) r t v → Whole (stepOf w s op x y z) r t v
   unfolding refusalOf planOf
-  step-pop v k q = stack-step w s a u op x y z r t pop k refl _ v refl q
+  step-pop v k q = stack-step w s a u op x y z r t pop k refl (placed s) (admissible-placed s a) _ v refl q

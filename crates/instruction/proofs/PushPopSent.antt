@@ -1,7 +1,7 @@
 -- Laws of calls and returns, over plain variables: the stack leaves PC as it was, and where it is done the arm sends PC on. First the outcome of a
 -- plan with PC sent on, then PUSH, then POP. SAVE and UNSAVE: SaveUnsaveSent.
 use mathlib.Core.Path.{_≡_, refl, sym, ap, _∙_}
-use mathlib.Core.Bool.{Bool, false, cond}
+use mathlib.Core.Bool.{Bool, true, false, cond}
 use mathlib.Core.List.{List, []}
 use Prim.Native.Nat.{ℕ, _≤_}
 use native.Mathlib.Omega.{arith}
@@ -9,9 +9,9 @@ use lib.Dec.{eqb}
 use types.Run.{OneOf, miss}
 use denote.Enum.Declared.{tagOf}
 use borrow.Author.Tests.{ne-eqb}
-use Rattle.model.specs.Memory.{Windows, Shapes, shapesOf, ruled, shares}
-use Rattle.model.specs.Plan.{Plan, answer, Outcome, puts}
-use Rattle.model.specs.Registers.{admissible, goes, halted}
+use Rattle.model.specs.Memory.{Windows}
+use Rattle.model.specs.Plan.{Plan, Outcome, puts}
+use Rattle.model.specs.Registers.{goes, halted}
 use Rattle.model.specs.NoMemory.{tell}
 use Rattle.model.specs.Frames.{hole, pushFrame, popTo, popRule, noFrame, misplaced, popFrame}
 use Rattle.model.specs.Numbers.{replyOf}
@@ -19,14 +19,13 @@ use Rattle.model.specs.declared.State.{State}
 use Rattle.model.specs.declared.Reply.{Reply}
 use Rattle.model.specs.declared.Reply.the-variants as reply
 use Rattle.model.proofs.Reply.{the-type}
-use Rattle.model.proofs.Bools.{on, on-both}
-use Rattle.model.specs.Step.{unruledBy, guarded}
-use Rattle.model.proofs.Entry.{performOn, said}
+use Rattle.model.proofs.Bools.{on}
+use Rattle.model.proofs.Entry.{performOn}
 use Rattle.model.proofs.ItemInvariant.{Any}
 use Rattle.model.proofs.ArmAnswers.{Answers, perform-meets}
 use Rattle.model.proofs.StepByArm.{sent, push-sent, pop-sent}
-use Rattle.stack.specs.GivenBack.{guardedOn, Gives}
-use Rattle.stack.specs.PushPop.{pushOf, popOf, returnTo, popNumber, popAnswer, PopGives}
+use Rattle.stack.specs.GivenBack.{onlyIf, placed, Gives}
+use Rattle.stack.specs.PushPop.{pushIn, popIn, returnTo, popNumber, popAnswer, PopGives}
 use Rattle.stack.specs.declared.frame.PopFrame.{PopFrame}
 use Rattle.stack.specs.declared.frame.PopFrame.the-variants.{Frame, NoFrame, Rejected, Missing, NotAdmissible, WindowRule, Shared}
 use Rattle.instruction.specs.StepAnswer.{Whole}
@@ -34,19 +33,10 @@ use Rattle.instruction.proofs.NoMemoryReplies.{refusals, tag-is}
 
 -- ---- the stack's outcome, PC sent on
 
-guarded-sent : (w : Windows) (s : State) (p q : Plan State) (t : ℕ) → performOn w s p ≡ sent (performOn w s q) t → guardedOn w s p ≡ sent (guardedOn w s q) t
-unfolding guardedOn guarded
-guarded-sent w s p q t h =
-    on-both (λ (a b : Plan State). performOn w s a ≡ sent (performOn w s b) t) (admissible s)
-    (λ e. on-both (λ (a b : Plan State). performOn w s a ≡ sent (performOn w s b) t) (eqb (unruledBy (shapesOf w)) 0) (λ f. h) (λ f. unruled f))
-    (λ e. rw (said w s s 1) (unfold sent in refl))
-  where
-    unruled : eqb (unruledBy (shapesOf w)) 0 ≡ false → performOn w s (answer (unruledBy (shapesOf w)) s 0 []) ≡ sent (performOn w s (answer (unruledBy (shapesOf w)) s 0 [])) t
-    unruled f = rw (said w s s (unruledBy (shapesOf w))) (unfold sent in rw f)
-
-pub unruled-most : (w : Shapes) → unruledBy w ≤ 22
-unfolding unruledBy
-unruled-most w = on (λ (n : ℕ). n ≤ 22) (ruled w) (λ e. on (λ (n : ℕ). n ≤ 22) (shares w) (λ f. omega arith) (λ f. omega arith)) (λ e. omega arith)
+only-sent : (b : Bool) (w : Windows) (s : State) (p q : Plan State) (t : ℕ) → performOn w s p ≡ sent (performOn w s q) t → onlyIf b w s p ≡ sent (onlyIf b w s q) t
+unfolding onlyIf
+only-sent true w s p q t h = h
+only-sent false w s p q t h = unfold sent in refl
 
 -- a number of 0 to 22; PC as it was
 Stays : State → ℕ → State → List ℕ → Type 0
@@ -56,29 +46,26 @@ Stays s r t vs = (r ≤ 22) × (t .pc ≡ s .pc)
 Reads : State → ℕ → State → List ℕ → Type 0
 Reads s r t vs = (vs ≡ []) × (t .pc ≡ s .pc)
 
-push-answers : (s : State) (w : Windows) (h : ℕ) → Answers Any (Stays s) (guarded s s (shapesOf w) (pushFrame s h (s .pc)))
-unfolding guarded pushFrame tell Answers Stays goes
-push-answers s w h =
-    on (Answers Any (Stays s)) (admissible s) (λ e. on (Answers Any (Stays s)) (eqb (unruledBy (shapesOf w)) 0) (λ f. (omega arith, refl)) (λ f. (unruled-most (shapesOf w), refl))) (λ e. (omega arith, refl))
+push-answers : (s : State) (h : ℕ) → Answers Any (Stays s) (pushFrame s h (s .pc))
+unfolding pushFrame tell Answers Stays goes
+push-answers s h = (omega arith, refl)
 
-push-stays : (w : Windows) (s : State) (h : ℕ) → Stays s (guardedOn w s (pushFrame s h (s .pc)) .reply) (guardedOn w s (pushFrame s h (s .pc)) .state) []
-unfolding guardedOn Stays
-push-stays w s h =
-    perform-meets w s Any (Stays s) (λ o. Stays s (o .reply) (o .state) []) (omega arith, refl) (λ r t a vs k. k) (λ a n. tt) _ (push-answers s w h)
+push-stays : (b : Bool) (w : Windows) (s : State) (h : ℕ) → Stays s (onlyIf b w s (pushFrame s h (s .pc)) .reply) (onlyIf b w s (pushFrame s h (s .pc)) .state) []
+unfolding onlyIf Stays
+push-stays true w s h =
+    perform-meets w s Any (Stays s) (λ o. Stays s (o .reply) (o .state) []) (omega arith, refl) (λ r t a vs k. k) (λ a n. tt) _ (push-answers s h)
+push-stays false w s h = (omega arith, refl)
 
-pop-answers : (s : State) (w : Windows) (x : ℕ) → Answers Any (Reads s) (guarded s s (shapesOf w) (popFrame s x (s .pc)))
-unfolding guarded popFrame popRule popTo tell Answers Reads goes halted
-pop-answers s w x =
-    on (Answers Any (Reads s)) (admissible s)
-    (λ e. on (Answers Any (Reads s)) (eqb (unruledBy (shapesOf w)) 0)
-    (λ f. on (Answers Any (Reads s)) (noFrame s) (λ n. (refl, refl)) (λ n. on (Answers Any (Reads s)) (misplaced s) (λ m. (refl, refl)) (λ m. (refl, λ v i. (refl, λ ls j. (refl, refl))))))
-    (λ f. (refl, refl)))
-    (λ e. (refl, refl))
+pop-answers : (s : State) (x : ℕ) → Answers Any (Reads s) (popFrame s x (s .pc))
+unfolding popFrame popRule popTo tell Answers Reads goes halted
+pop-answers s x =
+    on (Answers Any (Reads s)) (noFrame s) (λ n. (refl, refl)) (λ n. on (Answers Any (Reads s)) (misplaced s) (λ m. (refl, refl)) (λ m. (refl, λ v i. (refl, λ ls j. (refl, refl)))))
 
-pop-stays : (w : Windows) (s : State) (x : ℕ) → (guardedOn w s (popFrame s x (s .pc)) .memory ≡ w) × (guardedOn w s (popFrame s x (s .pc)) .state .pc ≡ s .pc)
-unfolding guardedOn Reads puts
-pop-stays w s x =
-    perform-meets w s Any (Reads s) (λ o. (o .memory ≡ w) × (o .state .pc ≡ s .pc)) (refl, refl) (λ r t a vs k. (rw (k .0), k .1)) (λ a n. tt) _ (pop-answers s w x)
+pop-stays : (b : Bool) (w : Windows) (s : State) (x : ℕ) → (onlyIf b w s (popFrame s x (s .pc)) .memory ≡ w) × (onlyIf b w s (popFrame s x (s .pc)) .state .pc ≡ s .pc)
+unfolding onlyIf Reads puts
+pop-stays true w s x =
+    perform-meets w s Any (Reads s) (λ o. (o .memory ≡ w) × (o .state .pc ≡ s .pc)) (refl, refl) (λ r t a vs k. (rw (k .0), k .1)) (λ a n. tt) _ (pop-answers s x)
+pop-stays false w s x = (refl, refl)
 
 -- ---- a reply and a state with it
 
@@ -98,25 +85,25 @@ module _ (s : State) (o p : Outcome State Windows) (target : ℕ) (r : Reply) (t
 
 -- ---- PUSH
 
-module _ (w : Windows) (s : State) (x target : ℕ) (r : Reply) (t : State) (v : Windows) (g : Gives (pushOf w s x) s r t v) where
-  push-open : guardedOn w s (pushFrame s (hole s x) target) ≡ sent (pushOf w s x) target
-  unfolding pushOf
-  push-open = guarded-sent w s _ _ target (push-sent w s (hole s x) target (s .pc))
+module _ (w : Windows) (s : State) (x target : ℕ) (r : Reply) (t : State) (v : Windows) (g : Gives (pushIn w s x) s r t v) where
+  push-open : onlyIf (placed s) w s (pushFrame s (hole s x) target) ≡ sent (pushIn w s x) target
+  unfolding pushIn
+  push-open = only-sent (placed s) w s _ _ target (push-sent w s (hole s x) target (s .pc))
 
-  number : tagOf the-type r ≡ pushOf w s x .reply
-  unfolding pushOf Stays
-  number = tag-is _ r (push-stays w s (hole s x) .0) (g .reply-is)
+  number : tagOf the-type r ≡ pushIn w s x .reply
+  unfolding pushIn Stays
+  number = tag-is _ r (push-stays (placed s) w s (hole s x) .0) (g .reply-is)
 
-  at-start : pushOf w s x .state .pc ≡ s .pc
-  unfolding pushOf Stays
-  at-start = push-stays w s (hole s x) .1
+  at-start : pushIn w s x .state .pc ≡ s .pc
+  unfolding pushIn Stays
+  at-start = push-stays (placed s) w s (hole s x) .1
 
-  pub push-done : tagOf the-type r ≡ 0 → Whole (guardedOn w s (pushFrame s (hole s x) target)) r (goes t target) v
+  pub push-done : tagOf the-type r ≡ 0 → Whole (onlyIf (placed s) w s (pushFrame s (hole s x) target)) r (goes t target) v
   push-done z = sent-done s _ _ target r t v push-open (g .reply-is) (g .state-is) (g .window-is) (sym number ∙ z)
 
-  pub push-refused : OneOf refusals (tagOf the-type r) → Whole (guardedOn w s (pushFrame s (hole s x) target)) r t v
+  pub push-refused : OneOf refusals (tagOf the-type r) → Whole (onlyIf (placed s) w s (pushFrame s (hole s x) target)) r t v
   push-refused h =
-      let z : eqb (pushOf w s x .reply) 0 ≡ false = ne-eqb _ 0 (λ q. miss refusals 0 tt (rw (number ∙ q) at h)) in
+      let z : eqb (pushIn w s x .reply) 0 ≡ false = ne-eqb _ 0 (λ q. miss refusals 0 tt (rw (number ∙ q) at h)) in
       sent-not s _ _ target r t v push-open (g .reply-is) (g .state-is) (g .window-is) at-start z
 
 -- ---- POP
@@ -131,38 +118,38 @@ goal n NotAdmissible = n
 goal n WindowRule = n
 goal n Shared = n
 
-module _ (w : Windows) (s : State) (x yz : ℕ) (q : PopFrame) (t : State) (g : PopGives w s x yz q t) where
-  pop-open : guardedOn w s (popFrame s x (returnTo s yz)) ≡ sent (popOf w s x) (returnTo s yz)
-  unfolding popOf
-  pop-open = guarded-sent w s _ _ (returnTo s yz) (pop-sent w s x (returnTo s yz) (s .pc))
+module _ (w : Windows) (s : State) (x yz : ℕ) (q : PopFrame) (t : State) (g : PopGives (popIn w s x) s yz q t) where
+  pop-open : onlyIf (placed s) w s (popFrame s x (returnTo s yz)) ≡ sent (popIn w s x) (returnTo s yz)
+  unfolding popIn
+  pop-open = only-sent (placed s) w s _ _ (returnTo s yz) (pop-sent w s x (returnTo s yz) (s .pc))
 
-  window-stays : w ≡ popOf w s x .memory
-  unfolding popOf
-  window-stays = sym (pop-stays w s x .0)
+  window-stays : w ≡ popIn w s x .memory
+  unfolding popIn
+  window-stays = sym (pop-stays (placed s) w s x .0)
 
-  pc-stays : popOf w s x .state .pc ≡ s .pc
-  unfolding popOf
-  pc-stays = pop-stays w s x .1
+  pc-stays : popIn w s x .state .pc ≡ s .pc
+  unfolding popIn
+  pc-stays = pop-stays (placed s) w s x .1
 
-  numbered : (a : PopFrame) → q ≡ a → popOf w s x .reply ≡ popNumber a
+  numbered : (a : PopFrame) → q ≡ a → popIn w s x .reply ≡ popNumber a
   numbered a e = sym (g .number-is) ∙ ap popNumber e
 
-  done : (to : ℕ) → popOf w s x .reply ≡ 0 → to ≡ returnTo s yz → Whole (guardedOn w s (popFrame s x (returnTo s yz))) reply.Done (goes t to) w
+  done : (to : ℕ) → popIn w s x .reply ≡ 0 → to ≡ returnTo s yz → Whole (onlyIf (placed s) w s (popFrame s x (returnTo s yz))) reply.Done (goes t to) w
   unfolding replyOf
   done to z e = rw e (sent-done s _ _ (returnTo s yz) reply.Done t w pop-open (sym (ap replyOf z)) (g .state-is) window-stays z)
 
-  pub pop-done : (to : ℕ) → q ≡ Frame to → Whole (guardedOn w s (popFrame s x (returnTo s yz))) reply.Done (goes t to) w
+  pub pop-done : (to : ℕ) → q ≡ Frame to → Whole (onlyIf (placed s) w s (popFrame s x (returnTo s yz))) reply.Done (goes t to) w
   unfolding popNumber popAnswer goal
   pop-done to e =
-      let z : popOf w s x .reply ≡ 0 = numbered (Frame to) e in
+      let z : popIn w s x .reply ≡ 0 = numbered (Frame to) e in
       let f : Frame to ≡ cond (noFrame s) NoFrame (Frame (returnTo s yz)) = sym e ∙ g .answer-is ∙ ap (popAnswer s yz) z in
       done to z (ap (goal (returnTo s yz)) f ∙ on (λ (a : PopFrame). goal (returnTo s yz) a ≡ returnTo s yz) (noFrame s) (λ n. refl) (λ n. refl))
 
-  pub pop-none : (to : ℕ) → q ≡ NoFrame → to ≡ returnTo s yz → Whole (guardedOn w s (popFrame s x (returnTo s yz))) reply.Done (goes t to) w
+  pub pop-none : (to : ℕ) → q ≡ NoFrame → to ≡ returnTo s yz → Whole (onlyIf (placed s) w s (popFrame s x (returnTo s yz))) reply.Done (goes t to) w
   unfolding popNumber
   pop-none to e f = done to (numbered NoFrame e) f
 
-  pub pop-refused : (a : PopFrame) (r : Reply) → q ≡ a → r ≡ replyOf (popNumber a) → eqb (popNumber a) 0 ≡ false → Whole (guardedOn w s (popFrame s x (returnTo s yz))) r t w
+  pub pop-refused : (a : PopFrame) (r : Reply) → q ≡ a → r ≡ replyOf (popNumber a) → eqb (popNumber a) 0 ≡ false → Whole (onlyIf (placed s) w s (popFrame s x (returnTo s yz))) r t w
   pop-refused a r e f n =
-      let z : popOf w s x .reply ≡ popNumber a = numbered a e in
+      let z : popIn w s x .reply ≡ popNumber a = numbered a e in
       sent-not s _ _ (returnTo s yz) r t w pop-open (f ∙ sym (ap replyOf z)) (g .state-is) window-stays pc-stays (rw z n)

@@ -10,8 +10,8 @@ use types.Run.{OneOf, miss}
 use denote.Enum.Declared.{tagOf}
 use borrow.Author.Tests.{eq-eqb, ne-eqb}
 use Rattle.model.specs.Registers.{rG, sp, following, goes, next, halted}
-use Rattle.model.specs.Memory.{Windows, shapesOf}
-use Rattle.model.specs.Plan.{Plan, answer, Outcome}
+use Rattle.model.specs.Memory.{Windows}
+use Rattle.model.specs.Plan.{Plan, Outcome}
 use Rattle.model.specs.NoMemory.{tell}
 use Rattle.model.specs.Contexts.{saveContext, unsaved, unsaveContext}
 use Rattle.model.specs.Parts.{made}
@@ -20,14 +20,12 @@ use Rattle.model.specs.declared.State.{State}
 use Rattle.model.specs.declared.Reply.{Reply}
 use Rattle.model.proofs.Reply.{the-type}
 use Rattle.model.proofs.Bools.{on}
-use Rattle.model.proofs.Entry.{performOn, said}
+use Rattle.model.proofs.Entry.{performOn}
 use Rattle.model.proofs.ArmAnswers.{Answers, context-meets, perform-meets}
 use Rattle.model.proofs.ItemInvariant.{Any}
 use Rattle.model.proofs.StepByArm.{sent, backTo, save-sent, unsave-sent}
-use Rattle.model.specs.Step.{unruledBy, guarded}
-use Rattle.stack.specs.GivenBack.{guardedOn, Gives}
+use Rattle.stack.specs.GivenBack.{onlyIf, Gives}
 use Rattle.instruction.specs.StepAnswer.{Whole}
-use Rattle.instruction.proofs.PushPopSent.{unruled-most}
 use Rattle.instruction.proofs.NoMemoryReplies.{refusals, tag-is}
 
 -- an outcome with a reply of 0 to 22, and PC at @ + 4 where it is done, else as it was
@@ -51,26 +49,21 @@ unsave-most : (s : State) (p : ℕ) → Answers Any Most (unsaveContext s p)
 unfolding unsaveContext Most
 unsave-most s p = context-meets (halted s) (λ o g a l vs. next (unsaved s o g a l vs)) p Any Most (λ n a b. omega arith) (λ o g a l vs b c d e f i. omega arith)
 
--- 1, 2 and 22 change nothing
+-- 1 changes nothing
 module _ (w : Windows) (s : State) where
-  unchanged : (n : ℕ) → eqb n 0 ≡ false → n ≤ 22 → Onward (performOn w s (answer n s 0 [])) s
-  unchanged n z b = rw (said w s s n) (record { most = b; sent-on = state })
-    where
-      state : record { reply = n; state = s; memory = w } ≡ sent (backTo s (record { reply = n; state = s; memory = w })) (following s)
-      state = unfold sent backTo goes in (rw z)
+  unchanged : Onward (record { reply = 1; state = s; memory = w }) s
+  unchanged = record { most = omega arith; sent-on = unfold sent backTo goes in refl }
 
-  guarded-onward : (p : Plan State) → Onward (performOn w s p) s → Onward (guardedOn w s p) s
-  unfolding guardedOn guarded
-  guarded-onward p h =
-      on (λ (q : Plan State). Onward (performOn w s q) s) (admissible s)
-      (λ e. on (λ (q : Plan State). Onward (performOn w s q) s) (eqb (unruledBy (shapesOf w)) 0) (λ f. h) (λ f. unchanged (unruledBy (shapesOf w)) f (unruled-most (shapesOf w))))
-      (λ e. unchanged 1 refl (omega arith))
+  only-onward : (b : Bool) (p : Plan State) → Onward (performOn w s p) s → Onward (onlyIf b w s p) s
+  unfolding onlyIf
+  only-onward true p h = h
+  only-onward false p h = unchanged
 
-  pub save-onward : (x : ℕ) → Onward (guardedOn w s (saveContext s x)) s
-  save-onward x = guarded-onward _ (record { most = performs-most w s _ (save-most s x); sent-on = save-sent w s x })
+  pub save-onward : (x : ℕ) → Onward (onlyIf (admissible s) w s (saveContext s x)) s
+  save-onward x = only-onward (admissible s) _ (record { most = performs-most w s _ (save-most s x); sent-on = save-sent w s x })
 
-  pub unsave-onward : (p : ℕ) → Onward (guardedOn w s (unsaveContext s p)) s
-  unsave-onward p = guarded-onward _ (record { most = performs-most w s _ (unsave-most s p); sent-on = unsave-sent w s p })
+  pub unsave-onward : (p : ℕ) → Onward (performOn w s (unsaveContext s p)) s
+  unsave-onward p = record { most = performs-most w s _ (unsave-most s p); sent-on = unsave-sent w s p }
 
 -- ---- the two ways out
 

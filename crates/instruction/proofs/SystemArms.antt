@@ -19,13 +19,13 @@ use Rattle.model.specs.declared.State.{State}
 use Rattle.model.specs.declared.Reply.{Reply}
 use Rattle.model.proofs.Bools.{on}
 use Rattle.model.proofs.StepByArm.{step-told, step-refused}
-use Rattle.stack.specs.SaveUnsave.{saveOf, unsaveOf}
+use Rattle.stack.specs.SaveUnsave.{saveIn, unsaveIn}
 use Rattle.exceptions.specs.Told.{Told}
 use Rattle.exceptions.specs.Interrupts.{tripOf, trapStep}
 use Rattle.instruction.specs.NoMemoryArms.{getOf, putOf}
 use Rattle.instruction.specs.StepAnswer.{Whole}
 use Rattle.instruction.specs.Arms.{unsaveAt}
-use Rattle.instruction.proofs.ArmSteps.{told-step, stack-step}
+use Rattle.instruction.proofs.ArmSteps.{told-step, plan-step, stack-step}
 
 -- what is said, with the windows as they were
 abbrev telling : Windows → Said → Outcome State Windows
@@ -79,10 +79,10 @@ module _ (w : Windows) (s : State) (a : admissible s ≡ true) (v : unruledBy (s
   trip-step k h = told-step w s a v op x y z r t trip k refl (tripOf s op x y z) refl h
 
   -- the arms that do
-  pub save-step : (u : Windows) → armOf op ≡ save → Whole (saveOf w s x) r t u → Whole (stepOf w s op x y z) r t u
-  unfolding planOf refusalOf saveOf
-  save-step u k h = stack-step w s a v op x y z r t save k refl (saveContext s x) u refl h
+  pub save-step : (u : Windows) → armOf op ≡ save → Whole (saveIn w s x) r t u → Whole (stepOf w s op x y z) r t u
+  unfolding planOf refusalOf saveIn
+  save-step u k h = stack-step w s a v op x y z r t save k refl (admissible s) a (saveContext s x) u refl h
 
   pub unsave-step : armOf op ≡ unsave → Whole (unsaveAt w s z) r t w → Whole (stepOf w s op x y z) r t w
-  unfolding planOf refusalOf unsaveOf
-  unsave-step k h = stack-step w s a v op x y z r t unsave k refl (unsaveContext s (reg s z)) w refl h
+  unfolding planOf refusalOf unsaveIn
+  unsave-step k h = plan-step w s a v op x y z r t unsave k refl (unsaveContext s (reg s z)) w refl h

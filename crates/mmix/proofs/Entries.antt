@@ -16,7 +16,7 @@ use Rattle.model.specs.declared.State.{State}
 use Rattle.model.specs.declared.Reply.{Reply}
 use Rattle.model.specs.declared.Reach.{Reach}
 use Rattle.exceptions.specs.Told.{Told}
-use Rattle.instruction.specs.StepAnswer.{Whole, RunWhole}
+use Rattle.instruction.specs.StepAnswer.{Numbered, RunNumbered}
 use Rattle.model.specs.Kept.{imageLength}
 use Rattle.image.specs.Image.{isImage, imageOf, stateOf, Encoded}
 use Rattle.image.proofs.Coded.{if-other, if-image}
@@ -24,13 +24,11 @@ use Rattle.mmix.specs.Entries.{Initialized, Stepped, SteppedState, RanIm
 
 -- ---- on the parts of a state
 
-pub stepped-state : (w : Windows) (s : State) (op x y z : ℕ) (q : Reply) (t : State) (v : Windows) → Whole (stepOf w s op x y z) q t v
-    → (r : ℕ) → r ≡ numberOf q → SteppedState w s op x y z r t v
-stepped-state w s op x y z q t v g r e = record { reply-is = e ∙ ap numberOf (g .reply-is); state-is = g .state-is; window-is = g .window-is }
+pub stepped-state : (w : Windows) (s : State) (op x y z r : ℕ) (t : State) (v : Windows) → Numbered (stepOf w s op x y z) r t v → SteppedState w s op x y z r t v
+stepped-state w s op x y z r t v g = record { reply-is = g .reply-is; state-is = g .state-is; window-is = g .window-is }
 
-pub ran-state : (w : Windows) (s : State) (grant : ℕ) (q : Reply) (n : ℕ) (t : State) (v : Windows) → RunWhole (runOf w s grant) q n t v
-    → (r : ℕ) → r ≡ numberOf q → RanState w s grant r n t v
-ran-state w s grant q n t v g r e = record { reply-is = e ∙ ap numberOf (g .reply-is); count-is = g .count-is; state-is = g .state-is; window-is = g .window-is }
+pub ran-state : (w : Windows) (s : State) (grant r n : ℕ) (t : State) (v : Windows) → RunNumbered (runOf w s grant) r n t v → RanState w s grant r n t v
+ran-state w s grant r n t v g = record { reply-is = g .reply-is; count-is = g .count-is; state-is = g .state-is; window-is = g .window-is }
 
 pub raised-state : (s : State) (f op x y z u v : ℕ) (q : Reply) (t : State) → Told (exceptionOf s f op x y z u v) q t
     → (r : ℕ) → r ≡ numberOf q → RaisedState s f op x y z u v r t

@@ -61,6 +61,9 @@ module _ (w : Windows) (s : State) where
   unfolding refusalOn
   refused-windows a = rw a
 
+  pub refused-none : admissible s ≡ true → unruledBy (shapesOf w) ≡ 0 → refusalOn w s ≡ 0
+  refused-none a u = sym (refused-windows a) ∙ u
+
   -- in place
   pub only-open : (t : Bool) (p : Plan State) → t ≡ true → onlyIf t w s p ≡ performOn w s p
   unfolding onlyIf

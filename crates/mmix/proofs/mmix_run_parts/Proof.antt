@@ -1,4 +1,4 @@
--- `mmix_run_parts` meets its contract: it is the run in place, with the reply's number.
+-- `mmix_run_parts` meets its contract: it is the run in place.
 use borrow.Author.Needs.{needs}
 use Rattle.mmix.proofs.Entries.{ran-state}
 use Rattle.mmix.proofs.mmix_run_parts.Statement.{statement}
@@ -7,9 +7,6 @@ use Rattle.mmix.proofs.mmix_run_parts.Tie as tie
 run-requires : tie.Need-run-requires
 run-requires c κs = search needs
 
-number-of-requires : tie.Need-number-of-requires
-number-of-requires c κs = search needs
-
 same-length : tie.Need-same-length
 same-length c = search needs
 
@@ -17,14 +14,13 @@ same-length-2 : tie.Need-same-length-2
 same-length-2 c = search needs
 
 returns : tie.Need-returns
-returns c = ran-state _ _ _ _ _ _ _ (c .before .before .before .before .before .run .ensures) _ (c .number-of .ensures)
+returns c = ran-state _ _ _ _ _ _ _ (c .before .before .before .before .run .ensures)
 
 pub mmix-run-parts-spec : {M : Type 1} → statement M
 mmix-run-parts-spec =
     tie.close
     (tie.spec
     run-requires
-    number-of-requires
     same-length
     same-length-2
     returns)

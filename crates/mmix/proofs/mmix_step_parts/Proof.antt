@@ -1,4 +1,4 @@
--- `mmix_step_parts` meets its contract: it is the step in place, with the reply's number.
+-- `mmix_step_parts` meets its contract: it is the step in place.
 use borrow.Author.Needs.{needs}
 use Rattle.mmix.proofs.Entries.{stepped-state}
 use Rattle.mmix.proofs.mmix_step_parts.Statement.{statement}
@@ -7,9 +7,6 @@ use Rattle.mmix.proofs.mmix_step_parts.Tie as tie
 step-requires : tie.Need-step-requires
 step-requires c κs = search needs
 
-number-of-requires : tie.Need-number-of-requires
-number-of-requires c κs = search needs
-
 same-length : tie.Need-same-length
 same-length c = search needs
 
@@ -17,14 +14,13 @@ same-length-2 : tie.Need-same-length-2
 same-length-2 c = search needs
 
 returns : tie.Need-returns
-returns c = stepped-state _ _ _ _ _ _ _ _ _ (c .before .before .before .before .before .step .ensures) _ (c .number-of .ensures)
+returns c = stepped-state _ _ _ _ _ _ _ _ _ (c .before .before .before .before .step .ensures)
 
 pub mmix-step-parts-spec : {M : Type 1} → statement M
 mmix-step-parts-spec =
     tie.close
     (tie.spec
     step-requires
-    number-of-requires
     same-length
     same-length-2
     returns)

@@ -1,7 +1,7 @@
 -- `save_to` meets its contract: the reply's number is the outcome's, so the match tells whether PC goes on.
 use borrow.Author.Needs.{needs}
 use Rattle.model.specs.Parts.{made, lent}
-use Rattle.stack.specs.SaveUnsave.{saveOf}
+use Rattle.stack.specs.SaveUnsave.{saveIn}
 use Rattle.instruction.proofs.SaveUnsaveSent.{save-onward, onward-done, onward-refused}
 use Rattle.instruction.proofs.contexts.save_to.Statement.{statement}
 use Rattle.instruction.proofs.contexts.save_to.Tie as tie
@@ -22,7 +22,7 @@ same-length-2 : tie.Need-same-length-2
 same-length-2 c = search needs
 
 returns : tie.Need-returns
-unfolding saveOf
+unfolding saveIn
 returns c =
     let told = c .before .before .before .before .before .before .before .before in
     let a = told .before .before .before .before .before .before .before .before .args in
@@ -36,7 +36,7 @@ same-length-4 : tie.Need-same-length-4
 same-length-4 c = search needs
 
 returns-2 : tie.Need-returns-2
-unfolding saveOf
+unfolding saveIn
 returns-2 c =
     let told = c .before .before .before .before .before in
     let a = told .before .before .before .before .before .before .before .before .args in

@@ -1,7 +1,7 @@
 -- `unsave_from` meets its contract: the reply's number is the outcome's, so the match tells whether PC goes on.
 use borrow.Author.Needs.{needs}
 use Rattle.model.specs.Parts.{made, lent}
-use Rattle.stack.specs.SaveUnsave.{unsaveOf}
+use Rattle.stack.specs.SaveUnsave.{unsaveIn}
 use Rattle.instruction.proofs.SaveUnsaveSent.{unsave-onward, onward-done, onward-refused}
 use Rattle.instruction.proofs.contexts.unsave_from.Statement.{statement}
 use Rattle.instruction.proofs.contexts.unsave_from.Tie as tie
@@ -16,20 +16,22 @@ following-requires : tie.Need-following-requires
 following-requires c κs = search needs
 
 returns : tie.Need-returns
-unfolding unsaveOf
+unfolding unsaveIn
 returns c =
+    λ marks.
     let told = c .before .before .before .before in
     let a = told .before .before .before .before .before .before .args in
-    let s = made (a .general .now) (a .special .now) (a .pc .now) (a .halt .now) (a .marks) in
-    onward-done _ s (unsave-onward (lent (a .at) (a .a .now) (a .b .now)) s (a .address)) _ _ _ _ _ (told .unsave-context .ensures (a .pc .now)) _ (c .before .before .before .match .keys1) (c .following .ensures)
+    let s = made (a .general .now) (a .special .now) (a .pc .now) (a .halt .now) marks in
+    onward-done _ s (unsave-onward (lent (a .at) (a .a .now) (a .b .now)) s (a .address)) _ _ _ _ _ (told .unsave-context .ensures (a .pc .now) marks) _ (c .before .before .before .match .keys1) (c .following .ensures)
 
 returns-2 : tie.Need-returns-2
-unfolding unsaveOf
+unfolding unsaveIn
 returns-2 c =
+    λ marks.
     let told = c .before in
     let a = told .before .before .before .before .before .before .args in
-    let s = made (a .general .now) (a .special .now) (a .pc .now) (a .halt .now) (a .marks) in
-    onward-refused _ s (unsave-onward (lent (a .at) (a .a .now) (a .b .now)) s (a .address)) _ _ _ _ _ (told .unsave-context .ensures (a .pc .now)) (c .match .keys2)
+    let s = made (a .general .now) (a .special .now) (a .pc .now) (a .halt .now) marks in
+    onward-refused _ s (unsave-onward (lent (a .at) (a .a .now) (a .b .now)) s (a .address)) _ _ _ _ _ (told .unsave-context .ensures (a .pc .now) marks) (c .match .keys2)
 
 pub unsave-from-spec : {M : Type 1} → statement M
 unsave-from-spec =

@@ -19,12 +19,12 @@ same-length-2 c = search needs
 
 returns : tie.Need-returns
 returns c =
-    λ halt.
+    λ halt marks.
     let calls = c .before .before .before .before in
     let sums = calls .before .before .before .before .before .before in
     let a = sums .before .before .before .before .args in
-    let s = made (a .general .now) (a .special .now) (a .pc .now) halt (a .marks) in
-    push-at (lent (a .at) (a .a .now) (a .b .now)) s (a .x) _ _ _ _ _ (sums .sum .ensures (a .special .now) (a .pc .now) halt (a .marks)) (calls .push-to .ensures halt)
+    let s = made (a .general .now) (a .special .now) (a .pc .now) halt marks in
+    push-at (lent (a .at) (a .a .now) (a .b .now)) s (a .x) _ _ _ _ _ (sums .sum .ensures (a .special .now) (a .pc .now) halt marks) (calls .push-to .ensures halt marks)
 
 pub push-go-spec : {M : Type 1} → statement M
 push-go-spec = tie.close (tie.spec sum-requires push-to-requires same-length same-length-2 returns)

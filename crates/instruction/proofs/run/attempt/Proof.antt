@@ -1,15 +1,20 @@
 -- `attempt` meets its contract: a branch, which claims nothing; a claim of a marginal register; or the arm alone.
-use mathlib.Core.Path.{_≡_, sym, _∙_}
+use mathlib.Core.Path.{_≡_, refl, sym, ap, _∙_}
 use mathlib.Core.Bool.{true, _&&_}
-use borrow.Author.Needs.{needs}
+use Prim.Native.Nat.{ℕ, _+_, _%_}
+use native.Mathlib.Omega.{arith}
 use Rattle.model.specs.Registers.{Sized, isMarginal}
 use Rattle.model.specs.Opcodes.{firstBranch, lastBranch, among}
 use Rattle.model.specs.Step.{claims, opcodeIn, xIn, yIn, zIn}
 use Rattle.model.specs.Parts.{made, lent}
 use Rattle.model.proofs.Bools.{and-left, and-right}
+use Rattle.stack.proofs.Judged.{refused-none}
 use Rattle.decode.proofs.Groups.{branch-arm}
+use Rattle.instruction.specs.StepAnswer.{judged}
 use Rattle.instruction.proofs.ControlArms.{step-branch}
 use Rattle.instruction.proofs.ClaimTakenBack.{tetra-claims, tetra-plain, tetra-branch}
+use Rattle.instruction.proofs.EarlyRefusals.{done-numbered}
+use borrow.Author.Needs.{needs}
 use Rattle.instruction.proofs.run.attempt.Statement.{statement}
 use Rattle.instruction.proofs.run.attempt.Tie as tie
 
@@ -36,27 +41,24 @@ branch-requires c κs = search needs
 
 returns : tie.Need-returns
 returns c =
-    let then = c .before .before .before in
-    let counted = then .before .before in
-    let start = counted .before .before .before .before .before in
+    let start = c .before .before .before .before .before .before .before .before .before .before in
     let a = start .args in
     let w = lent (a .at) (a .a .now) (a .b .now) in
     let s = made (a .general .now) (a .special .now) (a .pc .now) (a .halt .now) (a .marks) in
-    let n : Sized s = record { generals = counted .counted .ensures .0; specials = counted .counted .ensures .1 } in
-    let is : among firstBranch lastBranch (opcodeIn (a .tetra)) ≡ true = sym (then .before .is-among .ensures) ∙ then .if1 .taken in
+    let n : Sized s = record { generals = c .before .before .before .before .before .counted .ensures .0; specials = c .before .before .before .before .before .counted .ensures .1 } in
+    let is : among firstBranch lastBranch (opcodeIn (a .tetra)) ≡ true = sym (c .before .before .before .before .is-among .ensures) ∙ c .before .before .before .if1 .taken in
     tetra-branch w s n (start .pre .0) (start .pre .1) (a .tetra) (start .pre .2) _ (made _ _ _ _ _) _ is
-    (step-branch w s (start .pre .0) (start .pre .1) (opcodeIn (a .tetra)) (xIn (a .tetra)) (yIn (a .tetra)) (zIn (a .tetra)) _ (made _ _ _ _ _) (branch-arm (opcodeIn (a .tetra)) is) (c .branch .ensures _ _ _))
+    (done-numbered w s (opcodeIn (a .tetra)) (xIn (a .tetra)) (yIn (a .tetra)) (zIn (a .tetra)) _ (made _ _ _ _ _) (start .pre .0) (start .pre .1) is (c .branch .ensures _ _ _))
 
 is-claimed-requires : tie.Need-is-claimed-requires
 is-claimed-requires c κs = search needs
 
 claimed-requires : tie.Need-claimed-requires
 claimed-requires c κs =
-    let then = c .before .before .before .before .before .before in
-    let start = then .before .before .before .before .before .before .before .before .before .before in
+    let start = c .before .before .before .before .before .before .before .before .before .before .before .before .before .before .before .before in
     let a = start .args in
     let s = made (a .general .now) (a .special .now) (a .pc .now) (a .halt .now) (a .marks) in
-    let both : (isMarginal s (xIn (a .tetra)) && claims (opcodeIn (a .tetra))) ≡ true = sym (then .before .is-claimed .ensures (a .general .now) (a .pc .now) (a .halt .now) (a .marks)) ∙ then .if2 .taken in
+    let both : (isMarginal s (xIn (a .tetra)) && claims (opcodeIn (a .tetra))) ≡ true = sym (c .before .before .before .before .before .before .before .is-claimed .ensures (a .general .now) (a .pc .now) (a .halt .now) (a .marks)) ∙ c .before .before .before .before .before .before .if2 .taken in
     (start .pre .0, start .pre .1, and-right (isMarginal s (xIn (a .tetra))) (claims (opcodeIn (a .tetra))) both, and-left (isMarginal s (xIn (a .tetra))) (claims (opcodeIn (a .tetra))) both)
 
 same-length : tie.Need-same-length
@@ -67,19 +69,22 @@ same-length-2 c = search needs
 
 returns-2 : tie.Need-returns-2
 returns-2 c =
-    let call = c .before .before .before .before in
-    let then = call .before .before .before .before .before .before .before in
-    let counted = then .before .before .before .before .before in
-    let start = counted .before .before .before .before .before in
+    let start = c .before .before .before .before .before .before .before .before .before .before .before .before .before .before .before .before .before .before .before .before .before in
     let a = start .args in
     let w = lent (a .at) (a .a .now) (a .b .now) in
     let s = made (a .general .now) (a .special .now) (a .pc .now) (a .halt .now) (a .marks) in
-    let n : Sized s = record { generals = counted .counted .ensures .0; specials = counted .counted .ensures .1 } in
-    let both : (isMarginal s (xIn (a .tetra)) && claims (opcodeIn (a .tetra))) ≡ true = sym (then .before .is-claimed .ensures (a .general .now) (a .pc .now) (a .halt .now) (a .marks)) ∙ then .if2 .taken in
-    tetra-claims w s n (start .pre .0) (start .pre .1) (a .tetra) (start .pre .2) _ (made _ _ _ _ _) _ (and-right (isMarginal s (xIn (a .tetra))) (claims (opcodeIn (a .tetra))) both) (call .claimed .ensures)
+    let n : Sized s = record { generals = c .before .before .before .before .before .before .before .before .before .before .before .before .before .before .before .before .counted .ensures .0; specials = c .before .before .before .before .before .before .before .before .before .before .before .before .before .before .before .before .counted .ensures .1 } in
+    let both : (isMarginal s (xIn (a .tetra)) && claims (opcodeIn (a .tetra))) ≡ true = sym (c .before .before .before .before .before .before .before .before .before .before .before .before .is-claimed .ensures (a .general .now) (a .pc .now) (a .halt .now) (a .marks)) ∙ c .before .before .before .before .before .before .before .before .before .before .before .if2 .taken in
+    tetra-claims w s n (start .pre .0) (start .pre .1) (a .tetra) (start .pre .2) _ (made _ _ _ _ _) _ (and-right (isMarginal s (xIn (a .tetra))) (claims (opcodeIn (a .tetra))) both) (c .before .before .before .before .claimed .ensures)
 
-dispatch-requires : tie.Need-dispatch-requires
-dispatch-requires c κs = search needs
+cast-code : tie.Need-cast-code
+cast-code c = search needs
+
+add-code : tie.Need-add-code
+add-code c = search needs
+
+stepped-requires : tie.Need-stepped-requires
+stepped-requires c κs = λ l. refused-none _ (made _ _ _ _ _) (c .before .before .before .before .before .before .before .before .before .before .before .before .before .before .before .before .pre .0) (c .before .before .before .before .before .before .before .before .before .before .before .before .before .before .before .before .pre .1)
 
 same-length-3 : tie.Need-same-length-3
 same-length-3 c = search needs
@@ -89,15 +94,13 @@ same-length-4 c = search needs
 
 returns-3 : tie.Need-returns-3
 returns-3 c =
-    let call = c .before .before .before .before in
-    let then = call .before .before .before .before .before .before .before in
-    let counted = then .before .before .before .before .before in
-    let start = counted .before .before .before .before .before in
+    let start = c .before .before .before .before .before .before .before .before .before .before .before .before .before .before .before .before .before .before .before .before .before in
     let a = start .args in
     let w = lent (a .at) (a .a .now) (a .b .now) in
     let s = made (a .general .now) (a .special .now) (a .pc .now) (a .halt .now) (a .marks) in
-    let n : Sized s = record { generals = counted .counted .ensures .0; specials = counted .counted .ensures .1 } in
-    tetra-plain w s n (start .pre .0) (start .pre .1) (a .tetra) (start .pre .2) _ (made _ _ _ _ _) _ (sym (then .before .is-claimed .ensures (a .general .now) (a .pc .now) (a .halt .now) (a .marks)) ∙ then .if2 .left) (call .dispatch .ensures)
+    let n : Sized s = record { generals = c .before .before .before .before .before .before .before .before .before .before .before .before .before .before .before .before .counted .ensures .0; specials = c .before .before .before .before .before .before .before .before .before .before .before .before .before .before .before .before .counted .ensures .1 } in
+    let code : (judged + opcodeIn (a .tetra)) % judged ≡ opcodeIn (a .tetra) = omega arith in
+    tetra-plain w s n (start .pre .0) (start .pre .1) (a .tetra) (start .pre .2) _ (made _ _ _ _ _) _ (sym (c .before .before .before .before .before .before .before .before .before .before .before .before .is-claimed .ensures (a .general .now) (a .pc .now) (a .halt .now) (a .marks)) ∙ c .before .before .before .before .before .before .before .before .before .before .before .if2 .left) (rw code at (c .before .before .before .before .stepped .ensures))
 
 pub attempt-spec : {M : Type 1} → statement M
 attempt-spec =
@@ -116,7 +119,9 @@ attempt-spec =
     same-length
     same-length-2
     returns-2
-    dispatch-requires
+    cast-code
+    add-code
+    stepped-requires
     same-length-3
     same-length-4
     returns-3)

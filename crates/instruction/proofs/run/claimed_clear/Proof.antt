@@ -1,10 +1,13 @@
 -- `claimed_clear` meets its contract: rL alone is the claim, and a refusal leaves the other registers.
-use mathlib.Core.Path.{refl, sym, _∙_}
+use mathlib.Core.Path.{_≡_, refl, sym, _∙_}
+use Prim.Native.Nat.{_+_, _%_}
 use native.Mathlib.Omega.{arith}
-use borrow.Author.Needs.{needs}
 use Rattle.model.specs.Registers.{Sized}
 use Rattle.model.specs.Parts.{made, lent}
+use Rattle.stack.proofs.Judged.{refused-none}
+use Rattle.instruction.specs.StepAnswer.{judged}
 use Rattle.instruction.proofs.ClaimTakenBack.{claim-clear, claim-judged, claim-kept, claim-gone-clear}
+use borrow.Author.Needs.{needs}
 use Rattle.instruction.proofs.run.claimed_clear.Statement.{statement}
 use Rattle.instruction.proofs.run.claimed_clear.Tie as tie
 
@@ -20,15 +23,18 @@ add-special c = search needs
 element-write-special : tie.Need-element-write-special
 element-write-special c = search needs
 
-dispatch-requires : tie.Need-dispatch-requires
-dispatch-requires c κs =
-    let counted = c .before .before .before .before .before .before .before in
-    let start = counted .before .before .before .before .before in
+add-code : tie.Need-add-code
+add-code c = search needs
+
+stepped-requires : tie.Need-stepped-requires
+stepped-requires c κs =
+    λ l.
+    let start = c .before .before .before .before .before .before .before .before .before .before .before .before in
     let a = start .args in
     let w = lent (a .at) (a .a .now) (a .b .now) in
     let s = made (a .general .now) (a .special .now) (a .pc .now) (a .halt .now) (a .marks) in
-    let n : Sized s = record { generals = counted .counted .ensures .0; specials = counted .counted .ensures .1 } in
-    (claim-judged w s _ (a .op) (a .x) (a .y) (a .z) n (start .pre .0) (start .pre .1) (omega arith) (start .pre .2) (claim-clear s (a .x) (start .pre .3) (start .pre .4)), start .pre .1)
+    let n : Sized s = record { generals = c .before .before .before .before .before .before .before .counted .ensures .0; specials = c .before .before .before .before .before .before .before .counted .ensures .1 } in
+    refused-none w (made _ _ _ _ _) (claim-judged w s _ (a .op) (a .x) (a .y) (a .z) n (start .pre .0) (start .pre .1) (omega arith) (start .pre .2) (claim-clear s (a .x) (start .pre .3) (start .pre .4))) (start .pre .1)
 
 keeps-claim-requires : tie.Need-keeps-claim-requires
 keeps-claim-requires c κs = search needs
@@ -41,16 +47,14 @@ same-length-2 c = search needs
 
 returns : tie.Need-returns
 returns c =
-    let asks = c .before in
-    let call = asks .before .before .before .before .before in
-    let counted = call .before .before .before .before .before .before .before .before in
-    let start = counted .before .before .before .before .before in
+    let start = c .before .before .before .before .before .before .before .before .before .before .before .before .before .before .before .before .before .before .before in
     let a = start .args in
     let w = lent (a .at) (a .a .now) (a .b .now) in
     let s = made (a .general .now) (a .special .now) (a .pc .now) (a .halt .now) (a .marks) in
-    let n : Sized s = record { generals = counted .counted .ensures .0; specials = counted .counted .ensures .1 } in
-    claim-kept w s _ (a .op) (a .x) (a .y) (a .z) n (start .pre .0) (start .pre .1) (omega arith) (start .pre .2) (claim-clear s (a .x) (start .pre .3) (start .pre .4)) _ (made _ _ _ _ _) _ (call .dispatch .ensures)
-    (sym (asks .keeps-claim .ensures) ∙ c .if1 .taken)
+    let n : Sized s = record { generals = c .before .before .before .before .before .before .before .before .before .before .before .before .before .before .counted .ensures .0; specials = c .before .before .before .before .before .before .before .before .before .before .before .before .before .before .counted .ensures .1 } in
+    let code : (judged + a .op) % judged ≡ a .op = omega arith in
+    claim-kept w s _ (a .op) (a .x) (a .y) (a .z) n (start .pre .0) (start .pre .1) (omega arith) (start .pre .2) (claim-clear s (a .x) (start .pre .3) (start .pre .4)) _ (made _ _ _ _ _) _ (rw code at (c .before .before .before .before .before .before .stepped .ensures))
+    (sym (c .before .keeps-claim .ensures) ∙ c .if1 .taken)
 
 element-write-special-2 : tie.Need-element-write-special-2
 element-write-special-2 c = search needs
@@ -63,16 +67,14 @@ same-length-4 c = search needs
 
 returns-2 : tie.Need-returns-2
 returns-2 c =
-    let asks = c .before in
-    let call = asks .before .before .before .before .before in
-    let counted = call .before .before .before .before .before .before .before .before in
-    let start = counted .before .before .before .before .before in
+    let start = c .before .before .before .before .before .before .before .before .before .before .before .before .before .before .before .before .before .before .before in
     let a = start .args in
     let w = lent (a .at) (a .a .now) (a .b .now) in
     let s = made (a .general .now) (a .special .now) (a .pc .now) (a .halt .now) (a .marks) in
-    let n : Sized s = record { generals = counted .counted .ensures .0; specials = counted .counted .ensures .1 } in
-    claim-gone-clear w s _ (a .op) (a .x) (a .y) (a .z) n (start .pre .0) (start .pre .1) (omega arith) (start .pre .2) (claim-clear s (a .x) (start .pre .3) (start .pre .4)) _ (made _ _ _ _ _) _ (call .dispatch .ensures)
-    (sym (asks .keeps-claim .ensures) ∙ c .if1 .left) refl
+    let n : Sized s = record { generals = c .before .before .before .before .before .before .before .before .before .before .before .before .before .before .counted .ensures .0; specials = c .before .before .before .before .before .before .before .before .before .before .before .before .before .before .counted .ensures .1 } in
+    let code : (judged + a .op) % judged ≡ a .op = omega arith in
+    claim-gone-clear w s _ (a .op) (a .x) (a .y) (a .z) n (start .pre .0) (start .pre .1) (omega arith) (start .pre .2) (claim-clear s (a .x) (start .pre .3) (start .pre .4)) _ (made _ _ _ _ _) _ (rw code at (c .before .before .before .before .before .before .stepped .ensures))
+    (sym (c .before .keeps-claim .ensures) ∙ c .if1 .left) refl
 
 pub claimed-clear-spec : {M : Type 1} → statement M
 claimed-clear-spec =
@@ -82,7 +84,8 @@ claimed-clear-spec =
     element-copy-out-rl
     add-special
     element-write-special
-    dispatch-requires
+    add-code
+    stepped-requires
     keeps-claim-requires
     same-length
     same-length-2

@@ -1,5 +1,5 @@
 -- `turns` meets its contract. The loop's invariant: i turns are done, and the rest of the grant is to be run from here.
-use mathlib.Core.Path.{_≡_, refl, sym, _∙_}
+use mathlib.Core.Path.{_≡_, refl, _∙_}
 use Prim.Native.Nat.{_-_}
 use native.Mathlib.Omega.{arith}
 use lib.ListN.{length}
@@ -34,9 +34,6 @@ fetched-requires c κs =
     let turn = c .before .before .before .before .before .before .before .loop .inv .0 in
     (turn .admitted, turn .fine)
 
-number-of-requires : tie.Need-number-of-requires Inv-loop μ-loop
-number-of-requires c κs = search needs
-
 same-length : tie.Need-same-length Inv-loop μ-loop
 same-length c = search needs
 
@@ -45,10 +42,9 @@ same-length-2 c = search needs
 
 returns : tie.Need-returns Inv-loop μ-loop
 returns c =
-    let asks = c .before in
-    let call = asks .before .before .before .before .before in
+    let call = c .before .before .before .before .before in
     let turn = call .before .before .before .before .before .before .before .before in
-    run-refused _ _ _ (lent _ _ _) (made _ _ _ _ _) (turn .loop .inv .0) (omega arith) _ (made _ _ _ _ _) (lent _ _ _) (call .fetched .ensures) (λ q. c .if1 .taken (asks .number-of .ensures ∙ q))
+    run-refused _ _ _ (lent _ _ _) (made _ _ _ _ _) (turn .loop .inv .0) (omega arith) _ (made _ _ _ _ _) (lent _ _ _) (call .fetched .ensures) (c .if1 .taken)
 
 add-i : tie.Need-add-i Inv-loop μ-loop
 add-i c = omega arith
@@ -58,11 +54,10 @@ loop-less c = omega arith
 
 loop-again : tie.Need-loop-again Inv-loop μ-loop
 loop-again c =
-    let asks = c .before in
-    let call = asks .before .before .before .before .before in
+    let call = c .before .before .before .before .before in
     let turn = call .before .before .before .before .before .before .before .before in
     let lengths = same-lengths _ _ _ _ _ (next-shapes _ _ _ (lent _ _ _) (made _ _ _ _ _) (turn .loop .inv .0) (omega arith) _ (made _ _ _ _ _) (lent _ _ _) (call .fetched .ensures)) in (
-      next-turn _ _ _ (lent _ _ _) (made _ _ _ _ _) (turn .loop .inv .0) (omega arith) _ (made _ _ _ _ _) (lent _ _ _) (call .fetched .ensures) (sym (asks .number-of .ensures) ∙ c .if1 .left),
+      next-turn _ _ _ (lent _ _ _) (made _ _ _ _ _) (turn .loop .inv .0) (omega arith) _ (made _ _ _ _ _) (lent _ _ _) (call .fetched .ensures) (c .if1 .left),
       lengths .0 ∙ turn .loop .inv .1,
       lengths .1 ∙ turn .loop .inv .2,
     )
@@ -85,7 +80,6 @@ turns-spec =
     counted-requires
     loop-holds
     fetched-requires
-    number-of-requires
     same-length
     same-length-2
     returns

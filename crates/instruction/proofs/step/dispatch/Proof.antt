@@ -117,7 +117,7 @@ unfolding armOf
 returns-5 c =
     let key = c .before .before .before .before .before .before .before .before .before .before in
     let start = key .before .before .before .before .before in
-    step-push-go _ _ (start .pre .0) (start .pre .1) _ _ _ _ _ (made _ _ _ _ _) _ (rw (key .match .keys4)) (c .before .before .before .before .push-go .ensures _)
+    step-push-go _ _ (start .pre .0) (start .pre .1) _ _ _ _ _ (made _ _ _ _ _) _ (rw (key .match .keys4)) (c .before .before .before .before .push-go .ensures _ _)
 
 same-length-3 : tie.Need-same-length-3
 same-length-3 c = search needs
@@ -130,7 +130,7 @@ unfolding armOf
 returns-6 c =
     let key = c .before .before .before .before .before .before .before .before .before .before in
     let start = key .before .before .before .before .before in
-    step-push-go _ _ (start .pre .0) (start .pre .1) _ _ _ _ _ (made _ _ _ _ _) _ (rw (key .match .keys5)) (c .before .before .before .before .push-go2 .ensures _)
+    step-push-go _ _ (start .pre .0) (start .pre .1) _ _ _ _ _ (made _ _ _ _ _) _ (rw (key .match .keys5)) (c .before .before .before .before .push-go2 .ensures _ _)
 
 returns-7 : tie.Need-returns-7
 unfolding armOf
@@ -157,7 +157,7 @@ unfolding armOf
 returns-9 c =
     let key = c .before .before .before .before .before .before .before .before .before .before in
     let start = key .before .before .before .before .before in
-    step-push-jump _ _ (start .pre .0) (start .pre .1) _ _ _ _ _ (made _ _ _ _ _) _ (rw (key .match .keys8)) (c .before .before .before .before .push-jump .ensures _)
+    step-push-jump _ _ (start .pre .0) (start .pre .1) _ _ _ _ _ (made _ _ _ _ _) _ (rw (key .match .keys8)) (c .before .before .before .before .push-jump .ensures _ _)
 
 same-length-7 : tie.Need-same-length-7
 same-length-7 c = search needs
@@ -170,7 +170,7 @@ unfolding armOf
 returns-10 c =
     let key = c .before .before .before .before .before .before .before .before .before .before in
     let start = key .before .before .before .before .before in
-    step-push-jump _ _ (start .pre .0) (start .pre .1) _ _ _ _ _ (made _ _ _ _ _) _ (rw (key .match .keys9)) (c .before .before .before .before .push-jump2 .ensures _)
+    step-push-jump _ _ (start .pre .0) (start .pre .1) _ _ _ _ _ (made _ _ _ _ _) _ (rw (key .match .keys9)) (c .before .before .before .before .push-jump2 .ensures _ _)
 
 returns-11 : tie.Need-returns-11
 unfolding armOf
@@ -211,7 +211,7 @@ unfolding armOf
 returns-15 c =
     let key = c .before .before .before .before .before .before .before in
     let start = key .before .before .before .before .before in
-    step-pop _ _ (start .pre .0) (start .pre .1) _ _ _ _ _ (made _ _ _ _ _) _ (rw (key .match .keys14)) (c .pop-to .ensures)
+    step-pop _ _ (start .pre .0) (start .pre .1) _ _ _ _ _ (made _ _ _ _ _) _ (rw (key .match .keys14)) (c .pop-to .ensures _)
 
 same-length-11 : tie.Need-same-length-11
 same-length-11 c = search needs
@@ -237,7 +237,7 @@ unfolding armOf
 returns-17 c =
     let key = c .before .before .before .before .before .before .before in
     let start = key .before .before .before .before .before in
-    unsave-step _ _ (start .pre .0) (start .pre .1) _ _ _ _ _ (made _ _ _ _ _) (rw (key .match .keys16)) (c .unsave-register .ensures)
+    unsave-step _ _ (start .pre .0) (start .pre .1) _ _ _ _ _ (made _ _ _ _ _) (rw (key .match .keys16)) (c .unsave-register .ensures _)
 
 returns-18 : tie.Need-returns-18
 unfolding armOf
