@@ -20,7 +20,7 @@ use Rattle.model.specs.declared.State.{State}
 use Rattle.model.specs.declared.Reply.{Reply}
 use Rattle.model.proofs.Numbers.{step-number}
 use Rattle.model.proofs.Leaves.{replies-leave}
-use Rattle.instruction.specs.StepAnswer.{Whole}
+use Rattle.instruction.specs.StepAnswer.{Numbered}
 use Rattle.script.specs.Line.{lineOf}
 use Rattle.text.specs.Text.{filled, badText}
 use Rattle.text.specs.Pieces.{pieces, lineLength}
@@ -70,14 +70,14 @@ module _ (n : ℕ) (s : State) (w : Windows) (f : Form) (b : List ℕ) (at : ℕ
   leaves-same g e c end going t v h = rw e h
 
 -- a step's reply is one of 0 to 20, so that its number says all
-pub leaves-step : (n : ℕ) (s : State) (w : Windows) (i : Instruction) (b : List ℕ) (at : ℕ) → Sized s → (q : Reply) (t : State) (v : Windows)
-    → Whole (stepOf w s (i .op) (i .x) (i .y) (i .z)) q t v → (number : ℕ) → number ≡ numberOf q
+pub leaves-step : (n : ℕ) (s : State) (w : Windows) (i : Instruction) (b : List ℕ) (at : ℕ) → Sized s → (number : ℕ) (t : State) (v : Windows)
+    → Numbered (stepOf w s (i .op) (i .x) (i .y) (i .z)) number t v
     → (c : List ℕ) (end : ℕ) → Wrote b at (stepText i number t) c end → Leaves (turnOf n s w (Step i)) b at c end (eqb number 0) t v
 unfolding turnOf
-leaves-step n s w i b at z q t v g number e c end p =
+leaves-step n s w i b at z number t v g c end p =
     let o = stepOf w s (i .op) (i .x) (i .y) (i .z) in
     let r : number ≡ o .reply =
-    e ∙ ap numberOf (g .reply-is) ∙ step-number (o .reply) (replies-leave .by-step w s (i .op) (i .x) (i .y) (i .z) z .most) in
+    g .reply-is ∙ step-number (o .reply) (replies-leave .by-step w s (i .op) (i .x) (i .y) (i .z) z .most) in
     record {
       text-is = wrote-as b at (stepText i number t) (stepText i (o .reply) (o .state)) c end
           (ap (λ (k : ℕ). stepText i k t) r ∙ ap (stepText i (o .reply)) (g .state-is)) p;

@@ -8,9 +8,6 @@ use Rattle.script.proofs.script.step.Tie as tie
 step-requires : tie.Need-step-requires
 step-requires c κs = search needs
 
-number-of-requires : tie.Need-number-of-requires
-number-of-requires c κs = search needs
-
 put-step-requires : tie.Need-put-step-requires
 put-step-requires c κs = search needs
 
@@ -26,15 +23,14 @@ same-length-3 c = search needs
 returns : tie.Need-returns
 returns c n =
     let printing = c .before .before in
-    let numbering = printing .before .before in
-    let stepping = numbering .before .before .before .before .before .before in
+    let stepping = printing .before .before .before .before .before .before .before in
     let start = stepping .before .before .before .before .before .before in
     let good = start .good .1 .1 .1 .1 .0 in
     let sized : Sized (start .args .state) = record { generals = search needs; specials = search needs } in
-    let leaves = leaves-step n _ _ (start .args .i) _ _ sized _ _ _ (stepping .step .ensures) _ (numbering .number-of .ensures) _ _ (printing .put-step .ensures) in
+    let leaves = leaves-step n _ _ (start .args .i) _ _ sized _ _ _ (stepping .step .ensures) _ _ (printing .put-step .ensures) in
     record { text-is = leaves .text-is; goes-on-is = leaves .goes-on-is; state-is = leaves .state-is; windows-are = leaves .windows-are }
 
 pub step-spec : {M : Type 1} → statement M
 step-spec =
     tie.close
-    (tie.spec step-requires number-of-requires put-step-requires same-length same-length-2 same-length-3 returns)
+    (tie.spec step-requires put-step-requires same-length same-length-2 same-length-3 returns)
