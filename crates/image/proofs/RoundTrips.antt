@@ -125,7 +125,7 @@ module _ (l : List ℕ) (b : (i : ℕ) → getD l i 0 < 256) where
   unfolding part
   bytes-value o = bytes-eight _ _ _ _ _ _ _ _ _ (b _) (b _) (b _) (b _) (b _) (b _) (b _) (b _) refl
 
-  flat-octas : (o n : ℕ) → flat (octas l o n) ≡ part l o (8 * n)
+  pub flat-octas : (o n : ℕ) → flat (octas l o n) ≡ part l o (8 * n)
   unfolding flat octas part
   flat-octas o zero = refl
   flat-octas o (suc n) =

@@ -1,25 +1,29 @@
 -- The theorem, from what a room gives back and from what a line tells.
-use Prim.Native.Nat.{ℕ, _+_, _*_, _≤_, _<_}
+use Prim.Native.Nat.{ℕ, _+_, _*_, _/_, _^_, _≤_, _<_}
 use native.Mathlib.Omega.{arith}
 use mathlib.Core.Path.{_≡_, refl, sym, ap, _∙_}
-use mathlib.Core.Logic.{_≢_}
 use mathlib.Core.Bool.{true, cond}
-use mathlib.Core.List.{List}
+use mathlib.Core.Logic.{_≢_, _⊎_, inl, inr}
+use mathlib.Core.List.{List, [], _∷_}
 use lib.Dec.{eqb}
-use lib.ListN.{length, getD}
+use lib.ListN.{length, getD, List·getD-eq-default}
 use Rattle.model.specs.Octa.{part, written}
-use Rattle.model.specs.Kept.{Point, pointCount, Fits, OfBytes}
+use Rattle.model.specs.Kept.{Point, pointCount, imageLength, Fits, OfBytes}
+use Rattle.model.proofs.Fill.{lt-or-le}
+use Rattle.model.proofs.Bytes.{value-below, getD-part}
 use Rattle.model.proofs.Slices.{length-part, written-again}
+use Rattle.machine.specs.Octabytes.{flat, octas}
+use Rattle.image.proofs.RoundTrips.{flat-octas}
 use Rattle.lines.specs.Line.{isPoint}
 use Rattle.lines.specs.PointLine.{lineOf, nameOf, Told, Read}
 use Rattle.lines.specs.PointLine as line
 use Rattle.lines.proofs.PointLine.{each-other}
-use Rattle.store.specs.Store.{roomLength, storeLength, filled, roomOf, taken, takeReply, Took}
+use Rattle.store.specs.Store.{numbersAt, aAt, bAt, roomLength, storeLength, numbersOf, numberAt, filled, roomOf, taken, takeReply, Took}
 use Rattle.store.specs.Store as room
 use Rattle.store.proofs.Rooms.{point-back, filled-again}
 use Rattle.store.proofs.Stores.{length-room, room-same, room-other, beyond}
 use Rattle.store.proofs.Returns.{Passed, passed, fits}
-use Rattle.transfer.specs.Transfer.{lineFrom, filledBy, lineIn, storeWith, Keeps, RoomTold, LineTold, Transfers}
+use Rattle.transfer.specs.Transfer.{lineFrom, filledBy, lineIn, storeWith, Keeps, Shows, RoomTold, LineTold, Transfers}
 
 -- ---- a room
 
@@ -59,6 +63,68 @@ of-line l r g n =
     let h : Keeps (filled r (line.pointOf l)) (line.pointOf l) = put-keeps l r g n in
     let e : room.pointOf (filled r (line.pointOf l)) ≡ line.pointOf l = kept-point _ (line.pointOf l) h in
     record { keeps = h; point-is = e; line-is = ap (lineOf (nameOf l)) e ∙ each-other .of-line l g .line-is }
+
+-- ---- a room by its bytes
+
+module _ (r : List ℕ) (h : Shows r) where
+  part-bytes : (o n i : ℕ) → getD (part r o n) i 0 < 256
+  part-bytes o n i = at (lt-or-le i n)
+    where
+      at : (i < n) ⊎ (n ≤ i) → getD (part r o n) i 0 < 256
+      at (inl m) = rw (getD-part r o n i m) (h .bytes (o + i))
+      at (inr m) = rw (List·getD-eq-default (part r o n) 0 {n = i} (omega (arith, length-part r o n))) (omega arith)
+
+  word : (k : ℕ) → numberAt r k < 2 ^ 64
+  unfolding numberAt
+  word k = value-below r (numbersAt + 8 * k) 8 (h .bytes)
+
+  its-octas : (o n : ℕ) → length (part r o (8 * n)) / 8 ≡ n
+  its-octas o n = ap (λ (k : ℕ). k / 8) (length-part r o (8 * n)) ∙ omega arith
+
+  five : octas r numbersAt 5 ≡ numberAt r 0 ∷ numberAt r 1 ∷ numberAt r 2 ∷ numberAt r 3 ∷ numberAt r 4 ∷ []
+  unfolding octas numberAt
+  five = refl
+
+  its-numbers : numbersOf (room.pointOf r) ≡ octas r numbersAt 5
+  unfolding numbersOf room.pointOf
+  its-numbers = rw (its-octas aAt (numberAt r 2), its-octas bAt (numberAt r 3), five, h .is-one)
+
+  -- a part written where it stands
+  own-part : (o n : ℕ) → o + n ≤ roomLength → written r o (part r o n) ≡ r
+  own-part o n b = written-again r o (part r o n) (omega (arith, length-part r o n, h .long)) (ap (part r o) (length-part r o n))
+
+  own-point : filled r (room.pointOf r) ≡ r
+  unfolding filled room.pointOf
+  own-point =
+      ap (λ (l : List ℕ). written (written (written l numbersAt (flat (numbersOf (room.pointOf r)))) aAt (part r aAt (8 * numberAt r 2))) bAt (part r bAt (8 * numberAt r 3)))
+      (own-part 0 imageLength (omega arith))
+      ∙ ap (λ (l : List ℕ). written (written (written r numbersAt l) aAt (part r aAt (8 * numberAt r 2))) bAt (part r bAt (8 * numberAt r 3)))
+      (ap flat its-numbers ∙ flat-octas r (h .bytes) numbersAt 5)
+      ∙ ap (λ (l : List ℕ). written (written l aAt (part r aAt (8 * numberAt r 2))) bAt (part r bAt (8 * numberAt r 3))) (own-part numbersAt 40 (omega arith))
+      ∙ ap (λ (l : List ℕ). written l bAt (part r bAt (8 * numberAt r 3))) (own-part aAt (8 * numberAt r 2) (omega (arith, h .long-a)))
+      ∙ own-part bAt (8 * numberAt r 3) (omega (arith, h .long-b))
+
+  by-bytes : Keeps r (room.pointOf r)
+  unfolding room.pointOf
+  by-bytes = record {
+    before = r;
+    long = h .long;
+    room-is = sym own-point;
+    fits = record {
+      image-long = length-part r 0 imageLength;
+      base-a = word 0;
+      base-b = word 1;
+      long-a = omega (arith, length-part r aAt (8 * numberAt r 2), h .long-a);
+      long-b = omega (arith, length-part r bAt (8 * numberAt r 3), h .long-b);
+      whole-a = omega (arith, length-part r aAt (8 * numberAt r 2));
+      whole-b = omega (arith, length-part r bAt (8 * numberAt r 3));
+    };
+    of-bytes = record {
+      image-bytes = part-bytes 0 imageLength;
+      a-bytes = part-bytes aAt (8 * numberAt r 2);
+      b-bytes = part-bytes bAt (8 * numberAt r 3);
+    };
+  }
 
 -- ---- a store
 
@@ -120,6 +186,7 @@ pub transfers : Transfers
 transfers = record {
   of-room = of-room;
   of-line = of-line;
+  by-bytes = by-bytes;
   of-take = of-take;
   store-left = store-left;
   line-left = line-left;

@@ -1,16 +1,17 @@
 -- A taken point and its line determine each other, so that a host can move a store by lines: each point written as a line, each line's point put into
 -- the other store. What lies in a room behind its windows is no part of a point: it is left.
-use Prim.Native.Nat.{ℕ, _≤_, _<_}
+use Prim.Native.Nat.{ℕ, _*_, _≤_, _<_}
 use mathlib.Core.Path.{_≡_}
 use mathlib.Core.Logic.{_≢_}
 use mathlib.Core.Bool.{true}
 use mathlib.Core.List.{List}
 use lib.ListN.{length, getD}
+use Rattle.model.specs.Memory.{windowMax}
 use Rattle.model.specs.Kept.{Point, pointCount, Fits, OfBytes}
 use Rattle.lines.specs.Line.{isPoint}
 use Rattle.lines.specs.PointLine.{lineOf, nameOf}
 use Rattle.lines.specs.PointLine as line
-use Rattle.store.specs.Store.{roomLength, storeLength, filled, roomOf, taken, Took}
+use Rattle.store.specs.Store.{roomLength, storeLength, filled, numberAt, roomOf, taken, Took}
 use Rattle.store.specs.Store as room
 
 -- ---- each from the other
@@ -39,6 +40,14 @@ pub record Keeps (r : List ℕ) (p : Point) : Type 0 where
   pub fits : Fits p
   pub of-bytes : OfBytes p
 
+-- a room that its bytes show to keep a point: neither length is above the longest window's, and the octabyte is 1
+pub record Shows (r : List ℕ) : Type 0 where
+  pub long : length r ≡ roomLength
+  pub bytes : (i : ℕ) → getD r i 0 < 256
+  pub long-a : 8 * numberAt r 2 ≤ windowMax
+  pub long-b : 8 * numberAt r 3 ≤ windowMax
+  pub is-one : numberAt r 4 ≡ 1
+
 -- the room's line is a good one and has that name and the room's point, which is the one that was put there; and filling the room from its line leaves
 -- every byte of it, those behind its windows too
 pub record RoomTold (k : ℕ) (r : List ℕ) (p : Point) : Type 0 where
@@ -57,7 +66,9 @@ pub record LineTold (l r : List ℕ) : Type 0 where
 pub record Transfers : Type 0 where
   pub of-room : (k : ℕ) (r : List ℕ) (p : Point) → k < pointCount → Keeps r p → RoomTold k r p
   pub of-line : (l r : List ℕ) → isPoint l ≡ true → length r ≡ roomLength → LineTold l r
-  -- a point of bytes that was taken is kept
+  -- a point is kept where the bytes show it, whoever wrote them
+  pub by-bytes : (r : List ℕ) → Shows r → Keeps r (room.pointOf r)
+  -- and a point of bytes that was taken is
   pub of-take : (s : List ℕ) (k : ℕ) (p : Point) (t : List ℕ) → Took s k p 0 t → OfBytes p → Keeps (roomOf t k) p
   -- a store is as it was after its own line
   pub store-left : (s : List ℕ) (k : ℕ) (p : Point) → storeLength ≤ length s → k < pointCount → Keeps (roomOf s k) p → storeWith s (lineIn s k) ≡ s
