@@ -1,5 +1,5 @@
 -- Laws of a range of registers, `over`, at lists of any length: two ranges alike, a loop's turn, also past the end, a range cut to
--- the list, and one after another. Those for loops that read what they write are in crate stack, SlidRanges; the first ones in model, Fill.
+-- the list, and one after another. Those for loops that go down are in SlidRanges; the first ones in model, Fill.
 use mathlib.Core.Path.{_≡_, sym, _∙_}
 use mathlib.Core.Logic.{⊎-elim}
 use mathlib.Core.List.{List}

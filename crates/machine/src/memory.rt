@@ -164,7 +164,8 @@ pub fn write_octa(a: &mut [u8], b: &mut [u8], at: Bases, addr: u64, v: u64) -> u
 {
     let holder = holder_of(a, b, at, addr);
     if holder == 1 {
-        super::window::write_octa(b, at.b, addr, v);
+        let place = super::window::distance(at.b, addr) as usize;
+        super::octabytes::store(b, place, v);
         return holder;
     }
     if holder == 0 {

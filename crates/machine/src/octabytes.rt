@@ -53,6 +53,19 @@ pub(crate) fn store(bytes: &mut [u8], at: usize, v: u64)
     }
 }
 
+// The same from the last byte down. Two stores of one value into two slices, in one order, are joined by the compiler, and then byte by byte: so the two windows are
+// written in two orders, each by a single store.
+pub(crate) fn store_down(bytes: &mut [u8], at: usize, v: u64)
+    requires { ⌜ at + 8 ≤ length (now bytes) ⌝ }
+    ensures { λ _. ⌜ now (bytes .exit) ≡ written (now (bytes .entry)) at (bytesOf v) ⌝ }
+{
+    let mut k: usize = 8;
+    while 0 < k {
+        k -= 1;
+        bytes[at + k] = byte_of(v, k);
+    }
+}
+
 // As many octabytes as `values` has room for, from `at` up.
 fn load_all(bytes: &[u8], at: usize, values: &mut [u64])
     requires { ⌜ at + 8 * length (now values) ≤ length (now bytes) ⌝ }

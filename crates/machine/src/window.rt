@@ -95,7 +95,7 @@ pub fn write_octa(window: &mut [u8], base: u64, addr: u64, v: u64)
         return;
     }
     let at = distance(base, addr) as usize;
-    super::octabytes::store(window, at, v);
+    super::octabytes::store_down(window, at, v);
 }
 
 /// The general registers from `from` up to, not including, `to` become the octabytes from `addr` up, which the window holds.

@@ -1,5 +1,4 @@
 -- The laws of this crate's definitions, for its proofs and for those of the crates above it.
-pub mod SlidRanges
 pub mod PushPopRegisters
 pub mod Judged
 pub mod PassedOctas

@@ -1,7 +1,8 @@
 -- `write_octa` meets its contract: the octabyte of the window that holds it.
 use mathlib.Core.Path.{sym, _∙_}
+use native.Mathlib.Omega.{arith}
 use Rattle.model.specs.Parts.{lent}
-use Rattle.machine.proofs.Octas.{in-none, write-in-a, write-in-b, write-none}
+use Rattle.machine.proofs.Octas.{has-fits, has-written, in-b, in-none, write-in-a, write-in-b, write-none}
 use borrow.Author.Needs.{needs}
 use Rattle.machine.proofs.memory.write_octa.Statement.{statement}
 use Rattle.machine.proofs.memory.write_octa.Tie as tie
@@ -9,8 +10,14 @@ use Rattle.machine.proofs.memory.write_octa.Tie as tie
 holder-of-requires : tie.Need-holder-of-requires
 holder-of-requires c κs = search needs
 
-write-octa-requires : tie.Need-write-octa-requires
-write-octa-requires c κs = search needs
+distance-requires : tie.Need-distance-requires
+distance-requires c κs = search needs
+
+store-requires : tie.Need-store-requires
+store-requires c κs =
+    let taken = c .before .before in
+    let a = taken .before .before .before .before .before .before .args in
+    omega (arith, c .before .distance .ensures, has-fits (a .at .b) (a .b .now) (a .addr) (in-b (lent (a .at) (a .a .now) (a .b .now)) (a .addr) (sym (taken .before .holder-of .ensures) ∙ taken .if1 .taken)))
 
 same-length : tie.Need-same-length
 same-length c = search needs
@@ -20,13 +27,16 @@ same-length-2 c = search needs
 
 returns : tie.Need-returns
 returns c =
-    let taken = c .before .before .before .before in
+    let stored = c .before .before in
+    let taken = stored .before .before .before in
     let holds = taken .before in
     let a = holds .before .before .before .before .before .args in
-    (write-in-b (lent (a .at) (a .a .now) (a .b .now)) (a .addr) (a .v) _ (c .before .before .write-octa .ensures) (sym (holds .holder-of .ensures) ∙ taken .if1 .taken), holds .holder-of .ensures)
+    let m = lent (a .at) (a .a .now) (a .b .now) in
+    let here = sym (holds .holder-of .ensures) ∙ taken .if1 .taken in
+    (write-in-b m (a .addr) (a .v) _ (has-written (a .at .b) (a .b .now) (a .addr) (a .v) _ _ (in-b m (a .addr) here) (stored .before .before .distance .ensures) (stored .store .ensures)) here, holds .holder-of .ensures)
 
-write-octa-requires-2 : tie.Need-write-octa-requires-2
-write-octa-requires-2 c κs = search needs
+write-octa-requires : tie.Need-write-octa-requires
+write-octa-requires c κs = search needs
 
 same-length-3 : tie.Need-same-length-3
 same-length-3 c = search needs
@@ -39,7 +49,7 @@ returns-2 c =
     let taken = c .before .before .before .before in
     let holds = taken .before .before in
     let a = holds .before .before .before .before .before .args in
-    (write-in-a (lent (a .at) (a .a .now) (a .b .now)) (a .addr) (a .v) _ (c .before .before .write-octa2 .ensures) (sym (holds .holder-of .ensures) ∙ taken .if2 .taken), holds .holder-of .ensures)
+    (write-in-a (lent (a .at) (a .a .now) (a .b .now)) (a .addr) (a .v) _ (c .before .before .write-octa .ensures) (sym (holds .holder-of .ensures) ∙ taken .if2 .taken), holds .holder-of .ensures)
 
 same-length-5 : tie.Need-same-length-5
 same-length-5 c = search needs
@@ -60,11 +70,12 @@ write-octa-spec =
     tie.close
     (tie.spec
     holder-of-requires
-    write-octa-requires
+    distance-requires
+    store-requires
     same-length
     same-length-2
     returns
-    write-octa-requires-2
+    write-octa-requires
     same-length-3
     same-length-4
     returns-2

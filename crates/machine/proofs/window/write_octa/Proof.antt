@@ -19,8 +19,8 @@ returns c = none-written _ _ _ _ (denied _ _ (c .before .holds .ensures) (c .if1
 distance-requires : tie.Need-distance-requires
 distance-requires c κs = search needs
 
-store-requires : tie.Need-store-requires
-store-requires c κs =
+store-down-requires : tie.Need-store-down-requires
+store-down-requires c κs =
     omega (arith, c .before .distance .ensures, has-fits _ _ _ (granted _ _ (c .before .before .before .holds .ensures) (c .before .before .if1 .left)))
 
 same-length-2 : tie.Need-same-length-2
@@ -31,7 +31,7 @@ returns-2 c =
     let left = c .before .before .before .before .before in
     let a = left .before .before .before .before .args in
     has-written (a .base) (a .window .now) (a .addr) (a .v) _ _ (granted _ _ (left .before .holds .ensures) (left .if1 .left)) (c .before .before .before .before .distance .ensures)
-    (c .before .before .store .ensures)
+    (c .before .before .store-down .ensures)
 
 pub write-octa-spec : {M : Type 1} → statement M
 write-octa-spec =
@@ -41,6 +41,6 @@ write-octa-spec =
     same-length
     returns
     distance-requires
-    store-requires
+    store-down-requires
     same-length-2
     returns-2)

@@ -5,7 +5,7 @@ use Prim.Native.Nat.{ℕ, _+_, _-_, _≤_, min}
 use lib.ListN.{getD, set}
 use Rattle.model.specs.Fill.{over}
 use Rattle.model.proofs.Fill.{over-none, over-before}
-use Rattle.stack.proofs.SlidRanges.{over-down, over-start}
+use Rattle.machine.proofs.SlidRanges.{over-down, over-start}
 use Rattle.stack.proofs.slide.slide_up.Statement.{statement}
 use Rattle.stack.proofs.slide.slide_up.Tie as tie
 

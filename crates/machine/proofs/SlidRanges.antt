@@ -1,5 +1,5 @@
--- Laws of a range of registers, `over`, for loops that read the registers that they write: a loop that goes down
--- and where it ends. Those of any loop are in crate machine, RegisterRanges; what lies out of a range is in model's Fill.
+-- Laws of a range, `over`, for loops that go down: a turn, and where one ends. Those of any loop are in RegisterRanges; what lies out of a range is in
+-- model's Fill.
 use mathlib.Core.Path.{_≡_, sym, ap, _∙_}
 use mathlib.Core.Logic.{⊎-elim}
 use mathlib.Core.List.{List}
