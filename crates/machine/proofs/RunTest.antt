@@ -7,19 +7,20 @@ use mathlib.Core.List.{List}
 use Prim.Native.Nat.{ℕ, zero, suc, _+_, _-_, _*_, _/_, _%_, _^_, _≤_, _<_}
 use native.Mathlib.Nat.{mod-eq-of-lt}
 use native.Mathlib.Omega.{arith}
-use lib.Dec.{ltb, eqb}
+use lib.Dec.{leb, ltb, eqb}
 use lib.ListN.{length}
-use borrow.Author.Tests.{le-leb, lt-leb, le-ltb, leb-false, ne-eqb}
+use borrow.Author.Tests.{lt-ltb, le-leb, lt-leb, le-ltb, leb-true, ltb-true, leb-false, ne-eqb}
 use Rattle.model.specs.Octa.{octa}
 use Rattle.model.specs.Memory.{Shape, shapeOf, offset, has, Shapes, holder, inside, ruledOne, ruled, shares}
 use Rattle.model.specs.Plan.{worst}
 use Rattle.model.specs.Step.{refusing}
+use Rattle.model.proofs.Bools.{and-left, and-right}
 use Rattle.model.proofs.Fill.{flag, lt-or-le}
 use Rattle.model.proofs.Runs.{worst-of, of-worst}
 use Rattle.model.proofs.ArmAnswers.{worst-six}
 use Rattle.model.proofs.SaveUnsave.{refusing-mod}
 use Rattle.model.proofs.Reader.{offset-next}
-use Rattle.machine.specs.Octas.{lentOne, roomIn}
+use Rattle.machine.specs.Octas.{lentOne, roomIn, heldRange}
 use Rattle.machine.specs.Pieces.{PieceIs}
 
 -- ---- distances
@@ -112,6 +113,31 @@ module _ (w : Shape) (x : ℕ) where
       let out : w .size < offset (w .from) x + 8 = leb-false _ _ h in
       let near : offset (w .from) x < 2 ^ 64 = offset-near (w .from) x in
       lt-leb (offset (w .from) (x + 8 * i) + 8) (w .size) (omega (arith, offset-run i (w .from) x (omega arith)))
+
+-- registers that a window has room for
+module _ (w : Shape) (a from to : ℕ) where
+  pub held-range : heldRange w a from to ≡ true → (from < to) × (to ≤ 256) × (to ≤ from + roomIn w a)
+  unfolding heldRange
+  held-range h =
+      let e : (leb to 256 && leb (to - from) (roomIn w a)) ≡ true = and-right (ltb from to) _ h in
+      let l : to - from ≤ roomIn w a = leb-true _ _ (and-right (leb to 256) _ e) in
+      (ltb-true _ _ (and-left (ltb from to) _ h), leb-true _ _ (and-left (leb to 256) _ e), omega arith)
+
+  pub range-held : (k : ℕ) → k ≡ roomIn w a → from < to → to ≤ 256 → to - from ≤ k → true ≡ heldRange w a from to
+  unfolding heldRange
+  range-held k e p q l = rw (lt-ltb from to p, le-leb to 256 q, le-leb (to - from) (roomIn w a) (omega arith))
+
+  pub range-empty : to ≤ from → false ≡ heldRange w a from to
+  unfolding heldRange
+  range-empty p = rw (le-ltb from to p)
+
+  pub range-past : from < to → 256 < to → false ≡ heldRange w a from to
+  unfolding heldRange
+  range-past p q = rw (lt-ltb from to p, lt-leb to 256 q)
+
+  pub range-over : (k : ℕ) → k ≡ roomIn w a → from < to → to ≤ 256 → k < to - from → false ≡ heldRange w a from to
+  unfolding heldRange
+  range-over k e p q l = rw (lt-ltb from to p, le-leb to 256 q, lt-leb (to - from) (roomIn w a) (omega arith))
 
 -- ---- which window holds an octabyte
 

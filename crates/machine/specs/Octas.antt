@@ -1,8 +1,9 @@
 -- Reading and writing octabytes of any memory, one or a run: outside it a read gives 0 and a write does nothing. The names without 'By' are of
 -- the two lent windows.
 use Prim.Native.Nat.{ℕ, zero, suc, _+_, _-_, _*_, _/_, min}
-use mathlib.Core.Bool.{cond}
+use mathlib.Core.Bool.{Bool, cond, _&&_}
 use mathlib.Core.List.{List}
+use lib.Dec.{leb, ltb}
 use lib.ListN.{getD}
 use Rattle.model.specs.Memory.{Window, Shape, offset, Store, Windows, both}
 use Rattle.model.specs.Plan.{look}
@@ -46,3 +47,7 @@ lentOne base bytes = record { base = base; bytes = bytes }
 -- how many octabytes from a up lie in a window
 unfoldable pub roomIn : Shape → ℕ → ℕ
 roomIn w a = (w .size - offset (w .from) a) / 8
+
+-- registers from `from` up to, not including, `to` are some, of the 256, and the window has room for them from a up
+unfoldable pub heldRange : Shape → ℕ → ℕ → ℕ → Bool
+heldRange w a from to = ltb from to && (leb to 256 && leb (to - from) (roomIn w a))

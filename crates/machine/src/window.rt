@@ -1,11 +1,11 @@
 // The octabytes of one lent window (memory.rs). Distances from the base wrap at 2^64, so a window may cross the end of memory.
 ghost use mathlib.Core.Path.{_≡_};
-ghost use mathlib.Core.Bool.{true};
+ghost use mathlib.Core.Bool.{cond};
 ghost use Prim.Native.Nat.{ℕ, _+_, _-_, _*_, _^_, _<_, _≤_};
 ghost use lib.ListN.{getD};
 ghost use Rattle.model.specs.Fill.{over};
 ghost use Rattle.model.specs.Memory.{shapeOf, ruledOne, offset, has, one};
-ghost use Rattle.machine.specs.Octas.{lentOne, roomIn, readBy, writtenBy, writtenRunBy};
+ghost use Rattle.machine.specs.Octas.{lentOne, roomIn, heldRange, readBy, writtenBy, writtenRunBy};
 
 /// The longest window, in bytes.
 pub const WINDOW_MAX: usize = 65536;
@@ -62,7 +62,7 @@ pub fn holds(window: &[u8], base: u64, addr: u64) -> bool
 
 /// Whether the registers from `from` up to, not including, `to` are some of the 256 and the window has room for them from `addr` up.
 pub(crate) fn has_room(window: &[u8], base: u64, addr: u64, from: u64, to: u64) -> bool
-    ensures { λ r. ⌜ (r ≡ true → (from < to) × (to ≤ 256) × (to ≤ from + roomIn (shapeOf (lentOne base (now (window .entry)))) addr)) ⌝ }
+    ensures { λ r. ⌜ r ≡ heldRange (shapeOf (lentOne base (now (window .entry)))) addr from to ⌝ }
 {
     if to <= from {
         return false;
@@ -142,4 +142,25 @@ pub(crate) fn store_range(
         at += 8;
         i += 1;
     }
+}
+
+/// They go there where the window has room for them all, and else nothing changes; whether it has.
+pub fn store_held(
+    general: &[u64; 256],
+    window: &mut [u8],
+    base: u64,
+    addr: u64,
+    from: u64,
+    to: u64,
+) -> bool
+    ensures { λ r. ⌜ (r ≡ heldRange (shapeOf (lentOne base (now (window .entry)))) addr from to)
+        × (lentOne base (now (window .exit)) ≡ cond (heldRange (shapeOf (lentOne base (now (window .entry)))) addr from to)
+        (writtenRunBy one (lentOne base (now (window .entry))) addr (to - from) (λ (i : ℕ). getD (now (general .entry)) (from + i) 0))
+        (lentOne base (now (window .entry)))) ⌝ }
+{
+    if has_room(&*window, base, addr, from, to) {
+        store_range(general, window, base, addr, from, to);
+        return true;
+    }
+    false
 }

@@ -6,7 +6,7 @@ ghost use lib.ListN.{getD};
 ghost use Rattle.model.specs.Fill.{over};
 ghost use Rattle.model.specs.Contexts.{savedSpecial, unsavedGeneral, octasOf};
 ghost use Rattle.model.specs.Parts.{made, lent};
-ghost use Rattle.machine.specs.Octas.{readOcta, writtenRun};
+ghost use Rattle.machine.specs.Octas.{readOcta, writtenRun, writtenRange};
 ghost use Rattle.stack.specs.GivenBack.{Gives};
 ghost use Rattle.stack.specs.SaveUnsave.{saveIn, unsaveIn, contextSpecials};
 ghost use Rattle.stack.specs.ContextWork.{Ranged, StoresContext, leftGeneral, leftSpecial, octasFrom, unsavedAs, loaded};
@@ -47,6 +47,25 @@ fn store_specials(special: &[u64; 32], a: &mut [u8], b: &mut [u8], at: Bases, ad
     }
 }
 
+/// The general registers from `from` up to, not including, `to` go to the octabytes from `addr` up: into B where it has room for all.
+fn store_run(
+    general: &[u64; 256],
+    a: &mut [u8],
+    b: &mut [u8],
+    at: Bases,
+    addr: u64,
+    from: u64,
+    to: u64,
+)
+    ensures { λ _. ⌜ lent at (now (a .exit)) (now (b .exit))
+        ≡ writtenRange (lent at (now (a .entry)) (now (b .entry))) addr from to (now (general .entry)) ⌝ }
+{
+    if machine::window::store_held(general, &mut *b, at.b, addr, from, to) {
+        return;
+    }
+    machine::memory::store_range(general, a, b, at, addr, from, to);
+}
+
 /// The context, stored from rO up.
 fn store_context(general: &[u64; 256], special: &[u64; 32], a: &mut [u8], b: &mut [u8], at: Bases)
     requires { ⌜ Ranged (now special) ⌝ }
@@ -57,11 +76,11 @@ fn store_context(general: &[u64; 256], special: &[u64; 32], a: &mut [u8], b: &mu
     let rl = special[State::RL];
     let rg = special[State::RG];
     let ra = special[State::RA];
-    machine::memory::store_range(general, a, b, at, ro, 0, rl);
+    store_run(general, a, b, at, ro, 0, rl);
     let marker = machine::number::wrapping_add(ro, 8 * rl);
     machine::memory::write_octa(a, b, at, marker, rl);
     let globals = machine::number::wrapping_add(ro, 8 * (rl + 1));
-    machine::memory::store_range(general, a, b, at, globals, rg, 256);
+    store_run(general, a, b, at, globals, rg, 256);
     let specials = machine::number::wrapping_add(ro, 8 * (rl + AT_SPECIALS - rg));
     store_specials(special, a, b, at, specials);
     let packed = machine::number::wrapping_add(ro, 8 * (rl + AT_PACKED - rg));

@@ -22,8 +22,8 @@ element-copy-out-rg c = search needs
 element-copy-out-ra : tie.Need-element-copy-out-ra
 element-copy-out-ra c = search needs
 
-store-range-requires : tie.Need-store-range-requires
-store-range-requires c κs = search needs
+store-run-requires : tie.Need-store-run-requires
+store-run-requires c κs = search needs
 
 mul-wrapping-add : tie.Need-mul-wrapping-add
 mul-wrapping-add c = search needs
@@ -43,8 +43,8 @@ mul-wrapping-add-2 c = search needs
 wrapping-add-requires-2 : tie.Need-wrapping-add-requires-2
 wrapping-add-requires-2 c κs = search needs
 
-store-range-requires-2 : tie.Need-store-range-requires-2
-store-range-requires-2 c κs = search needs
+store-run-requires-2 : tie.Need-store-run-requires-2
+store-run-requires-2 c κs = search needs
 
 add-wrapping-add-2 : tie.Need-add-wrapping-add-2
 add-wrapping-add-2 c = search needs
@@ -84,21 +84,21 @@ write-octa-requires-2 c κs = search needs
 
 same-length : tie.Need-same-length
 same-length c =
-    c .before .before .before .before .write-octa2 .kept .0 ∙ c .before .before .before .before .before .before .before .before .before .before .before .before .store-specials .kept .1 .0 ∙ c .before .before .before .before .before .before .before .before .before .before .before .before .before .before .before .before .before .before .before .before .store-range2 .kept .1 .0
-    ∙ c .before .before .before .before .before .before .before .before .before .before .before .before .before .before .before .before .before .before .before .before .before .before .before .before .before .before .before .before .write-octa .kept .0 ∙ c .before .before .before .before .before .before .before .before .before .before .before .before .before .before .before .before .before .before .before .before .before .before .before .before .before .before .before .before .before .before .before .before .before .before .before .before .store-range .kept .1 .0
+    c .before .before .before .before .write-octa2 .kept .0 ∙ c .before .before .before .before .before .before .before .before .before .before .before .before .store-specials .kept .1 .0 ∙ c .before .before .before .before .before .before .before .before .before .before .before .before .before .before .before .before .before .before .before .before .store-run2 .kept .1 .0
+    ∙ c .before .before .before .before .before .before .before .before .before .before .before .before .before .before .before .before .before .before .before .before .before .before .before .before .before .before .before .before .write-octa .kept .0 ∙ c .before .before .before .before .before .before .before .before .before .before .before .before .before .before .before .before .before .before .before .before .before .before .before .before .before .before .before .before .before .before .before .before .before .before .before .before .store-run .kept .1 .0
 
 same-length-2 : tie.Need-same-length-2
 same-length-2 c =
-    c .before .before .before .before .write-octa2 .kept .1 .0 ∙ c .before .before .before .before .before .before .before .before .before .before .before .before .store-specials .kept .1 .1 .0 ∙ c .before .before .before .before .before .before .before .before .before .before .before .before .before .before .before .before .before .before .before .before .store-range2 .kept .1 .1 .0
-    ∙ c .before .before .before .before .before .before .before .before .before .before .before .before .before .before .before .before .before .before .before .before .before .before .before .before .before .before .before .before .write-octa .kept .1 .0 ∙ c .before .before .before .before .before .before .before .before .before .before .before .before .before .before .before .before .before .before .before .before .before .before .before .before .before .before .before .before .before .before .before .before .before .before .before .before .store-range .kept .1 .1 .0
+    c .before .before .before .before .write-octa2 .kept .1 .0 ∙ c .before .before .before .before .before .before .before .before .before .before .before .before .store-specials .kept .1 .1 .0 ∙ c .before .before .before .before .before .before .before .before .before .before .before .before .before .before .before .before .before .before .before .before .store-run2 .kept .1 .1 .0
+    ∙ c .before .before .before .before .before .before .before .before .before .before .before .before .before .before .before .before .before .before .before .before .before .before .before .before .before .before .before .before .write-octa .kept .1 .0 ∙ c .before .before .before .before .before .before .before .before .before .before .before .before .before .before .before .before .before .before .before .before .before .before .before .before .before .before .before .before .before .before .before .before .before .before .before .before .store-run .kept .1 .1 .0
 
 returns : tie.Need-returns
 returns c =
     context-stored _ _ (c .before .before .before .before .before .before .before .before .before .before .before .before .before .before .before .before .before .before .before .before .before .before .before .before .before .before .before .before .before .before .before .before .before .before .before .before .before .before .before .before .before .before .before .before .before .pre) _ _ _ _ _ _ _ _ _ _
-    (c .before .before .before .before .before .before .before .before .before .before .before .before .before .before .before .before .before .before .before .before .before .before .before .before .before .before .before .before .before .before .before .before .before .before .before .before .store-range .ensures) (c .before .before .before .before .before .before .before .before .before .before .before .before .before .before .before .before .before .before .before .before .before .before .before .before .before .before .before .before .before .before .before .wrapping-add .ensures)
+    (c .before .before .before .before .before .before .before .before .before .before .before .before .before .before .before .before .before .before .before .before .before .before .before .before .before .before .before .before .before .before .before .before .before .before .before .before .store-run .ensures) (c .before .before .before .before .before .before .before .before .before .before .before .before .before .before .before .before .before .before .before .before .before .before .before .before .before .before .before .before .before .before .before .wrapping-add .ensures)
     (c .before .before .before .before .before .before .before .before .before .before .before .before .before .before .before .before .before .before .before .before .before .before .before .before .before .before .before .before .write-octa .ensures .0)
     (c .before .before .before .before .before .before .before .before .before .before .before .before .before .before .before .before .before .before .before .before .before .before .before .wrapping-add2 .ensures)
-    (c .before .before .before .before .before .before .before .before .before .before .before .before .before .before .before .before .before .before .before .before .store-range2 .ensures)
+    (c .before .before .before .before .before .before .before .before .before .before .before .before .before .before .before .before .before .before .before .before .store-run2 .ensures)
     (c .before .before .before .before .before .before .before .before .before .before .before .before .before .before .before .wrapping-add3 .ensures) (c .before .before .before .before .before .before .before .before .before .before .before .before .store-specials .ensures)
     (c .before .before .before .before .before .before .before .wrapping-add4 .ensures) (c .before .before .before .before .write-octa2 .ensures .0)
 
@@ -110,14 +110,14 @@ store-context-spec =
     element-copy-out-rl
     element-copy-out-rg
     element-copy-out-ra
-    store-range-requires
+    store-run-requires
     mul-wrapping-add
     wrapping-add-requires
     write-octa-requires
     add-wrapping-add
     mul-wrapping-add-2
     wrapping-add-requires-2
-    store-range-requires-2
+    store-run-requires-2
     add-wrapping-add-2
     sub-wrapping-add
     mul-wrapping-add-3
