@@ -113,7 +113,7 @@ put-range s x v e = pick (putRefusal s x v) (eqb-false _ _ e) (put-bound s x v)
   where
     pick : (n : ℕ) → (n ≡ 0 → ⊥) → (n ≡ 0) ⊎ ((7 ≤ n) × (n ≤ 11)) → Halting n
     pick n f (inl g) = absurd (f g)
-    pick n f (inr g) = let a : 7 ≤ n = g .0 in let b : n ≤ 11 = g .1 in (a, omega arith)
+    pick n f (inr g) = let a : 7 ≤ n = g .0 in let b : n ≤ 11 = g .1 in inl (a, omega arith)
 
 -- ---- the arms
 
@@ -164,18 +164,18 @@ module _ (s : State) (W : ℕ → Type 0) (Read : List ℕ → Type 0) (R : ℕ 
   sync-meets : (n : ℕ) → Tells (λ r t. R r t []) (syncOf s n)
   unfolding syncOf
   sync-meets n =
-      on {A = Said} (Tells (λ r t. R r t [])) (ltb 7 n) (λ e. m .halts 18 (omega arith, omega arith))
-      (λ e. on {A = Said} (Tells (λ r t. R r t [])) (leb 4 n) (λ e. m .halts 17 (omega arith, omega arith)) (λ e. m .moves _ (onward s)))
+      on {A = Said} (Tells (λ r t. R r t [])) (ltb 7 n) (λ e. m .halts 18 (inl (omega arith, omega arith)))
+      (λ e. on {A = Said} (Tells (λ r t. R r t [])) (leb 4 n) (λ e. m .halts 17 (inl (omega arith, omega arith))) (λ e. m .moves _ (onward s)))
 
   pop-meets : (x t : ℕ) → W t → Answers Read R (popFrame s x t)
   unfolding popFrame popRule popTo tell Answers
   pop-meets x t w =
-      on (Answers Read R) (noFrame s) (λ e. m .moves t w)
-      (λ e. on (Answers Read R) (misplaced s) (λ e. m .halts 12 (omega arith, omega arith)) (λ e. (refl, λ vs i. (refl, λ ls j. m .pops x t _ ls w j))))
+      on (Answers Read R) (noFrame s) (λ e. m .halts 29 (inr refl))
+      (λ e. on (Answers Read R) (misplaced s) (λ e. m .halts 12 (inl (omega arith, omega arith))) (λ e. (refl, λ vs i. (refl, λ ls j. m .pops x t _ ls w j))))
 
   save-meets : (x : ℕ) → Answers Read R (saveContext s x)
   unfolding saveContext tell Answers
-  save-meets x = on (Answers Read R) (ltb x (sp s rG)) (λ e. m .halts 13 (omega arith, omega arith)) (λ e. m .saves x _ (ltb-false _ _ e) (onward (savedState s x)))
+  save-meets x = on (Answers Read R) (ltb x (sp s rG)) (λ e. m .halts 13 (inl (omega arith, omega arith))) (λ e. m .saves x _ (ltb-false _ _ e) (onward (savedState s x)))
 
 -- a context, for UNSAVE and for the reader
 module _ {S : Type 0} (bad : S) (found : ℕ → ℕ → ℕ → ℕ → List ℕ → S) (p : ℕ) (Read : List ℕ → Type 0) (R : ℕ → S → List ℕ → Type 0)
@@ -240,7 +240,7 @@ module _ (s : State) (W : ℕ → Type 0) (Read : List ℕ → Type 0) (R : ℕ 
   plan-meets get op x y z wy wz mi = m .writes x (sp s z) _ (m .special-is z) (onward s W Read R m (setRegister s x (sp s z)))
   plan-meets save op x y z wy wz mi = save-meets s W Read R m x
   plan-meets unsave op x y z wy wz mi =
-      context-meets (halted s) _ (reg s z) Read R (λ n a b. m .halts n (omega arith, omega arith)) (λ o g a l vs c. m .unsaves o g a l vs _ (onward s W Read R m (unsaved s o g a l vs)) (m .word o c))
+      context-meets (halted s) _ (reg s z) Read R (λ n a b. m .halts n (inl (omega arith, omega arith))) (λ o g a l vs c. m .unsaves o g a l vs _ (onward s W Read R m (unsaved s o g a l vs)) (m .word o c))
   plan-meets sync op x y z wy wz mi = sync-meets s W Read R m (xyzOf x y z)
   plan-meets swym op x y z wy wz mi = m .moves (following s) (onward s W Read R m s)
   plan-meets trip op x y z wy wz mi = trip-meets s W (λ r t. R r t []) (m .word) 0 (wordOf op x y z) (reg s y) (reg s z) (omega arith) (mi .trips refl)

@@ -24,6 +24,7 @@ use Rattle.model.proofs.AdmissibleKept.{adm, claim-good}
 use Rattle.model.proofs.ItemInvariant.{Any}
 use Rattle.model.proofs.ArmAnswers.{perform-meets}
 use Rattle.model.proofs.ArmReplies.{three-replies}
+use Rattle.model.proofs.Numbers.{unhalting}
 use Rattle.model.proofs.Entry.{unruled-none, unruled-is, shared-only}
 use Rattle.model.proofs.Fetched.{tetra-fits, claim-back, claim-halted, settled-refused, settled-done, settled-nineteen, step-three, claim-admissible, fetched-by, fetched-claims, fetched-free}
 use Rattle.model.proofs.RunLaws.{run-by, run-stops, Last, run-last}
@@ -74,7 +75,7 @@ module _ (w : Windows) (s : State) (t : ℕ) (a : admissible s ≡ true) (b : In
     no-twenty =
         rw (step-three w c (opcodeIn t) (xIn t) (yIn t) (zIn t) (claim-admissible s (xIn t) n a) r)
         (perform-meets w c Any (λ r t vs. r ≢ 20) (λ o. o .reply ≢ 20) (λ e. omega arith) (λ r t a vs h. h) (λ a n. tt) (fromThree c (armOf (opcodeIn t)) (opcodeIn t) (xIn t) (yIn t) (zIn t))
-        (three-replies (λ r. r ≢ 20) (λ e. omega arith) (λ n p q e. omega arith) (λ n p e. omega arith) (λ e. omega arith) c (armOf (opcodeIn t)) (opcodeIn t) (xIn t) (yIn t) (zIn t)
+        (three-replies (λ r. r ≢ 20) (λ e. omega arith) (λ n p q e. omega arith) (λ n p e. unhalting n (inr (omega arith, omega arith)) p) (λ e. omega arith) c (armOf (opcodeIn t)) (opcodeIn t) (xIn t) (yIn t) (zIn t)
         (λ m. absurd (no-trap (opcodeIn t) (b .op-byte) k m))))
 
     l : StepLeaves w c (opcodeIn t) (xIn t) (yIn t) (zIn t) o
@@ -85,16 +86,16 @@ module _ (w : Windows) (s : State) (t : ℕ) (a : admissible s ≡ true) (b : In
 
     pub claimed-leaves : TetraLeaves w s c t (settled s o)
     claimed-leaves = record {
-      most = ⊎-elim (λ m. inl m) (λ m. inr (inl m)) (l .most);
+      most = ⊎-elim (λ m. inl m) (⊎-elim (λ m. inr (inl m)) (λ m. inr (inr (inr m)))) (l .most);
       early = λ e. (back (late _ 0 (inl refl) e) (late _ 19 (inr refl) e) c (l .early e .0) ∙ claim-back s (xIn t), l .early e .1);
       missed = ⊎-elim
           (λ e. (back (λ q. omega arith) (λ q. omega arith) c (l .lost e .0) ∙ claim-back s (xIn t), l .lost e .1))
-          (λ e. absurd (⊎-elim (λ m. let f : o .reply ≡ 24 = e in omega arith) (λ m. let f : o .reply ≡ 24 = e in omega arith) (l .most)));
-      halting = λ e. (back (λ q. omega arith) (λ q. omega arith) (halted c) (l .halting e .0) ∙ claim-halted s (xIn t), l .halting e .1);
+          (λ e. absurd (⊎-elim (λ m. let f : o .reply ≡ 24 = e in omega arith) (⊎-elim (λ m. let f : o .reply ≡ 24 = e in omega arith) (λ m. let f : o .reply ≡ 24 = e in omega arith)) (l .most)));
+      halting = λ e. (back (λ q. unhalting _ (inl (omega arith)) e) (λ q. unhalting _ (inr (omega arith, omega arith)) e) (halted c) (l .halting e .0) ∙ claim-halted s (xIn t), l .halting e .1);
       nineteen = λ e. rw (settled-nineteen s o e) (l .nineteen e);
       twenty = λ e. absurd (no-twenty e);
       shared = λ e. (a, l .shared e .1);
-      unfetched = λ e. absurd (⊎-elim (λ m. omega arith) (λ m. omega arith) (l .most));
+      unfetched = λ e. absurd (⊎-elim (λ m. omega arith) (⊎-elim (λ m. omega arith) (λ m. omega arith)) (l .most));
       done = λ e. ap (λ (o : Outcome State Windows). o .state .halt) (settled-done s o e) ∙ l .done e ∙ claim-halt s (xIn t);
     }
 
@@ -102,14 +103,14 @@ module _ (w : Windows) (s : State) (t : ℕ) (a : admissible s ≡ true) (b : In
   free-leaves n =
       let l : StepLeaves w s (opcodeIn t) (xIn t) (yIn t) (zIn t) (stepSaid w t s) = step-leaves s n in
       record {
-        most = ⊎-elim (λ m. inl m) (λ m. inr (inl m)) (l .most);
+        most = ⊎-elim (λ m. inl m) (⊎-elim (λ m. inr (inl m)) (λ m. inr (inr (inr m)))) (l .most);
         early = l .early;
-        missed = ⊎-elim (l .lost) (λ e. absurd (⊎-elim (λ m. let f : stepSaid w t s .reply ≡ 24 = e in omega arith) (λ m. let f : stepSaid w t s .reply ≡ 24 = e in omega arith) (l .most)));
+        missed = ⊎-elim (l .lost) (λ e. absurd (⊎-elim (λ m. let f : stepSaid w t s .reply ≡ 24 = e in omega arith) (⊎-elim (λ m. let f : stepSaid w t s .reply ≡ 24 = e in omega arith) (λ m. let f : stepSaid w t s .reply ≡ 24 = e in omega arith)) (l .most)));
         halting = l .halting;
         nineteen = l .nineteen;
         twenty = l .twenty;
         shared = l .shared;
-        unfetched = λ e. absurd (⊎-elim (λ m. omega arith) (λ m. omega arith) (l .most));
+        unfetched = λ e. absurd (⊎-elim (λ m. omega arith) (⊎-elim (λ m. omega arith) (λ m. omega arith)) (l .most));
         done = l .done;
       }
 
@@ -119,10 +120,10 @@ module _ (w : Windows) (s : State) (t : ℕ) (a : admissible s ≡ true) (b : In
 refused-leaves : (w : Windows) (s c : State) (t n : ℕ) → Early n ⊎ (n ≡ 24) → (n ≡ 22 → (admissible s ≡ true) × Sharing (shapesOf w))
     → (n ≡ 24 → Passes w s × (inside (shapesOf w) (s .pc) ≡ false)) → TetraLeaves w s c t (refusedBy n w s)
 refused-leaves w s c t n k sh un = record {
-  most = ⊎-elim (⊎-elim (λ l. inl (omega arith)) (λ e. inr (inl e))) (λ e. inr (inr e)) k;
+  most = ⊎-elim (⊎-elim (λ l. inl (omega arith)) (λ e. inr (inl e))) (λ e. inr (inr (inl e))) k;
   early = λ e. (refl, refl);
   missed = λ e. (refl, refl);
-  halting = λ e. absurd (⊎-elim (⊎-elim (λ l. omega arith) (λ q. let f : n ≡ 22 = q in omega arith)) (λ q. let f : n ≡ 24 = q in omega arith) k);
+  halting = λ e. absurd (unhalting n (⊎-elim (⊎-elim (λ l. inl (omega arith)) (λ q. let f : n ≡ 22 = q in inr (omega arith, omega arith))) (λ q. let f : n ≡ 24 = q in inr (omega arith, omega arith)) k) e);
   nineteen = λ e. absurd (⊎-elim (⊎-elim (λ l. omega arith) (λ q. let f : n ≡ 22 = q in omega arith)) (λ q. let f : n ≡ 24 = q in omega arith) k);
   twenty = λ e. absurd (⊎-elim (⊎-elim (λ l. omega arith) (λ q. let f : n ≡ 22 = q in omega arith)) (λ q. let f : n ≡ 24 = q in omega arith) k);
   shared = sh;
@@ -189,7 +190,7 @@ module _ (leaves : (w : Windows) (s : State) → Sized s → FetchedLeaves w s (
       }
 
   Most : ℕ → Type 0
-  Most n = (n ≤ 20) ⊎ ((n ≡ 22) ⊎ ((n ≡ 24) ⊎ (n ≡ 25)))
+  Most n = (n ≤ 20) ⊎ ((n ≡ 22) ⊎ ((n ≡ 24) ⊎ ((n ≡ 25) ⊎ (n ≡ 29))))
 
   unruled-most : (w : Windows) → Most (unruledBy (shapesOf w))
   unfolding Most
@@ -200,8 +201,8 @@ module _ (leaves : (w : Windows) (s : State) → Sized s → FetchedLeaves w s (
   running-most : (g : ℕ) (w : Windows) (s : State) → Ready w s → Most (running g s w .reply)
   unfolding Most
   running-most g w s q =
-      run-by both mmix fetched (λ t m. Ready m t) (λ r. (r .reply ≤ 20) ⊎ ((r .reply ≡ 22) ⊎ ((r .reply ≡ 24) ⊎ (r .reply ≡ 25)))) (λ n r k. k) (λ t m k. inl (omega arith))
-      (λ t m k n. rw (fetched-on m t) (⊎-elim (λ l. inl l) (⊎-elim (λ e. inr (inl e)) (λ e. inr (inr (inl e)))) (leaves m t (k .sized) .most)))
+      run-by both mmix fetched (λ t m. Ready m t) (λ r. (r .reply ≤ 20) ⊎ ((r .reply ≡ 22) ⊎ ((r .reply ≡ 24) ⊎ ((r .reply ≡ 25) ⊎ (r .reply ≡ 29))))) (λ n r k. k) (λ t m k. inl (omega arith))
+      (λ t m k n. rw (fetched-on m t) (⊎-elim (λ l. inl l) (⊎-elim (λ e. inr (inl e)) (⊎-elim (λ e. inr (inr (inl e))) (λ e. inr (inr (inr (inr e)))))) (leaves m t (k .sized) .most)))
       (λ t m k d. rw (fetched-on m t) (fetched-ready m t k)) g s w q
 
   pub run-leaves : (w : Windows) (s : State) (grant : ℕ) → Sized s → RunLeaves w s grant (runOf w s grant)
@@ -213,5 +214,5 @@ module _ (leaves : (w : Windows) (s : State) → Sized s → FetchedLeaves w s (
   }
     where
       most : Most (runOf w s grant .reply)
-      most = call-by (λ r. Most (r .reply)) w s grant (λ a. unfold Most in inl (omega arith)) (λ a m. unruled-most w) (λ h l. unfold Most in inr (inr (inr refl)))
+      most = call-by (λ r. Most (r .reply)) w s grant (λ a. unfold Most in inl (omega arith)) (λ a m. unruled-most w) (λ h l. unfold Most in inr (inr (inr (inl refl))))
           (λ c. running-most grant w s (record { sized = n; passes = c .passes }))

@@ -1,6 +1,6 @@
 -- Theorem 1: which replies there are, and what each leaves.
 use mathlib.Core.Path.{_≡_, refl, sym, _∙_}
-use mathlib.Core.Logic.{_⊎_, inl, inr, ⊎-elim}
+use mathlib.Core.Logic.{_⊎_, inl, inr, ⊎-elim, _≢_}
 use mathlib.Core.Bool.{true}
 use mathlib.Core.List.{List, []}
 use Prim.Native.Nat.{ℕ, _+_, _≤_, _<_}
@@ -34,6 +34,7 @@ use Rattle.model.proofs.Fill.{length-over}
 use Rattle.model.proofs.ItemInvariant.{Any}
 use Rattle.model.proofs.ArmAnswers.{Answers, Meets, MeetsInterrupt, plan-meets, judged-early, step-judged, step-meets, raised-meets, exception-meets, worst-six, perform-meets}
 use Rattle.model.proofs.ArmReplies.{three-replies}
+use Rattle.model.proofs.Numbers.{unhalting}
 use Rattle.model.proofs.Entry.{performOn, said-reply, shared-only}
 use Rattle.model.proofs.LoadStore.{store-made}
 use Rattle.model.proofs.ReaderLeaves.{reader-leaves}
@@ -103,7 +104,7 @@ Nineteen s op x y z t vs =
     ((armOf op ≡ trip) × Tripped s t (wordOf op x y z) (reg s y) (reg s z) × (vs ≡ [])) ⊎ (IsStore (armOf op) ⊎ Computed s op x y z t vs)
 
 record Answered (s : State) (op x y z : ℕ) (r : ℕ) (t : State) (vs : List ℕ) : Type 0 where
-  most : (r ≤ 20) ⊎ (r ≡ 22)
+  most : (r ≤ 20) ⊎ ((r ≡ 22) ⊎ (r ≡ 29))
   early : Early r → (t ≡ s) × (vs ≡ [])
   lost : Lost r → (t ≡ s) × (vs ≡ [])
   halting : Halting r → (t ≡ halted s) × (vs ≡ [])
@@ -111,12 +112,17 @@ record Answered (s : State) (op x y z : ℕ) (r : ℕ) (t : State) (vs : List �
   twenty : r ≡ 20 → Trapped s t (wordOf op x y z) (reg s y) (reg s z) × (vs ≡ [])
   done : r ≡ 0 → t .halt ≡ s .halt
 
--- 0, and 6 to 20, are not given early
+-- 0 and 6 to 20 are not given early
 late : (n : ℕ) → (n ≡ 0) ⊎ ((6 ≤ n) × (n ≤ 20)) → Early n → ⊥
 late n (inl e) (inl l) = omega arith
 late n (inl e) (inr f) = omega arith
 late n (inr k) (inl l) = omega arith
 late n (inr k) (inr f) = omega arith
+
+halting-late : (n : ℕ) → Halting n → Early n → ⊥
+halting-late n (inl h) p = late n (inr (omega arith, omega arith)) p
+halting-late n (inr h) (inl l) = let e : n ≡ 29 = h in omega arith
+halting-late n (inr h) (inr f) = let e : n ≡ 29 = h in let g : n ≡ 22 = f in omega arith
 
 module _ (s : State) (op x y z : ℕ) where
   as-done : (t : State) (vs : List ℕ) → t .halt ≡ s .halt → Answered s op x y z 0 t vs
@@ -124,7 +130,7 @@ module _ (s : State) (op x y z : ℕ) where
     most = inl (omega arith);
     early = λ p. absurd (late 0 (inl refl) p);
     lost = λ p. absurd (omega arith);
-    halting = λ p. absurd (omega arith);
+    halting = λ p. absurd (unhalting 0 (inl (omega arith)) p);
     nineteen = λ p. absurd (omega arith);
     twenty = λ p. absurd (omega arith);
     done = λ p. e;
@@ -132,10 +138,10 @@ module _ (s : State) (op x y z : ℕ) where
 
   as-refused : (n : ℕ) → Early n → Answered s op x y z n s []
   as-refused n a = record {
-    most = ⊎-elim (λ l. inl (omega arith)) (λ e. inr e) a;
+    most = ⊎-elim (λ l. inl (omega arith)) (λ e. inr (inl e)) a;
     early = λ p. (refl, refl);
     lost = λ p. (refl, refl);
-    halting = λ p. absurd (late n (inr (omega arith, omega arith)) a);
+    halting = λ p. absurd (halting-late n p a);
     nineteen = λ p. absurd (late n (inr (omega arith, omega arith)) a);
     twenty = λ p. absurd (late n (inr (omega arith, omega arith)) a);
     done = λ p. absurd (late n (inl p) a);
@@ -143,13 +149,13 @@ module _ (s : State) (op x y z : ℕ) where
 
   as-halted : (n : ℕ) → Halting n → Answered s op x y z n (halted s) []
   as-halted n a = record {
-    most = inl (omega arith);
-    early = λ p. absurd (late n (inr (omega arith, omega arith)) p);
-    lost = λ p. absurd (omega arith);
+    most = ⊎-elim (λ l. inl (omega arith)) (λ e. inr (inr e)) a;
+    early = λ p. absurd (halting-late n a p);
+    lost = λ p. absurd (unhalting n (inl (omega arith)) a);
     halting = λ p. (refl, refl);
-    nineteen = λ p. absurd (omega arith);
-    twenty = λ p. absurd (omega arith);
-    done = λ p. absurd (omega arith);
+    nineteen = λ p. absurd (unhalting n (inr (omega arith, omega arith)) a);
+    twenty = λ p. absurd (unhalting n (inr (omega arith, omega arith)) a);
+    done = λ p. absurd (unhalting n (inl (omega arith)) a);
   }
 
   -- 19
@@ -158,7 +164,7 @@ module _ (s : State) (op x y z : ℕ) where
     most = inl (omega arith);
     early = λ p. absurd (late 19 (inr (omega arith, omega arith)) p);
     lost = λ p. absurd (omega arith);
-    halting = λ p. absurd (omega arith);
+    halting = λ p. absurd (unhalting 19 (inr (omega arith, omega arith)) p);
     nineteen = λ p. h;
     twenty = λ p. absurd (omega arith);
     done = λ p. absurd (omega arith);
@@ -169,7 +175,7 @@ module _ (s : State) (op x y z : ℕ) where
     most = inl (omega arith);
     early = λ p. absurd (late 20 (inr (omega arith, omega arith)) p);
     lost = λ p. absurd (omega arith);
-    halting = λ p. absurd (omega arith);
+    halting = λ p. absurd (unhalting 20 (inr (omega arith, omega arith)) p);
     nineteen = λ p. absurd (omega arith);
     twenty = λ p. (h, refl);
     done = λ p. absurd (omega arith);
@@ -323,17 +329,15 @@ store-leaves w s op x y z n k p =
 
 -- ---- 22
 
-three-most : (s : State) (op x y z : ℕ) → Answers Any (λ r t vs. r ≤ 20) (fromThree s (armOf op) op x y z)
-three-most s op x y z = three-replies (λ r. r ≤ 20) (omega arith) (λ n a b. omega arith) (λ n a. omega arith) (omega arith) s (armOf op) op x y z (λ m. omega arith)
+three-unshared : (s : State) (op x y z : ℕ) → Answers Any (λ r t vs. r ≢ 22) (fromThree s (armOf op) op x y z)
+three-unshared s op x y z = three-replies (λ r. r ≢ 22) (λ e. omega arith) (λ n a b e. omega arith) (λ n a e. unhalting n (inr (omega arith, omega arith)) a) (λ e. omega arith) s (armOf op) op x y z (λ m e. omega arith)
 
 step-shared : (w : Windows) (s : State) (op x y z : ℕ) → stepOf w s op x y z .reply ≡ 22 → (admissible s ≡ true) × Sharing (shapesOf w)
 unfolding stepOf stepPlan guarded
 step-shared w s op x y z =
     on (λ (p : Plan State). performOn w s p .reply ≡ 22 → (admissible s ≡ true) × Sharing (shapesOf w)) (admissible s)
     (λ a. on (λ (p : Plan State). performOn w s p .reply ≡ 22 → (admissible s ≡ true) × Sharing (shapesOf w)) (eqb (unruledBy (shapesOf w)) 0)
-    (λ e h. let l : performOn w s (fromThree s (armOf op) op x y z) .reply ≤ 20
-    = perform-meets w s Any (λ r t vs. r ≤ 20) (λ o. o .reply ≤ 20) (omega arith) (λ r t b vs k. k) (λ b n. tt) (fromThree s (armOf op) op x y z) (three-most s op x y z) in
-    absurd (omega arith))
+    (λ e h. absurd (perform-meets w s Any (λ r t vs. r ≢ 22) (λ o. o .reply ≢ 22) (λ q. omega arith) (λ r t b vs k. k) (λ b n. tt) (fromThree s (armOf op) op x y z) (three-unshared s op x y z) h))
     (λ e h. (a, shared-only (shapesOf w) (sym (said-reply w s s (unruledBy (shapesOf w))) ∙ h))))
     (λ a h. absurd (omega (arith, said-reply w s s 1, h)))
 
@@ -347,7 +351,7 @@ step-leaves w s op x y z n = unfold Leaves in (leaves (store-leaves w s op x y z
           most = inl (omega arith);
           early = λ p. (refl, refl);
           lost = λ p. (refl, refl);
-          halting = λ p. absurd (omega arith);
+          halting = λ p. absurd (unhalting 6 (inl (omega arith)) p);
           nineteen = λ p. absurd (omega arith);
           twenty = λ p. absurd (omega arith);
           shared = sh;

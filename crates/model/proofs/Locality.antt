@@ -25,6 +25,7 @@ use Rattle.model.proofs.Memory.{raw-octa, both-lawful}
 use Rattle.model.proofs.Plan.{All-map, Same, worst-head, worst-tail, touches, touches-off, perform-agree, needs-agree, perform-kept, perform-shape}
 use Rattle.model.proofs.ArmAnswers.{Answers, worst-six, step-meets, perform-meets}
 use Rattle.model.proofs.ArmReplies.{plan-replies, three-replies}
+use Rattle.model.proofs.Numbers.{unhalting}
 use Rattle.model.proofs.Entry.{performOn, sound-at, judged-inside, inside-judged, unruled-is}
 
 -- ---- octabytes among the needs
@@ -117,7 +118,7 @@ fetched-alike v w s e h =
 step-never-six : (s : State) (w : Shapes) (op x y z : ℕ) → Answers Any (λ r t vs. r ≢ 6) (stepPlan s w op x y z)
 step-never-six s w op x y z =
     step-meets s w Any (λ r t vs. r ≢ 6) (λ n a e. ⊎-elim (λ l. omega arith) (λ q. let z : n ≡ 22 = q in omega arith) a) op x y z
-    (λ e. plan-replies (λ r. r ≢ 6) (λ e. omega arith) (λ e. omega arith) (λ n a e. omega arith) (λ e. omega arith) s (armOf op) op x y z (λ m e. omega arith))
+    (λ e. plan-replies (λ r. r ≢ 6) (λ e. omega arith) (λ e. omega arith) (λ n a e. unhalting n (inl (omega arith)) a) (λ e. omega arith) s (armOf op) op x y z (λ m e. omega arith))
 
 inside-front : (w : Shapes) (xs ys : List ℕ) → allInside w xs ≡ true → allInside w (xs ++ ys) ≡ allInside w ys
 unfolding allInside
@@ -187,7 +188,7 @@ instruction-there s op x y z =
     on (Answers Any (λ r t vs. There r)) (claims op) (λ e. back-answers There s _ (three (claimLocal s x))) (λ e. three s)
   where
     three : (t : State) → Answers Any (λ r t vs. There r) (fromThree t (armOf op) op x y z)
-    three t = three-replies There (λ e. omega arith, λ e. omega arith) (λ n a b. (λ e. omega arith, λ e. omega arith)) (λ n a. (λ e. omega arith, λ e. omega arith))
+    three t = three-replies There (λ e. omega arith, λ e. omega arith) (λ n a b. (λ e. omega arith, λ e. omega arith)) (λ n a. (λ e. unhalting n (inl (omega arith)) a, λ e. unhalting n (inr (omega arith, omega arith)) a))
         (λ e. omega arith, λ e. omega arith) t (armOf op) op x y z (λ m. (λ e. omega arith, λ e. omega arith))
 
 answers-map : (P Q : ℕ → Type 0) → ((r : ℕ) → P r → Q r) → (p : Plan State) → Answers Any (λ r t vs. P r) p → Answers Any (λ r t vs. Q r) p

@@ -1,14 +1,14 @@
 -- The numbers of the replies.
 use mathlib.Core.Path.{_≡_, refl}
-use mathlib.Core.Logic.{_⊎_, ⊎-elim}
+use mathlib.Core.Logic.{_⊎_, inl, inr, ⊎-elim}
 use mathlib.Core.Bool.{true}
 use Prim.Native.Nat.{ℕ, _≤_}
 use native.Mathlib.Omega.{arith}
 use lib.Dec.{eqb}
 use borrow.Author.Tests.{eqb-true}
-use Rattle.model.specs.Numbers.{numberOf, replyOf, Numbered}
+use Rattle.model.specs.Numbers.{Halting, numberOf, replyOf, Numbered}
 use Rattle.model.specs.declared.Reply.{Reply}
-use Rattle.model.specs.declared.Reply.the-variants.{Done, NotAdmissible, WindowRule, NoArm, NamedTrap, NoSpecial, Missing, PutUnknown, PutPrivileged, PutIllegal, PutThreshold, PutStatus, Misplaced, SaveLocal, SavedThreshold, SavedStatus, SavedCount, SyncPrivileged, SyncIllegal, NotLoaded, Trapped, OutOfReach, Shared, Across, NotFetched, GrantTooLarge, StoreTooShort, NoPoint, OtherPoint}
+use Rattle.model.specs.declared.Reply.the-variants.{Done, NotAdmissible, WindowRule, NoArm, NamedTrap, NoSpecial, Missing, PutUnknown, PutPrivileged, PutIllegal, PutThreshold, PutStatus, Misplaced, SaveLocal, SavedThreshold, SavedStatus, SavedCount, SyncPrivileged, SyncIllegal, NotLoaded, Trapped, OutOfReach, Shared, Across, NotFetched, GrantTooLarge, StoreTooShort, NoPoint, OtherPoint, NoFrame}
 use Rattle.model.proofs.Bools.{each, at-each}
 
 there : (r : Reply) → replyOf (numberOf r) ≡ r
@@ -42,18 +42,26 @@ there GrantTooLarge = refl
 there StoreTooShort = refl
 there NoPoint = refl
 there OtherPoint = refl
+there NoFrame = refl
 
-all : each 29 (λ n. eqb (numberOf (replyOf n)) n) ≡ true
+all : each 30 (λ n. eqb (numberOf (replyOf n)) n) ≡ true
 unfolding each numberOf replyOf
 all = refl
 
 pub numbered : Numbered
-numbered = record { reply-number = there; number-reply = λ n l. eqb-true (numberOf (replyOf n)) n (at-each 29 (λ k. eqb (numberOf (replyOf k)) k) all n (omega arith)) }
+numbered = record { reply-number = there; number-reply = λ n l. eqb-true (numberOf (replyOf n)) n (at-each 30 (λ k. eqb (numberOf (replyOf k)) k) all n (omega arith)) }
 
--- a step's number is one of 0 to 20, or 22
-pub step-number : (n : ℕ) → (n ≤ 20) ⊎ (n ≡ 22) → numberOf (replyOf n) ≡ n
-step-number n h = numbered .number-reply n (⊎-elim (λ l. omega arith) (λ e. let f : n ≡ 22 = e in omega arith) h)
+-- 7 to 18 and 29 alone halt
+pub unhalting : (n : ℕ) → (n ≤ 6) ⊎ ((19 ≤ n) × (n ≤ 28)) → Halting n → ⊥
+unhalting n (inl l) (inl h) = omega arith
+unhalting n (inl l) (inr h) = let e : n ≡ 29 = h in omega arith
+unhalting n (inr l) (inl h) = omega arith
+unhalting n (inr l) (inr h) = let e : n ≡ 29 = h in omega arith
+
+-- a step's number is one of 0 to 20, 22 or 29
+pub step-number : (n : ℕ) → (n ≤ 20) ⊎ ((n ≡ 22) ⊎ (n ≡ 29)) → numberOf (replyOf n) ≡ n
+step-number n h = numbered .number-reply n (⊎-elim (λ l. omega arith) (⊎-elim (λ e. let f : n ≡ 22 = e in omega arith) (λ e. let f : n ≡ 29 = e in omega arith)) h)
 
 -- a run's is one of these, 24 or 25
-pub run-number : (n : ℕ) → (n ≤ 20) ⊎ ((n ≡ 22) ⊎ ((n ≡ 24) ⊎ (n ≡ 25))) → numberOf (replyOf n) ≡ n
-run-number n h = numbered .number-reply n (⊎-elim (λ l. omega arith) (⊎-elim (λ e. let f : n ≡ 22 = e in omega arith) (⊎-elim (λ e. let f : n ≡ 24 = e in omega arith) (λ e. let f : n ≡ 25 = e in omega arith))) h)
+pub run-number : (n : ℕ) → (n ≤ 20) ⊎ ((n ≡ 22) ⊎ ((n ≡ 24) ⊎ ((n ≡ 25) ⊎ (n ≡ 29)))) → numberOf (replyOf n) ≡ n
+run-number n h = numbered .number-reply n (⊎-elim (λ l. omega arith) (⊎-elim (λ e. let f : n ≡ 22 = e in omega arith) (⊎-elim (λ e. let f : n ≡ 24 = e in omega arith) (⊎-elim (λ e. let f : n ≡ 25 = e in omega arith) (λ e. let f : n ≡ 29 = e in omega arith)))) h)

@@ -83,9 +83,9 @@ pop-open : (w : Windows) (s : State) (x y z : ℕ) → Passes w s → stepOf w s
 unfolding planOf refusalOf armOf
 pop-open w s x y z h = step-open w s 0xF8 x y z (h .admitted) (passing w s h) refl
 
-pop-no-frame : (w : Windows) (s : State) (x y z : ℕ) → Passes w s → noFrame s ≡ true → stepOf w s 0xF8 x y z ≡ refusedBy 0 w (goes s ((sp s rJ + 4 * yzOf y z) % 2 ^ 64))
+pop-twenty-nine : (w : Windows) (s : State) (x y z : ℕ) → Passes w s → noFrame s ≡ true → stepOf w s 0xF8 x y z ≡ haltedBy 29 w s
 unfolding popFrame tell
-pop-no-frame w s x y z h e = pop-open w s x y z h ∙ rw e (said w s (goes s ((sp s rJ + 4 * yzOf y z) % 2 ^ 64)) 0)
+pop-twenty-nine w s x y z h e = pop-open w s x y z h ∙ rw e (said w s (halted s) 29)
 
 pop-twelve : (w : Windows) (s : State) (x y z : ℕ) → Passes w s → noFrame s ≡ false → misplaced s ≡ true → stepOf w s 0xF8 x y z ≡ haltedBy 12 w s
 unfolding popFrame tell
@@ -171,7 +171,7 @@ steps-in-order = record {
   three-to-five = three-to-five;
   save-thirteen = save-thirteen;
   save-six = save-six;
-  pop-no-frame = pop-no-frame;
+  pop-twenty-nine = pop-twenty-nine;
   pop-twelve = pop-twelve;
   pop-six = pop-six;
   unsave-packed = unsave-packed;

@@ -86,7 +86,7 @@ push-sent w s h t u = answer-sent w s (pushed s h) t u (sp s rO) (tab 0 (h + 1) 
 pub pop-sent : (w : Windows) (s : State) (x t u : ℕ) → performOn w s (popFrame s x t) ≡ sent (performOn w s (popFrame s x u)) t
 unfolding popFrame popRule popTo tell
 pop-sent w s x t u =
-    on-both (λ (p q : Plan State). performOn w s p ≡ sent (performOn w s q) t) (noFrame s) (λ e. answer-sent w s s t u 0 [])
+    on-both (λ (p q : Plan State). performOn w s p ≡ sent (performOn w s q) t) (noFrame s) (λ e. rw (said w s (halted s) 29) (unfold sent in refl))
     (λ e. on-both (λ (p q : Plan State). performOn w s p ≡ sent (performOn w s q) t) (misplaced s)
     (λ e. rw (said w s (halted s) 12) (unfold sent in refl))
     (λ e. read-sent w s t (sp s rO - 8) 1 _ _ (read-sent w s t _ _ _ _ (answer-sent w s (popped s x _ _) t u 0 []))))

@@ -89,7 +89,7 @@ point s w is rs t v = record { begin = s; window = w; items = is; replies = rs; 
 abbrev does : State → Item → State → Point
 does s i t = point s program (i ∷ []) (0 ∷ []) t program
 
--- one item that is refused by a number from 7 to 18
+-- one item that is refused by a number from 7 to 18, or by 29
 abbrev refuses : State → Item → ℕ → Point
 refuses s i n = point s program (i ∷ []) (n ∷ []) (halted s) program
 
@@ -124,7 +124,7 @@ points =
     ∷ point (two 7 9) program (step 0xF2 32 0 5 ∷ []) (0 ∷ [])
     (goes (withSpecial (grown start 3) rJ 4) 0x14) (holding (holding (holding program 0 7) 1 9) 2 2)
     -- P5
-    ∷ does (withSpecial start rJ 0x100) (step 0xF8 0 0 3) (goes (withSpecial start rJ 0x100) 0x10c)
+    ∷ refuses (withSpecial start rJ 0x100) (step 0xF8 0 0 3) 29
     -- P6
     ∷ refuses (withSpecial start rO 0x6000000000000001) (step 0xF8 0 0 0) 12
     ∷ refuses (withSpecial start rO 0x8000000000000000) (step 0xF8 0 0 0) 12

@@ -91,7 +91,7 @@ around = zeros 0x5FFFFFFFFFFFFFF8 16
 -- POP 0,0 without a frame, and with a misplaced rO
 abbrev popExamples : List Example
 popExamples =
-    plain start around 0xF8 0 0 0 0 start (goesOn (topAt start 0x5FFFFFFFFFFFFFF8 stackStart))
+    plain start around 0xF8 0 0 0 29 (halted start) (goesOn (topAt start 0x5FFFFFFFFFFFFFF8 stackStart))
     ∷ plain (withSpecial start rO 0x6000000000000001) around 0xF8 0 0 0 12 (halted (withSpecial start rO 0x6000000000000001))
     (goesOn (topAt start 0x5FFFFFFFFFFFFFF9 stackStart)) ∷ []
 

@@ -81,7 +81,7 @@ popTo s x t h = read 6 (sp s rO - 8 * (h + 1)) (min h (sp s rG)) (λ ls. answer 
 unfoldable pub popRule : State → ℕ → ℕ → Plan State
 popRule s x t = read 6 (sp s rO - 8) 1 (λ v. popTo s x t (getD v 0 0 % 256))
 
--- Departure: "rO ≤ 0x6000000000000000 means no frame"
+-- Departure: "POP with rO ≤ 0x6000000000000000" is 29
 unfoldable pub noFrame : State → Bool
 noFrame s = leb (sp s rO) stackStart
 
@@ -89,6 +89,6 @@ noFrame s = leb (sp s rO) stackStart
 unfoldable pub misplaced : State → Bool
 misplaced s = not (eqb (sp s rO % 8) 0 && ltb (sp s rO) 0x8000000000000000)
 
--- "PC is rJ + 4 × YZ and nothing else moves"; "POP judges no frame, 12, 6"
+-- "such a POP is refused and only the halt code changes, to 1", "where the no-frame test stands": POP judges 29, 12, 6
 unfoldable pub popFrame : State → ℕ → ℕ → Plan State
-popFrame s x t = cond (noFrame s) (tell (say 0 (goes s t))) (cond (misplaced s) (tell (refuse 12 s)) (popRule s x t))
+popFrame s x t = cond (noFrame s) (tell (refuse 29 s)) (cond (misplaced s) (tell (refuse 12 s)) (popRule s x t))

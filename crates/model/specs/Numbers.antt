@@ -5,7 +5,7 @@ use mathlib.Core.Logic.{_⊎_}
 use mathlib.Core.List.{[], _∷_}
 use lib.ListN.{getD}
 use Rattle.model.specs.declared.Reply.{Reply}
-use Rattle.model.specs.declared.Reply.the-variants.{Done, NotAdmissible, WindowRule, NoArm, NamedTrap, NoSpecial, Missing, PutUnknown, PutPrivileged, PutIllegal, PutThreshold, PutStatus, Misplaced, SaveLocal, SavedThreshold, SavedStatus, SavedCount, SyncPrivileged, SyncIllegal, NotLoaded, Trapped, OutOfReach, Shared, Across, NotFetched, GrantTooLarge, StoreTooShort, NoPoint, OtherPoint}
+use Rattle.model.specs.declared.Reply.the-variants.{Done, NotAdmissible, WindowRule, NoArm, NamedTrap, NoSpecial, Missing, PutUnknown, PutPrivileged, PutIllegal, PutThreshold, PutStatus, Misplaced, SaveLocal, SavedThreshold, SavedStatus, SavedCount, SyncPrivileged, SyncIllegal, NotLoaded, Trapped, OutOfReach, Shared, Across, NotFetched, GrantTooLarge, StoreTooShort, NoPoint, OtherPoint, NoFrame}
 
 -- what the numbers leave, by kind: judged before an octabyte is asked for, nothing changes; a needed octabyte that is not there, nothing
 -- changes; "halt code 1 only". 19 and 20 have kinds of their own; 21 and 23 are no step's, and there is no state that they could change;
@@ -21,7 +21,7 @@ abbrev pub Missed : ℕ → Type 0
 Missed n = Lost n ⊎ (n ≡ 24)
 
 abbrev pub Halting : ℕ → Type 0
-Halting n = (7 ≤ n) × (n ≤ 18)
+Halting n = ((7 ≤ n) × (n ≤ 18)) ⊎ (n ≡ 29)
 
 unfoldable pub numberOf : Reply → ℕ
 numberOf Done = 0
@@ -53,14 +53,15 @@ numberOf GrantTooLarge = 25
 numberOf StoreTooShort = 26
 numberOf NoPoint = 27
 numberOf OtherPoint = 28
+numberOf NoFrame = 29
 
 unfoldable pub replyOf : ℕ → Reply
 replyOf n = getD (Done ∷ NotAdmissible ∷ WindowRule ∷ NoArm ∷ NamedTrap ∷ NoSpecial ∷ Missing
     ∷ PutUnknown ∷ PutPrivileged ∷ PutIllegal ∷ PutThreshold ∷ PutStatus ∷ Misplaced
     ∷ SaveLocal ∷ SavedThreshold ∷ SavedStatus ∷ SavedCount ∷ SyncPrivileged ∷ SyncIllegal ∷ NotLoaded ∷ Trapped
-    ∷ OutOfReach ∷ Shared ∷ Across ∷ NotFetched ∷ GrantTooLarge ∷ StoreTooShort ∷ NoPoint ∷ OtherPoint ∷ []) n Done
+    ∷ OutOfReach ∷ Shared ∷ Across ∷ NotFetched ∷ GrantTooLarge ∷ StoreTooShort ∷ NoPoint ∷ OtherPoint ∷ NoFrame ∷ []) n Done
 
--- the two are inverse on 0 to 28
+-- the two are inverse on 0 to 29
 pub record Numbered : Type 0 where
   pub reply-number : (r : Reply) → replyOf (numberOf r) ≡ r
-  pub number-reply : (n : ℕ) → n ≤ 28 → numberOf (replyOf n) ≡ n
+  pub number-reply : (n : ℕ) → n ≤ 29 → numberOf (replyOf n) ≡ n

@@ -1,4 +1,4 @@
--- Theorem 9. The order of judging. "Order: 1, 2, [22,] then 3 to 5, then the instruction's own. SAVE judges 13 before 6; POP judges no frame, 12, 6;
+-- Theorem 9. The order of judging. "Order: 1, 2, [22,] then 3 to 5, then the instruction's own. SAVE judges 13 before 6; POP judges [29], 12, 6;
 -- UNSAVE judges 6, 14, 15, 6, 16, 6 as its needs appear"; an exception "judges 1, then 19".
 -- Each statement holds whatever a later judgment would be: it asks nothing of what that one looks at.
 use Prim.Native.Nat.{ℕ, _+_, _-_, _*_, _/_, _%_, _^_, _<_, _≤_}
@@ -59,9 +59,8 @@ pub record StepsInOrder : Type 0 where
   pub save-thirteen : (w : Windows) (s : State) (x y z : ℕ) → Passes w s → x < sp s rG → stepOf w s opSAVE x y z ≡ haltedBy 13 w s
   pub save-six : (w : Windows) (s : State) (x y z : ℕ) → Passes w s → sp s rG ≤ x → clear (refusing (shapesOf w)) (sp s rO) (extent s) ≡ false
       → stepOf w s opSAVE x y z ≡ refusedBy 6 w s
-  -- POP: no frame, though rO be misplaced and the window empty; then 12, whatever lies in the window; then 6
-  pub pop-no-frame : (w : Windows) (s : State) (x y z : ℕ) → Passes w s → noFrame s ≡ true
-      → stepOf w s opPOP x y z ≡ refusedBy 0 w (goes s ((sp s rJ + 4 * yzOf y z) % 2 ^ 64))
+  -- POP: 29, though rO be misplaced and the window empty; then 12, whatever lies in the window; then 6
+  pub pop-twenty-nine : (w : Windows) (s : State) (x y z : ℕ) → Passes w s → noFrame s ≡ true → stepOf w s opPOP x y z ≡ haltedBy 29 w s
   pub pop-twelve : (w : Windows) (s : State) (x y z : ℕ) → Passes w s → noFrame s ≡ false → misplaced s ≡ true → stepOf w s opPOP x y z ≡ haltedBy 12 w s
   pub pop-six : (w : Windows) (s : State) (x y z : ℕ) → Passes w s → noFrame s ≡ false → misplaced s ≡ false → inside (shapesOf w) (sp s rO - 8) ≡ false
       → stepOf w s opPOP x y z ≡ refusedBy 6 w s

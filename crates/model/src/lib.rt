@@ -31,7 +31,7 @@ pub enum Reply {
     NamedTrap,
     NoSpecial,
     Missing,
-    // 7 to 18 set the halt code to 1.
+    // 7 to 18 set the halt code to 1, and so does 29.
     PutUnknown,
     PutPrivileged,
     PutIllegal,
@@ -62,6 +62,8 @@ pub enum Reply {
     StoreTooShort,
     NoPoint,
     OtherPoint,
+    // POP with rO at the stack's start or below it: judged before 12, and sets the halt code to 1.
+    NoFrame,
 }
 
 /// An octabyte that was read, and which window holds it: 0 for A, 1 for B, 2 for neither.
