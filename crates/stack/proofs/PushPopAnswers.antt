@@ -118,9 +118,9 @@ module _ (w : Windows) (s : State) (x yz : ℕ) where
     unfolding popIn
     pop-open = only-open w s (placed s) _ a
 
-    pub pop-none : sp s rO ≤ stackStart → PopGives (popIn w s x) s yz NoFrame s
+    pub pop-none : sp s rO ≤ stackStart → PopGives (popIn w s x) s yz NoFrame (halted s)
     unfolding popAnswer popNumber popFrame noFrame tell
-    pop-none l = pops _ 0 NoFrame s (goes s (s .pc)) (pop-open ∙ rw (le-leb _ _ l) (said w s _ 0)) (rw (le-leb _ _ l)) refl (unfold goes in refl)
+    pop-none l = pops _ 29 NoFrame (halted s) (halted s) (pop-open ∙ rw (le-leb _ _ l) (said w s _ 29)) refl refl (unfold goes halted in refl)
 
     module _ (above : stackStart < sp s rO) where
       pub pop-rejected : misplaced s ≡ true → PopGives (popIn w s x) s yz Rejected (halted s)
@@ -160,12 +160,12 @@ module _ (w : Windows) (s : State) (x yz : ℕ) where
 
           pub pop-done : (t : State) (target : ℕ) → Inside w (sp s rO - 8 * (h + 1)) (min h (sp s rG)) → t ≡ popped s x h (looks both w (sp s rO - 8 * (h + 1)) (min h (sp s rG)))
               → target ≡ (sp s rJ + 4 * yz) % 2 ^ 64 → PopGives (popIn w s x) s yz (Frame target) t
-          unfolding popAnswer popNumber noFrame popTo
+          unfolding popAnswer popNumber popTo
           pop-done t target j et eg =
               let ls = looks both w (sp s rO - 8 * (h + 1)) (min h (sp s rG)) in
               pops _ 0 (Frame target) t (goes (popped s x h ls) (s .pc))
               (pop-to ∙ perform-read both both-lawful (refusing (shapesOf w)) s 6 (sp s rO - 8 * (h + 1)) (min h (sp s rG)) (λ ls. answer 0 (goes (popped s x h ls) (s .pc)) 0 []) w j ∙ said w s _ 0)
-              (rw (lt-leb _ _ above, eg)) refl (et ∙ back ls)
+              (rw eg) refl (et ∙ back ls)
             where
               back : (ls : List ℕ) → popped s x h ls ≡ goes (goes (popped s x h ls) (s .pc)) (s .pc)
               back ls = unfold goes popped unslide spilled withSpecial in refl

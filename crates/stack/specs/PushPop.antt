@@ -8,7 +8,7 @@ use lib.ListN.{length, getD}
 use Rattle.model.specs.Memory.{Windows, shapesOf, both}
 use Rattle.model.specs.Plan.{Outcome, looks}
 use Rattle.model.specs.Registers.{rJ, rO, rG, rL, stackStart, sp, admissible, goes}
-use Rattle.model.specs.Frames.{hole, pushFrame, noFrame, misplaced, popped, popFrame}
+use Rattle.model.specs.Frames.{hole, pushFrame, misplaced, popped, popFrame}
 use Rattle.model.specs.PopOrder.{between}
 use Rattle.model.specs.Step.{unruledBy}
 use Rattle.stack.specs.GivenBack.{guardedOn, onlyIf, placed, Gives}
@@ -44,7 +44,7 @@ returnTo s yz = (sp s rJ + 4 * yz) % 2 ^ 64
 -- 01's number of each case
 unfoldable pub popNumber : PopFrame → ℕ
 popNumber (Frame target) = 0
-popNumber NoFrame = 0
+popNumber NoFrame = 29
 popNumber Rejected = 12
 popNumber Missing = 6
 popNumber NotAdmissible = 1
@@ -54,8 +54,8 @@ popNumber Shared = 22
 -- the case of each number, with its value
 unfoldable pub popAnswer : State → ℕ → ℕ → PopFrame
 popAnswer s yz n =
-    cond (eqb n 0) (cond (noFrame s) NoFrame (Frame (returnTo s yz)))
-    (cond (eqb n 12) Rejected (cond (eqb n 6) Missing (cond (eqb n 1) NotAdmissible (cond (eqb n 2) WindowRule Shared))))
+    cond (eqb n 0) (Frame (returnTo s yz))
+    (cond (eqb n 29) NoFrame (cond (eqb n 12) Rejected (cond (eqb n 6) Missing (cond (eqb n 1) NotAdmissible (cond (eqb n 2) WindowRule Shared)))))
 
 -- a POP of s whose outcome is o answers r and leaves t; it writes nothing
 pub record PopGives (o : Outcome State Windows) (s : State) (yz : ℕ) (r : PopFrame) (t : State) : Type 0 where

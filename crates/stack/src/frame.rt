@@ -24,7 +24,7 @@ use model::State;
 pub enum PopFrame {
     /// A frame was popped; PC goes to the target.
     Frame(u64),
-    /// rO is at or below the stack's start: nothing moved.
+    /// rO is at or below the stack's start: the halt code is 1 (29).
     NoFrame,
     /// rO cannot hold a frame: the halt code is 1 (12).
     Rejected,
@@ -318,6 +318,7 @@ pub fn pop_frame(
         return PopFrame::NotAdmissible;
     }
     if ro <= State::STACK_START {
+        *halt = 1;
         return PopFrame::NoFrame;
     }
     if is_misplaced(ro) {

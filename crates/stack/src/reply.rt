@@ -38,6 +38,7 @@ pub fn number_of(reply: Reply) -> u64
         Reply::StoreTooShort => 26,
         Reply::NoPoint => 27,
         Reply::OtherPoint => 28,
+        Reply::NoFrame => 29,
     }
 }
 

@@ -41,6 +41,7 @@ returns c =
     pop-one w s (a .x) (a .yz) (denied _ _ (c .before .is-placed .ensures s refl refl) (c .if1 .taken))
 
 returns-2 : tie.Need-returns-2
+unfolding halted
 returns-2 c =
     λ pc marks.
     let a = c .before .before .before .before .before .before .before .before .before .before .before .args in
