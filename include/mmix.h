@@ -53,12 +53,14 @@ extern "C" {
  * 2.1: mmix_run and mmix_run_parts, with MMIX_NOT_FETCHED and MMIX_GRANT_TOO_LARGE.
  * 3.0: mmix_exceptions and mmix_exceptions_parts add to rA also the flags that rA enables and that are not taken: these are all
  * but the leftmost one. Flags of which rA enables at most one, and all steps and runs, do what they did.
- * 3.1: mmix_take and mmix_go_back, with MMIX_STORE_TOO_SHORT, MMIX_NO_POINT and MMIX_OTHER_POINT. */
-#define MMIX_VERSION_MAJOR 3
-#define MMIX_VERSION_MINOR 1
+ * 3.1: mmix_take and mmix_go_back, with MMIX_STORE_TOO_SHORT, MMIX_NO_POINT and MMIX_OTHER_POINT.
+ * 4.0: POP where rO is at or below MMIX_STACK_START is refused, by MMIX_NO_FRAME, where it went on to rJ + 4 * YZ: a program whose
+ * last return is such a POP stops there. Every other step does what it did; images, stores and points are what they were. */
+#define MMIX_VERSION_MAJOR 4
+#define MMIX_VERSION_MINOR 0
 
-/* The replies. 1 to 6, 22 and 24 to 28 leave every byte as it was; 7 to 18 set the halt code to 1 and leave all else; 19 and 20
- * set the halt code to 1 and the trip or trap registers, with PC where it was (an exception refused by 19 has also added to
+/* The replies. 1 to 6, 22 and 24 to 28 leave every byte as it was; 7 to 18 and 29 set the halt code to 1 and leave all else; 19
+ * and 20 set the halt code to 1 and the trip or trap registers, with PC where it was (an exception refused by 19 has also added to
  * rA; a store refused by 19 is made, and $X, rH and rR of an operation are written). 21 is the number of mmix_branch_field and
  * mmix_jump_field alone, and 23 that of mmix_context alone, which are given no state; 24 and 25 are those of mmix_run and
  * mmix_run_parts alone, 26 to 28 those of mmix_take and mmix_go_back. What a reply leaves of a run, it leaves of the
@@ -92,7 +94,8 @@ enum mmix_reply {
     MMIX_GRANT_TOO_LARGE = 25,    /* mmix_run: more than MMIX_GRANT_MAX instructions are granted. */
     MMIX_STORE_TOO_SHORT = 26,    /* mmix_take, mmix_go_back: the store is shorter than MMIX_STORE_LEN. */
     MMIX_NO_POINT = 27,           /* A name above 15; mmix_go_back: no point is taken under that name. */
-    MMIX_OTHER_POINT = 28         /* mmix_go_back: the point has other bases or lengths, or its state is not admissible. */
+    MMIX_OTHER_POINT = 28,        /* mmix_go_back: the point has other bases or lengths, or its state is not admissible. */
+    MMIX_NO_FRAME = 29            /* POP where rO is MMIX_STACK_START or less: no frame is left. Judged before 12. */
 };
 
 /* The opcodes that have an arm; every other byte is MMIX_NO_ARM. Of a pair with B at the end, that one goes backward; with I

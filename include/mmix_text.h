@@ -43,6 +43,7 @@ static inline const char *mmix_reply_text(uint64_t reply)
     case MMIX_STORE_TOO_SHORT: return "the store is shorter than sixteen rooms";
     case MMIX_NO_POINT: return "no point is kept under that name";
     case MMIX_OTHER_POINT: return "the point has other bases or lengths, or no admissible state";
+    case MMIX_NO_FRAME: return "POP where no frame is left";
     default: return "no reply of this version";
     }
 }

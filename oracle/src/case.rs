@@ -8,7 +8,8 @@
 use std::fmt::{self, Display, Write};
 
 use crate::lent::{Window, Windows};
-use crate::state::{IMAGE_LEN, RA, State};
+use crate::opcodes::POP;
+use crate::state::{IMAGE_LEN, RA, RO, STACK_START, State};
 
 #[derive(Clone, Copy, PartialEq, Eq, Debug)]
 pub struct Instruction {
@@ -91,6 +92,11 @@ impl Case {
             Call::Exceptions { flags, .. } => (flags & (self.state.special[RA] >> 8) as u8).count_ones() > 1,
             _ => false,
         }
+    }
+
+    /// POP where rO is at or below the stack's start: the Rust goes on by rJ, and the definition refuses by 29.
+    pub fn no_frame(&self) -> bool {
+        matches!(self.call, Call::Step(Instruction { op: POP, .. })) && self.state.special[RO] <= STACK_START
     }
 
     /// The image as lent: cut or lengthened where its length is wrong.

@@ -10,7 +10,8 @@
 //!
 //! The Rust has no arm for an added opcode (`opcodes::is_added`): from 22 on, the answer there is the model's, and the
 //! library is compared with the model alone. So it is, from 1 on, at flags of which two or more are raised and enabled
-//! (`Case::two_enabled`), where the definition departs from the Rust. A run is answered in `fetched`, step by step.
+//! (`Case::two_enabled`), and at POP without a frame (`Case::no_frame`), which 29 refuses: there the definition departs from the
+//! Rust. A run is answered in `fetched`, step by step.
 
 use std::cell::RefCell;
 use std::ops::Range;
@@ -115,7 +116,7 @@ impl Reference {
             return self.run(case, grant);
         }
         match case.call {
-            Call::Step(i) if is_added(i.op) => return Ok(of_model(case, i)),
+            Call::Step(i) if is_added(i.op) || case.no_frame() => return Ok(of_model(case, i)),
             Call::Exceptions { flags, of, y_val, z_val } if case.two_enabled() => {
                 return Ok(raised_by_model(case, flags, of, y_val, z_val));
             }

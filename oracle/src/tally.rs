@@ -7,7 +7,7 @@ use crate::reference::Answer;
 use crate::runs::{self, RUNS};
 use crate::situations::{self, SITUATIONS};
 
-const REPLIES: usize = 26;
+const REPLIES: usize = 30;
 /// Met less often than this, a pair of opcode and reply, an opcode that is done, or a situation is met too seldom.
 const PAIR_LEAST: u64 = 100;
 const DONE_LEAST: u64 = 500;
@@ -25,7 +25,7 @@ fn replies(op: u8) -> &'static [usize] {
         TRAP => &[4, 20],
         PUT => &[0, 7, 8, 9, 10, 11],
         PUTI => &[0, 7, 8, 9, 10],
-        POP => &[0, 6, 12],
+        POP => &[0, 6, 12, 29],
         SAVE => &[0, 6, 13],
         UNSAVE => &[0, 6, 14, 15, 16],
         SYNC => &[0, 17, 18],
@@ -38,7 +38,7 @@ fn replies(op: u8) -> &'static [usize] {
 const EXCEPTION_REPLIES: [usize; 3] = [0, 1, 19];
 const CONTEXT_REPLIES: [usize; 8] = [0, 2, 6, 14, 15, 16, 22, 23];
 const INITIALIZE_REPLIES: [usize; 2] = [0, 1];
-const RUN_REPLIES: [usize; 24] = [0, 1, 2, 3, 4, 5, 6, 7, 8, 9, 10, 11, 12, 13, 14, 15, 16, 17, 18, 19, 20, 22, 24, 25];
+const RUN_REPLIES: [usize; 25] = [0, 1, 2, 3, 4, 5, 6, 7, 8, 9, 10, 11, 12, 13, 14, 15, 16, 17, 18, 19, 20, 22, 24, 25, 29];
 const FIELD_REPLIES: [usize; 2] = [0, 21];
 
 #[derive(Clone)]
@@ -123,6 +123,11 @@ impl Tally {
     /// The exceptions with two or more flags raised and enabled, for which it stands in too.
     pub fn two_enabled(&self) -> u64 {
         self.two_enabled
+    }
+
+    /// The POPs without a frame, for which it stands in too.
+    pub fn no_frame(&self) -> u64 {
+        self.steps[POP as usize][29]
     }
 
     /// The rows by name, each with the replies that it can have.

@@ -187,11 +187,12 @@ fn differential(options: &Options) -> bool {
     found.iter().for_each(|difference| println!("DIFFERS: {difference}"));
     let names: Vec<&str> = chosen(options.guard).iter().map(|subject| subject.name()).collect();
     println!(
-        "{} cases, {} of them loads, stores and arithmetic and {} two enabled flags by the model, {} calls on stores, seed {}, \
+        "{} cases, {} of them loads, stores and arithmetic, {} two enabled flags and {} POPs without a frame by the model, {} calls on stores, seed {}, \
          Rust against {}, {:.1} s: {}",
         total.cases(),
         total.added(),
         total.two_enabled(),
+        total.no_frame(),
         met.calls(),
         options.seed,
         names.join(" and "),

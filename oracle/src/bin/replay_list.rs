@@ -63,7 +63,7 @@ fn drawn(random: &mut Random, number: u64) -> Option<Case> {
         None => exception(random),
     };
     let fits = case.state.admissible() && case.image_len == IMAGE_LEN && case.windows.b.bytes.len() <= 8 * WINDOW_MOST;
-    (fits && !case.two_enabled()).then_some(case)
+    (fits && !case.two_enabled() && !case.no_frame()).then_some(case)
 }
 
 fn write(file: &str, records: u64, seed: u64) -> Result<(), String> {

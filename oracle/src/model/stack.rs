@@ -96,9 +96,8 @@ impl Popped {
 
 pub fn pop(state: &State, x: u8, yz: u64, memory: &Memory) -> Outcome {
     let (rg, rl, ro) = (state.special[RG], state.special[RL], state.special[RO]);
-    let target = state.special[RJ].wrapping_add(4 * yz);
     if ro <= STACK_START {
-        return Outcome::done(state.clone().go_to(target));
+        return Outcome::refused(29, state);
     }
     if ro % 8 != 0 || ro >= 0x8000_0000_0000_0000 {
         return Outcome::refused(12, state);
@@ -126,6 +125,7 @@ pub fn pop(state: &State, x: u8, yz: u64, memory: &Memory) -> Outcome {
     after.special[RS] = first;
     let mut needs = locals;
     needs.push(below);
+    let target = state.special[RJ].wrapping_add(4 * yz);
     Outcome::done(after.go_to(target)).with_needs(needs)
 }
 
