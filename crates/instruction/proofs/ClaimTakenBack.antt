@@ -22,7 +22,7 @@ use Rattle.model.specs.Parts.{made}
 use Rattle.model.specs.declared.State.{State}
 use Rattle.model.proofs.Bools.{on, each, at-each, or-left, or-right}
 use Rattle.model.proofs.Fill.{length-over, over-in, over-below, over-above, lt-or-le}
-use Rattle.model.proofs.Numbers.{step-number}
+use Rattle.model.proofs.Numbers.{unhalting, step-number}
 use Rattle.model.proofs.ItemInvariant.{Any}
 use Rattle.model.proofs.ArmAnswers.{perform-meets}
 use Rattle.model.proofs.ArmReplies.{three-replies}
@@ -72,12 +72,12 @@ module _ (w : Windows) (c : State) (op x y z : ℕ) (n : Sized c) (a : admissibl
   no-twenty =
       rw (step-three w c op x y z a u)
       (perform-meets w c Any (λ r t vs. r ≢ 20) (λ o. o .reply ≢ 20) (λ e. omega arith) (λ r t a vs h. h) (λ a n. tt) (fromThree c (armOf op) op x y z)
-      (three-replies (λ r. r ≢ 20) (λ e. omega arith) (λ n p q e. omega arith) (λ n p e. omega arith) (λ e. omega arith) c (armOf op) op x y z
+      (three-replies (λ r. r ≢ 20) (λ e. omega arith) (λ n p q e. omega arith) (λ n p e. unhalting n (inr (omega arith, omega arith)) p) (λ e. omega arith) c (armOf op) op x y z
       (λ m. absurd (no-trap op b k m))))
 
   -- an instruction that claims, and is refused, leaves its registers
   registers-left : o .reply ≢ 0 → o .reply ≢ 19 → withParts (o .state) (c .general) (c .special) ≡ o .state
-  registers-left p q = ⊎-elim low (λ e. same (l .early (inr e) .0)) (l .most)
+  registers-left p q = ⊎-elim low (⊎-elim (λ e. same (l .early (inr e) .0)) (λ e. halts (l .halting (inr e) .0))) (l .most)
     where
       same : o .state ≡ c → withParts (o .state) (c .general) (c .special) ≡ o .state
       same e = rw e
@@ -89,7 +89,7 @@ module _ (w : Windows) (c : State) (op x y z : ℕ) (n : Sized c) (a : admissibl
       low m =
           ⊎-elim (λ e. same (l .early (inl (let f : o .reply ≡ 0 → ⊥ = p in (omega arith, omega arith))) .0))
           (λ e. ⊎-elim (λ f. same (l .lost (omega arith) .0))
-          (λ f. let g : o .reply ≡ 19 → ⊥ = q in let h : o .reply ≡ 20 → ⊥ = no-twenty in halts (l .halting (omega arith, omega arith) .0))
+          (λ f. let g : o .reply ≡ 19 → ⊥ = q in let h : o .reply ≡ 20 → ⊥ = no-twenty in halts (l .halting (inl (omega arith, omega arith)) .0))
           (lt-or-le (o .reply) 7))
           (lt-or-le (o .reply) 6)
 

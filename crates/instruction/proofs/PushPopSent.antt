@@ -142,12 +142,8 @@ module _ (w : Windows) (s : State) (x yz : ℕ) (q : PopFrame) (t : State) (g : 
   unfolding popNumber popAnswer goal
   pop-done to e =
       let z : popIn w s x .reply ≡ 0 = numbered (Frame to) e in
-      let f : Frame to ≡ cond (noFrame s) NoFrame (Frame (returnTo s yz)) = sym e ∙ g .answer-is ∙ ap (popAnswer s yz) z in
-      done to z (ap (goal (returnTo s yz)) f ∙ on (λ (a : PopFrame). goal (returnTo s yz) a ≡ returnTo s yz) (noFrame s) (λ n. refl) (λ n. refl))
-
-  pub pop-none : (to : ℕ) → q ≡ NoFrame → to ≡ returnTo s yz → Whole (onlyIf (placed s) w s (popFrame s x (returnTo s yz))) reply.Done (goes t to) w
-  unfolding popNumber
-  pop-none to e f = done to (numbered NoFrame e) f
+      let f : Frame to ≡ Frame (returnTo s yz) = sym e ∙ g .answer-is ∙ ap (popAnswer s yz) z in
+      done to z (ap (goal (returnTo s yz)) f)
 
   pub pop-refused : (a : PopFrame) (r : Reply) → q ≡ a → r ≡ replyOf (popNumber a) → eqb (popNumber a) 0 ≡ false → Whole (onlyIf (placed s) w s (popFrame s x (returnTo s yz))) r t w
   pop-refused a r e f n =

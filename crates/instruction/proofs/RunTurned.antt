@@ -76,7 +76,7 @@ module _ (grant : ℕ) (r : Stopped State Windows) (i : ℕ) (w : Windows) (s : 
     number : q ≡ fetchedOf w s .reply
     number =
         h .reply-is
-        ∙ run-number (fetchedOf w s .reply) (⊎-elim (λ m. inl m) (⊎-elim (λ m. inr (inl m)) (λ m. inr (inr (inl m)))) (replies-leave .by-fetched w s (k .sized) .most))
+        ∙ run-number (fetchedOf w s .reply) (⊎-elim (λ m. inl m) (⊎-elim (λ m. inr (inl m)) (⊎-elim (λ m. inr (inr (inl m))) (λ m. inr (inr (inr (inr m)))))) (replies-leave .by-fetched w s (k .sized) .most))
 
     pub next-shapes : shapesOf v ≡ shapesOf w
     next-shapes = ap shapesOf (h .window-is) ∙ fetched-shapes w s

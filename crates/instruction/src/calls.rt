@@ -6,7 +6,6 @@ ghost use Rattle.instruction.specs.StepAnswer.{Whole};
 ghost use Rattle.instruction.specs.Arms.{callTo, returnOf};
 use model::Bases;
 use model::Reply;
-use model::State;
 use stack::frame::PopFrame;
 
 /// A call of `target` with the hole that x makes.
@@ -54,19 +53,14 @@ pub fn pop_to(
         (made (now (general .entry)) (now (special .entry)) (now (pc .entry)) (now (halt .entry)) marks) x y z)
         r (made (now (general .exit)) (now (special .exit)) (now (pc .exit)) (now (halt .exit)) marks) (lent at (now (a .entry)) (now (b .entry)))) ⌝ }
 {
-    let rj = special[State::RJ];
     let yz = 256 * (y as u16) + z as u16;
-    let target = stack::pass::wrapping_add(rj, 4 * (yz as u64));
     let found = stack::frame::pop_frame(general, special, halt, a, b, at, x, yz);
     match found {
         PopFrame::Frame(to) => {
             *pc = to;
             Reply::Done
         }
-        PopFrame::NoFrame => {
-            *pc = target;
-            Reply::Done
-        }
+        PopFrame::NoFrame => Reply::NoFrame,
         PopFrame::Rejected => Reply::Misplaced,
         PopFrame::Missing => Reply::Missing,
         PopFrame::NotAdmissible => Reply::NotAdmissible,

@@ -6,27 +6,15 @@ use Rattle.model.specs.Control.{yzOf}
 use Rattle.model.specs.Numbers.{replyOf}
 use Rattle.model.specs.Parts.{made, lent}
 use Rattle.stack.specs.PushPop.{popNumber}
-use Rattle.instruction.proofs.PushPopSent.{pop-done, pop-none, pop-refused}
+use Rattle.instruction.proofs.PushPopSent.{pop-done, pop-refused}
 use Rattle.instruction.proofs.calls.pop_to.Statement.{statement}
 use Rattle.instruction.proofs.calls.pop_to.Tie as tie
-
-element-copy-out-rj : tie.Need-element-copy-out-rj
-element-copy-out-rj c = search needs
 
 mul-yz : tie.Need-mul-yz
 mul-yz c = search needs
 
 add-yz : tie.Need-add-yz
 add-yz c = search needs
-
-cast-wrapping-add : tie.Need-cast-wrapping-add
-cast-wrapping-add c = search needs
-
-mul-wrapping-add : tie.Need-mul-wrapping-add
-mul-wrapping-add c = search needs
-
-wrapping-add-requires : tie.Need-wrapping-add-requires
-wrapping-add-requires c κs = search needs
 
 pop-frame-requires : tie.Need-pop-frame-requires
 pop-frame-requires c κs = search needs
@@ -57,23 +45,23 @@ unfolding goes
 returns c =
     λ marks.
     let told = c .before .before .before in
-    let a = told .before .before .before .before .before .before .before .before .args in
+    let a = told .before .before .before .before .before .before .args in
     pop-done (lent (a .at) (a .a .now) (a .b .now)) (made (a .general .now) (a .special .now) (a .pc .now) (a .halt .now) marks) (a .x) (yzOf (a .y) (a .z)) _ _ (told .pop-frame .ensures (a .pc .now) marks) _ (c .before .found .given .1)
 
 returns-2 : tie.Need-returns-2
-unfolding goes
+unfolding replyOf popNumber
 returns-2 c =
     λ marks.
     let told = c .before .before in
-    let a = told .before .before .before .before .before .before .before .before .args in
-    pop-none (lent (a .at) (a .a .now) (a .b .now)) (made (a .general .now) (a .special .now) (a .pc .now) (a .halt .now) marks) (a .x) (yzOf (a .y) (a .z)) _ _ (told .pop-frame .ensures (a .pc .now) marks) _ (c .enum-told .given .1) (told .before .before .before .before .wrapping-add .ensures)
+    let a = told .before .before .before .before .before .before .args in
+    pop-refused (lent (a .at) (a .a .now) (a .b .now)) (made (a .general .now) (a .special .now) (a .pc .now) (a .halt .now) marks) (a .x) (yzOf (a .y) (a .z)) _ _ (told .pop-frame .ensures (a .pc .now) marks) _ _ (c .enum-told .given .1) refl refl
 
 returns-3 : tie.Need-returns-3
 unfolding replyOf popNumber
 returns-3 c =
     λ marks.
     let told = c .before .before in
-    let a = told .before .before .before .before .before .before .before .before .args in
+    let a = told .before .before .before .before .before .before .args in
     pop-refused (lent (a .at) (a .a .now) (a .b .now)) (made (a .general .now) (a .special .now) (a .pc .now) (a .halt .now) marks) (a .x) (yzOf (a .y) (a .z)) _ _ (told .pop-frame .ensures (a .pc .now) marks) _ _ (c .enum-told2 .given .1) refl refl
 
 returns-4 : tie.Need-returns-4
@@ -81,7 +69,7 @@ unfolding replyOf popNumber
 returns-4 c =
     λ marks.
     let told = c .before .before in
-    let a = told .before .before .before .before .before .before .before .before .args in
+    let a = told .before .before .before .before .before .before .args in
     pop-refused (lent (a .at) (a .a .now) (a .b .now)) (made (a .general .now) (a .special .now) (a .pc .now) (a .halt .now) marks) (a .x) (yzOf (a .y) (a .z)) _ _ (told .pop-frame .ensures (a .pc .now) marks) _ _ (c .enum-told3 .given .1) refl refl
 
 returns-5 : tie.Need-returns-5
@@ -89,7 +77,7 @@ unfolding replyOf popNumber
 returns-5 c =
     λ marks.
     let told = c .before .before in
-    let a = told .before .before .before .before .before .before .before .before .args in
+    let a = told .before .before .before .before .before .before .args in
     pop-refused (lent (a .at) (a .a .now) (a .b .now)) (made (a .general .now) (a .special .now) (a .pc .now) (a .halt .now) marks) (a .x) (yzOf (a .y) (a .z)) _ _ (told .pop-frame .ensures (a .pc .now) marks) _ _ (c .enum-told4 .given .1) refl refl
 
 returns-6 : tie.Need-returns-6
@@ -97,7 +85,7 @@ unfolding replyOf popNumber
 returns-6 c =
     λ marks.
     let told = c .before .before in
-    let a = told .before .before .before .before .before .before .before .before .args in
+    let a = told .before .before .before .before .before .before .args in
     pop-refused (lent (a .at) (a .a .now) (a .b .now)) (made (a .general .now) (a .special .now) (a .pc .now) (a .halt .now) marks) (a .x) (yzOf (a .y) (a .z)) _ _ (told .pop-frame .ensures (a .pc .now) marks) _ _ (c .enum-told5 .given .1) refl refl
 
 returns-7 : tie.Need-returns-7
@@ -105,19 +93,15 @@ unfolding replyOf popNumber
 returns-7 c =
     λ marks.
     let told = c .before .before in
-    let a = told .before .before .before .before .before .before .before .before .args in
+    let a = told .before .before .before .before .before .before .args in
     pop-refused (lent (a .at) (a .a .now) (a .b .now)) (made (a .general .now) (a .special .now) (a .pc .now) (a .halt .now) marks) (a .x) (yzOf (a .y) (a .z)) _ _ (told .pop-frame .ensures (a .pc .now) marks) _ _ (c .enum-told6 .given .1) refl refl
 
 pub pop-to-spec : {M : Type 1} → statement M
 pop-to-spec =
     tie.close
     (tie.spec
-    element-copy-out-rj
     mul-yz
     add-yz
-    cast-wrapping-add
-    mul-wrapping-add
-    wrapping-add-requires
     pop-frame-requires
     enum-known-found
     enum-told
