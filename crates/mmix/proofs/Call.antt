@@ -62,7 +62,7 @@ pub record Left (s : State) (w : Windows) (i : Item) (r : ℕ) (k : Held) (v : W
   pub held-is : HeldIs k (stepOn both mmix s w i .state)
   pub window-is : v ≡ stepOn both mmix s w i .memory
 
-pub few : (n : ℕ) → (n ≡ 0) ⊎ ((n ≡ 1) ⊎ (n ≡ 19)) → (n ≤ 20) ⊎ (n ≡ 22)
+pub few : (n : ℕ) → (n ≡ 0) ⊎ ((n ≡ 1) ⊎ (n ≡ 19)) → (n ≤ 20) ⊎ ((n ≡ 22) ⊎ (n ≡ 29))
 few n (inl e) = inl (omega arith)
 few n (inr (inl e)) = inl (omega arith)
 few n (inr (inr e)) = inl (omega arith)

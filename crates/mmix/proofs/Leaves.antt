@@ -16,11 +16,11 @@ use Rattle.model.specs.Registers.{Sized}
 use Rattle.model.specs.Trips.{wordOf}
 use Rattle.model.specs.Field.{fieldOf, answerOf}
 use Rattle.model.specs.Reader.{Part, readContext}
-use Rattle.model.specs.Numbers.{Early}
+use Rattle.model.specs.Numbers.{Early, Halting}
 use Rattle.model.specs.Leaves.{StepLeaves, ExceptionLeaves, ReaderLeaves, FieldLeaves}
 use Rattle.model.proofs.Leaves.{replies-leave}
 use Rattle.model.proofs.Invariants.{items-keep}
-use Rattle.model.proofs.Numbers.{step-number}
+use Rattle.model.proofs.Numbers.{unhalting, step-number}
 use Rattle.model.specs.declared.State.{State}
 use Rattle.model.specs.Kept.{imageLength}
 use Rattle.image.specs.Image.{isImage, imageOf, stateOf}
@@ -50,10 +50,10 @@ module _ (l : List ℕ) (back : imageOf (stateOf l) ≡ l) where
       let zt : Sized (o .state) = items-keep .sized w s (step op x y z) zs in
       let e : r ≡ o .reply = g .reply-is in
       record {
-        most = subst (λ (n : ℕ). (n ≤ 20) ⊎ (n ≡ 22)) (sym e) (k .most);
+        most = subst (λ (n : ℕ). (n ≤ 20) ⊎ ((n ≡ 22) ⊎ (n ≡ 29))) (sym e) (k .most);
         early = λ p. let h = k .early (subst Early e p) in (g .held-is ∙ ap imageOf (h .0) ∙ back, g .window-is ∙ h .1);
         lost = λ p. let h = k .lost (omega (arith, e)) in (g .held-is ∙ ap imageOf (h .0) ∙ back, g .window-is ∙ h .1);
-        halting = λ p. let h = k .halting (omega (arith, e), omega (arith, e)) in (halted-same l back m (o .state) (g .held-is) (h .0), g .window-is ∙ h .1);
+        halting = λ p. let h = k .halting (subst Halting e p) in (halted-same l back m (o .state) (g .held-is) (h .0), g .window-is ∙ h .1);
         nineteen = λ p. not-loaded l back w op x y z o m v zt (g .held-is) (g .window-is) (k .nineteen (sym e ∙ p));
         twenty = λ p. let h = k .twenty (sym e ∙ p) in (trapped-image l back (wordOf op x y z) y z (o .state) m zt (g .held-is) (h .0), g .window-is ∙ h .1);
         shared = λ p. k .shared (sym e ∙ p);
@@ -83,7 +83,7 @@ other-step l w op x y z r m v h g =
       most = inl (omega arith);
       early = λ p. (g .image-is ∙ sym (if-other l h _ _), g .window-is ∙ sym (if-other l h _ _));
       lost = λ p. absurd (omega arith);
-      halting = λ p. absurd (omega arith);
+      halting = λ p. absurd (unhalting r (inl (omega arith)) p);
       nineteen = λ p. absurd (omega arith);
       twenty = λ p. absurd (omega arith);
       shared = λ p. absurd (omega arith);

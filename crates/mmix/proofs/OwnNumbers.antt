@@ -1,6 +1,6 @@
 -- A fetched instruction that passes 1, 2 and 22 is refused by none of them, nor by 25: these are the numbers of a run that is refused whole.
 use mathlib.Core.Path.{_≡_, refl, sym, subst}
-use mathlib.Core.Logic.{_≢_, ⊎-elim}
+use mathlib.Core.Logic.{inl, inr, _≢_, ⊎-elim}
 use mathlib.Core.Bool.{Bool, true, false}
 use Prim.Native.Nat.{ℕ}
 use native.Mathlib.Omega.{arith}
@@ -14,6 +14,7 @@ use Rattle.model.specs.declared.State.{State}
 use Rattle.model.proofs.ItemInvariant.{Any}
 use Rattle.model.proofs.ArmAnswers.{perform-meets}
 use Rattle.model.proofs.ArmReplies.{three-replies}
+use Rattle.model.proofs.Numbers.{unhalting}
 use Rattle.model.proofs.Entry.{performOn, guarded-open}
 use Rattle.model.proofs.Fetched.{passing, claim-admissible, fetched-missing, fetched-claims, fetched-free}
 use Rattle.mmix.specs.Leaves.{OfCall}
@@ -30,7 +31,7 @@ three-own w s op x y z =
     (fromThree s (armOf op) op x y z)
     (three-replies Own (none 0 (λ e. omega arith) (λ e. omega arith) (λ e. omega arith) (λ e. omega arith))
     (λ n a b. none n (λ e. omega arith) (λ e. omega arith) (λ e. omega arith) (λ e. omega arith))
-    (λ n h. none n (λ e. omega arith) (λ e. omega arith) (λ e. omega arith) (λ e. omega arith))
+    (λ n h. none n (λ e. unhalting n (inl (omega arith)) h) (λ e. unhalting n (inl (omega arith)) h) (λ e. unhalting n (inr (omega arith, omega arith)) h) (λ e. unhalting n (inr (omega arith, omega arith)) h))
     (none 19 (λ e. omega arith) (λ e. omega arith) (λ e. omega arith) (λ e. omega arith)) s (armOf op) op x y z
     (λ e. none 20 (λ e. omega arith) (λ e. omega arith) (λ e. omega arith) (λ e. omega arith)))
 

@@ -16,7 +16,7 @@ use Rattle.model.specs.RunMeant.{CallPasses}
 use Rattle.model.specs.Order.{Passes}
 use Rattle.model.specs.Invariants.{Bytes}
 use Rattle.model.specs.Trips.{wordOf}
-use Rattle.model.specs.Numbers.{Early, Missed, numberOf, replyOf}
+use Rattle.model.specs.Numbers.{Early, Missed, Halting, numberOf, replyOf}
 use Rattle.model.specs.Leaves.{TripLeaves, StoreLeaves, ArithmeticLeaves, TetraLeaves, LastLeaves, RunLeaves}
 use Rattle.model.specs.declared.State.{State}
 use Rattle.model.proofs.Bools.{on}
@@ -66,10 +66,10 @@ module _ (l : List ℕ) (back : imageOf (stateOf l) ≡ l) (words : Words (state
   tetra-leaves : (w : Windows) (t : ℕ) (o : Outcome State Windows) (r : ℕ) (m : List ℕ) (v : Windows) → TetraLeaves w found (claimedAt w found) t o → Sized (o .state)
       → r ≡ o .reply → m ≡ imageOf (o .state) → v ≡ o .memory → TetraCallLeaves l w t r m v
   tetra-leaves w t o r m v k zt e em ev = record {
-    most = subst (λ (n : ℕ). (n ≤ 20) ⊎ ((n ≡ 22) ⊎ (n ≡ 24))) (sym e) (k .most);
+    most = subst (λ (n : ℕ). (n ≤ 20) ⊎ ((n ≡ 22) ⊎ ((n ≡ 24) ⊎ (n ≡ 29)))) (sym e) (k .most);
     early = λ p. let h = k .early (subst Early e p) in (em ∙ ap imageOf (h .0) ∙ back, ev ∙ h .1);
     missed = λ p. let h = k .missed (subst Missed e p) in (em ∙ ap imageOf (h .0) ∙ back, ev ∙ h .1);
-    halting = λ p. let h = k .halting (omega (arith, e), omega (arith, e)) in (halted-same l back m (o .state) em (h .0), ev ∙ h .1);
+    halting = λ p. let h = k .halting (subst Halting e p) in (halted-same l back m (o .state) em (h .0), ev ∙ h .1);
     nineteen = λ p. claimed-loaded w (opcodeIn t) (xIn t) (yIn t) (zIn t) (claimedAt w found) o m v
         (claimed-held found (opcodeIn (tetraOf w found)) (xIn (tetraOf w found)) (round-trips .state-sized l) words admitted) zt em ev (k .nineteen (sym e ∙ p));
     twenty = λ p. let h = k .twenty (sym e ∙ p) in (trapped-image l back (wordOf (opcodeIn t) (xIn t) (yIn t) (zIn t)) (yIn t) (zIn t) (o .state) m zt em (h .0), ev ∙ h .1);
@@ -145,7 +145,7 @@ module _ (l : List ℕ) (n : length l ≡ imageLength) (b : (i : ℕ) → getD l
       let c : Counted s w grant r d = state-counted s w grant r d (stop .state) v (range .sized) (e .0) in
       let k : RunLeaves w s grant stop = replies-leave .by-run w s grant (range .sized) in
       record {
-        most = subst (λ (q : ℕ). (q ≤ 20) ⊎ ((q ≡ 22) ⊎ ((q ≡ 24) ⊎ (q ≡ 25)))) (sym (c .reply-is)) (k .most);
+        most = subst (λ (q : ℕ). (q ≤ 20) ⊎ ((q ≡ 22) ⊎ ((q ≡ 24) ⊎ ((q ≡ 25) ⊎ (q ≡ 29))))) (sym (c .reply-is)) (k .most);
         whole = λ f. let h = unpassed (f n) in (subst OfCall (sym (c .reply-is)) (h .0), c .count-is ∙ h .1 .0, e .1 ∙ ap imageOf (h .1 .1) ∙ back, e .0 .window-is ∙ h .1 .2);
         whole-by = λ f. let h = as-found (subst OfCall (c .reply-is) f) in (c .count-is ∙ h .0, e .1 ∙ ap imageOf (h .1) ∙ back, e .0 .window-is ∙ h .2);
         refused = λ _ p f. last-leaves r d m v (c .reply-is) (c .count-is) (e .1) (e .0 .window-is) p f;

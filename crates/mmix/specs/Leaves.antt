@@ -91,11 +91,11 @@ NotLoadedLeaves l w op x y z m v = TripCallLeaves l w op x y z m v ⊎ (StoreCal
 
 -- what mmix_step leaves
 pub record StepCallLeaves (l : List ℕ) (w : Windows) (op x y z r : ℕ) (m : List ℕ) (v : Windows) : Type 0 where
-  pub most : (r ≤ 20) ⊎ (r ≡ 22)
+  pub most : (r ≤ 20) ⊎ ((r ≡ 22) ⊎ (r ≡ 29))
   -- 1 to 6 and 22
   pub early : Early r → (m ≡ l) × (v ≡ w)
   pub lost : Lost r → (m ≡ l) × (v ≡ w)
-  -- 7 to 18
+  -- 7 to 18 and 29
   pub halting : Halting r → (m ≡ replaced l ((atHalt, 1) ∷ [])) × (v ≡ w)
   pub nineteen : r ≡ 19 → NotLoadedLeaves l w op x y z m v
   pub twenty : r ≡ 20 → (m ≡ replaced l (trapOctas (stateOf l) (wordOf op x y z) (reg (stateOf l) y) (reg (stateOf l) z))) × (v ≡ w)
@@ -111,11 +111,11 @@ claimedImage w l = imageOf (claimedAt w (stateOf l))
 
 -- what the last instruction of a run leaves, t its tetra, l and w the image and the windows that it found
 pub record TetraCallLeaves (l : List ℕ) (w : Windows) (t r : ℕ) (m : List ℕ) (v : Windows) : Type 0 where
-  pub most : (r ≤ 20) ⊎ ((r ≡ 22) ⊎ (r ≡ 24))
+  pub most : (r ≤ 20) ⊎ ((r ≡ 22) ⊎ ((r ≡ 24) ⊎ (r ≡ 29)))
   -- 1 to 5 and 22; 6 and 24: the halt code too
   pub early : Early r → (m ≡ l) × (v ≡ w)
   pub missed : Missed r → (m ≡ l) × (v ≡ w)
-  -- 7 to 18: the claim is taken back
+  -- 7 to 18 and 29: the claim is taken back
   pub halting : Halting r → (m ≡ replaced l ((atHalt, 1) ∷ [])) × (v ≡ w)
   -- 19 keeps it
   pub nineteen : r ≡ 19 → NotLoadedLeaves (claimedImage w l) w (opcodeIn t) (xIn t) (yIn t) (zIn t) m v
@@ -140,7 +140,7 @@ OfCall r = (r ≡ 1) ⊎ ((r ≡ 2) ⊎ ((r ≡ 22) ⊎ (r ≡ 25)))
 
 -- what mmix_run leaves
 pub record RunCallLeaves (l : List ℕ) (w : Windows) (grant r n : ℕ) (m : List ℕ) (v : Windows) : Type 0 where
-  pub most : (r ≤ 20) ⊎ ((r ≡ 22) ⊎ ((r ≡ 24) ⊎ (r ≡ 25)))
+  pub most : (r ≤ 20) ⊎ ((r ≡ 22) ⊎ ((r ≡ 24) ⊎ ((r ≡ 25) ⊎ (r ≡ 29))))
   -- refused whole: by the image's length, 1, 2, 22 or 25; and these numbers alone say so, since no instruction that is fetched on the way has one of them
   pub whole : (length l ≡ imageLength → CallPasses w (stateOf l) grant → ⊥) → OfCall r × (n ≡ 0) × (m ≡ l) × (v ≡ w)
   pub whole-by : OfCall r → (n ≡ 0) × (m ≡ l) × (v ≡ w)

@@ -1,4 +1,4 @@
-//! The C library: what a relay host calls, on numbers and byte slices. 0 is done; 1 to 28 are the refusals.
+//! The C library: what a relay host calls, on numbers and byte slices. 0 is done; 1 to 29 are the refusals.
 
 ghost use Rattle.model.specs.Control.{branchFields, jumpFields};
 ghost use Rattle.model.specs.Field.{fieldOf, answerOf};
