@@ -10,7 +10,7 @@ use crate::state::*;
 
 type Test = fn(&Met) -> bool;
 
-pub const SITUATIONS: [(&str, Test); 106] = [
+pub const SITUATIONS: [(&str, Test); 107] = [
     ("branch taken", |m| m.branch(true)),
     ("branch not taken", |m| m.branch(false)),
     ("claim of $rL", |m| m.claims(m.before(RL))),

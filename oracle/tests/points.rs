@@ -49,8 +49,8 @@ fn p4_call_with_a_global_hole() {
 fn p5_p6_return_without_a_frame() {
     let mut case = start();
     case.state.special[RJ] = 0x100;
-    assert_eq!(step(&mut case, POP, 0, 0, 3).reply, 0);
-    assert_eq!(case.state.pc, 0x10C);
+    let refused = step(&mut case, POP, 0, 0, 3);
+    assert_eq!((refused.reply, refused.state.pc, refused.state.halt), (29, 0, 1));
     for ro in [0x6000_0000_0000_0001, 0x8000_0000_0000_0000] {
         let mut case = start();
         case.state.special[RO] = ro;

@@ -33,10 +33,10 @@ impl Outcome {
         Self { reply: 0, state, stores: Vec::new(), needs: Vec::new() }
     }
 
-    /// Numbers 1 to 6, 22 and 24 change nothing, 7 to 18 set the halt code to 1.
+    /// Numbers 1 to 6, 22 and 24 change nothing, 7 to 18 and 29 set the halt code to 1.
     fn refused(reply: u64, state: &State) -> Self {
         let mut state = state.clone();
-        if (7..=18).contains(&reply) {
+        if matches!(reply, 7..=18 | 29) {
             state.halt = 1;
         }
         Self { reply, state, stores: Vec::new(), needs: Vec::new() }
