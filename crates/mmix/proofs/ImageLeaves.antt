@@ -31,7 +31,7 @@ module _ (l : List ℕ) (back : imageOf (stateOf l) ≡ l) where
   pub halt-same : (m : List ℕ) (t : State) → m ≡ imageOf t → Sized t → t .halt ≡ s .halt → haltBytes m ≡ haltBytes l
   halt-same m t e zt h = ap haltBytes e ∙ halt-bytes t zt ∙ ap bytesOf h ∙ sym (halt-bytes s zs) ∙ ap haltBytes back
 
-  -- 7 to 18
+  -- 7 to 18 and 29
   pub halted-same : (m : List ℕ) (t : State) → m ≡ imageOf t → t ≡ halted s → m ≡ replaced l ((atHalt, 1) ∷ [])
   unfolding replaced
   halted-same m t e h = e ∙ ap imageOf h ∙ halted-image s zs ∙ ap (λ (c : List ℕ). written c (8 * atHalt) (bytesOf 1)) back
