@@ -126,7 +126,7 @@ fn begin(random: &mut Random, count: usize) -> (Ledger, Vec<Vec<u8>>) {
         store[name * ROOM_LEN + IMAGE_LEN + 8 * 4..][..8].fill(0);
     }
     let stores = vec![store.clone(); count];
-    (Ledger { store, names: vec![Kept::Nothing; POINTS as usize] }, stores)
+    (Ledger { store, names: (0..POINTS).map(|_| Kept::Nothing).collect() }, stores)
 }
 
 /// One history on each subject; what differs.
