@@ -8,7 +8,7 @@ use lib.Dec.{eqb}
 use borrow.Author.Tests.{eqb-true}
 use Rattle.model.specs.Numbers.{Halting, numberOf, replyOf, Numbered}
 use Rattle.model.specs.declared.Reply.{Reply}
-use Rattle.model.specs.declared.Reply.the-variants.{Done, NotAdmissible, WindowRule, NoArm, NamedTrap, NoSpecial, Missing, PutUnknown, PutPrivileged, PutIllegal, PutThreshold, PutStatus, Misplaced, SaveLocal, SavedThreshold, SavedStatus, SavedCount, SyncPrivileged, SyncIllegal, NotLoaded, Trapped, OutOfReach, Shared, Across, NotFetched, GrantTooLarge, StoreTooShort, NoPoint, OtherPoint, NoFrame}
+use Rattle.model.specs.declared.Reply.the-variants.{Done, NotAdmissible, WindowRule, NoArm, NamedTrap, NoSpecial, Missing, PutUnknown, PutPrivileged, PutIllegal, PutThreshold, PutStatus, Misplaced, SaveLocal, SavedThreshold, SavedStatus, SavedCount, SyncPrivileged, SyncIllegal, NotLoaded, Trapped, OutOfReach, Shared, Across, NotFetched, GrantTooLarge, StoreTooShort, NoPoint, OtherPoint, NoFrame, TooManyPairs}
 use Rattle.model.proofs.Bools.{each, at-each}
 
 there : (r : Reply) → replyOf (numberOf r) ≡ r
@@ -43,13 +43,14 @@ there StoreTooShort = refl
 there NoPoint = refl
 there OtherPoint = refl
 there NoFrame = refl
+there TooManyPairs = refl
 
-all : each 30 (λ n. eqb (numberOf (replyOf n)) n) ≡ true
+all : each 31 (λ n. eqb (numberOf (replyOf n)) n) ≡ true
 unfolding each numberOf replyOf
 all = refl
 
 pub numbered : Numbered
-numbered = record { reply-number = there; number-reply = λ n l. eqb-true (numberOf (replyOf n)) n (at-each 30 (λ k. eqb (numberOf (replyOf k)) k) all n (omega arith)) }
+numbered = record { reply-number = there; number-reply = λ n l. eqb-true (numberOf (replyOf n)) n (at-each 31 (λ k. eqb (numberOf (replyOf k)) k) all n (omega arith)) }
 
 -- 7 to 18 and 29 alone halt
 pub unhalting : (n : ℕ) → (n ≤ 6) ⊎ ((19 ≤ n) × (n ≤ 28)) → Halting n → ⊥

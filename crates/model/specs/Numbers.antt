@@ -5,11 +5,11 @@ use mathlib.Core.Logic.{_⊎_}
 use mathlib.Core.List.{[], _∷_}
 use lib.ListN.{getD}
 use Rattle.model.specs.declared.Reply.{Reply}
-use Rattle.model.specs.declared.Reply.the-variants.{Done, NotAdmissible, WindowRule, NoArm, NamedTrap, NoSpecial, Missing, PutUnknown, PutPrivileged, PutIllegal, PutThreshold, PutStatus, Misplaced, SaveLocal, SavedThreshold, SavedStatus, SavedCount, SyncPrivileged, SyncIllegal, NotLoaded, Trapped, OutOfReach, Shared, Across, NotFetched, GrantTooLarge, StoreTooShort, NoPoint, OtherPoint, NoFrame}
+use Rattle.model.specs.declared.Reply.the-variants.{Done, NotAdmissible, WindowRule, NoArm, NamedTrap, NoSpecial, Missing, PutUnknown, PutPrivileged, PutIllegal, PutThreshold, PutStatus, Misplaced, SaveLocal, SavedThreshold, SavedStatus, SavedCount, SyncPrivileged, SyncIllegal, NotLoaded, Trapped, OutOfReach, Shared, Across, NotFetched, GrantTooLarge, StoreTooShort, NoPoint, OtherPoint, NoFrame, TooManyPairs}
 
 -- what the numbers leave, by kind: judged before an octabyte is asked for, nothing changes; a needed octabyte that is not there, nothing
 -- changes; "halt code 1 only". 19 and 20 have kinds of their own; 21 and 23 are no step's, and there is no state that they could change;
--- 25 is a run's, which it refuses whole; 26 to 28 are those of points to return to, and leave every byte
+-- 25 is a run's, which it refuses whole; 26 to 28 are those of points to return to and 30 that of a set of pairs, and leave every byte
 abbrev pub Early : ℕ → Type 0
 Early n = ((1 ≤ n) × (n ≤ 5)) ⊎ (n ≡ 22)
 
@@ -54,14 +54,16 @@ numberOf StoreTooShort = 26
 numberOf NoPoint = 27
 numberOf OtherPoint = 28
 numberOf NoFrame = 29
+numberOf TooManyPairs = 30
 
 unfoldable pub replyOf : ℕ → Reply
 replyOf n = getD (Done ∷ NotAdmissible ∷ WindowRule ∷ NoArm ∷ NamedTrap ∷ NoSpecial ∷ Missing
     ∷ PutUnknown ∷ PutPrivileged ∷ PutIllegal ∷ PutThreshold ∷ PutStatus ∷ Misplaced
     ∷ SaveLocal ∷ SavedThreshold ∷ SavedStatus ∷ SavedCount ∷ SyncPrivileged ∷ SyncIllegal ∷ NotLoaded ∷ Trapped
-    ∷ OutOfReach ∷ Shared ∷ Across ∷ NotFetched ∷ GrantTooLarge ∷ StoreTooShort ∷ NoPoint ∷ OtherPoint ∷ NoFrame ∷ []) n Done
+    ∷ OutOfReach ∷ Shared ∷ Across ∷ NotFetched ∷ GrantTooLarge ∷ StoreTooShort ∷ NoPoint ∷ OtherPoint ∷ NoFrame
+    ∷ TooManyPairs ∷ []) n Done
 
--- the two are inverse on 0 to 29
+-- the two are inverse on 0 to 30
 pub record Numbered : Type 0 where
   pub reply-number : (r : Reply) → replyOf (numberOf r) ≡ r
-  pub number-reply : (n : ℕ) → n ≤ 29 → numberOf (replyOf n) ≡ n
+  pub number-reply : (n : ℕ) → n ≤ 30 → numberOf (replyOf n) ≡ n

@@ -64,6 +64,8 @@ pub enum Reply {
     OtherPoint,
     // POP with rO at the stack's start or below it: judged before 12, and sets the halt code to 1.
     NoFrame,
+    // A set of more than 32 pairs of register and value: judged after 1, and leaves everything as it was.
+    TooManyPairs,
 }
 
 /// An octabyte that was read, and which window holds it: 0 for A, 1 for B, 2 for neither.

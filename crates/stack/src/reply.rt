@@ -39,6 +39,7 @@ pub fn number_of(reply: Reply) -> u64
         Reply::NoPoint => 27,
         Reply::OtherPoint => 28,
         Reply::NoFrame => 29,
+        Reply::TooManyPairs => 30,
     }
 }
 

@@ -95,6 +95,9 @@ enum-told-29 c = search needs
 enum-told-30 : tie.Need-enum-told-30
 enum-told-30 c = search needs
 
+enum-told-31 : tie.Need-enum-told-31
+enum-told-31 c = search needs
+
 returns : tie.Need-returns
 unfolding numberOf
 returns c = sym (ap numberOf (c .enum-told .given .1))
@@ -215,6 +218,10 @@ returns-30 : tie.Need-returns-30
 unfolding numberOf
 returns-30 c = sym (ap numberOf (c .enum-told30 .given .1))
 
+returns-31 : tie.Need-returns-31
+unfolding numberOf
+returns-31 c = sym (ap numberOf (c .enum-told31 .given .1))
+
 pub number-of-spec : {M : Type 1} → statement M
 number-of-spec =
     tie.close
@@ -249,6 +256,7 @@ number-of-spec =
     enum-told-28
     enum-told-29
     enum-told-30
+    enum-told-31
     returns
     returns-2
     returns-3
@@ -278,4 +286,5 @@ number-of-spec =
     returns-27
     returns-28
     returns-29
-    returns-30)
+    returns-30
+    returns-31)
