@@ -10,7 +10,7 @@ use borrow.Author.Tests.{eq-eqb, ne-eqb}
 use Rattle.model.specs.Memory.{Windows, shapesOf, putOcta, both}
 use Rattle.model.specs.Plan.{Plan, answer, read, perform, worst, named, look, looks, puts}
 use Rattle.model.specs.Registers.{withParts, reg, admissible, setRegister}
-use Rattle.model.specs.Opcodes.{firstBranch, lastBranch, firstLoad, lastLoad, firstStore, lastStore, firstArithmetic, lastArithmetic, operationOf, firstOf, among, widthOf, signOf, lastOf, load, store, arithmetic, armOf}
+use Rattle.model.specs.Opcodes.{firstBranch, lastBranch, firstLoad, lastLoad, firstStore, lastStore, firstArithmetic, lastArithmetic, opPUT, opPUTI, operationOf, firstOf, among, widthOf, signOf, lastOf, load, store, arithmetic, put, armOf}
 use Rattle.model.specs.Control.{sumOf}
 use Rattle.model.specs.Trips.{wordOf, raised}
 use Rattle.model.specs.LoadStore.{operandIn, merged, extended, fits, loadFrom, flagV, storeSays, storeTo}
@@ -26,10 +26,10 @@ use Rattle.model.proofs.StepByArm.{step-told, step-refused}
 use Rattle.decode.proofs.Groups.{Missed, load-arm, store-arm, arithmetic-arm}
 use Rattle.exceptions.specs.Told.{Told}
 use Rattle.exceptions.proofs.PcAndHalt.{next-is}
-use Rattle.instruction.specs.NoMemoryArms.{arithmeticOf}
+use Rattle.instruction.specs.NoMemoryArms.{arithmeticOf, putOf}
 use Rattle.instruction.specs.StepAnswer.{Whole}
-use Rattle.instruction.specs.Arms.{carriedOut, loadOf, storeOf, rangedOf}
-use Rattle.instruction.proofs.Keys.{keys, no-arm}
+use Rattle.instruction.specs.Arms.{carriedOut, loadOf, storeOf, telling, rangedOf}
+use Rattle.instruction.proofs.Keys.{keys, put-arm, no-arm}
 
 -- ---- one octabyte, read first
 
@@ -95,20 +95,25 @@ module _ (w : Windows) (s : State) (a : admissible s ≡ true) (u : unruledBy (s
   step-store v e h = rw (step-open w s op x y z a u (rw e), e) h
 
   step-arithmetic : (v : Windows) → armOf op ≡ arithmetic (operationOf op) (firstOf op) (lastOf op)
-      → Whole (record { reply = arithmeticOf s op x y z .reply; state = arithmeticOf s op x y z .state; memory = w }) r t v → Whole (stepOf w s op x y z) r t v
+      → Whole (telling w (arithmeticOf s op x y z)) r t v → Whole (stepOf w s op x y z) r t v
   unfolding refusalOf planOf
   step-arithmetic v e h = rw (step-told w s a u op x y z (arithmeticOf s op x y z) (rw e) (rw e)) h
+
+  step-put : (v : Windows) → armOf op ≡ put (lastOf op) → Whole (telling w (putOf s op x z)) r t v → Whole (stepOf w s op x y z) r t v
+  unfolding refusalOf planOf
+  step-put v e h = rw (step-told w s a u op x y z (putOf s op x z) (rw e) (rw e)) h
 
   -- an opcode that is no branch and no key of the choice
   pub ranged-step : (v : Windows) → among firstBranch lastBranch op ≡ false → Missed keys op → Whole (rangedOf w s op x y z) r t v → Whole (stepOf w s op x y z) r t v
   unfolding rangedOf
-  ranged-step v b m = go (among firstLoad lastLoad op) (among firstStore lastStore op) (among firstArithmetic lastArithmetic op) refl refl refl
+  ranged-step v b m = go (among firstLoad lastLoad op) (among firstStore lastStore op) (among firstArithmetic lastArithmetic op) (among opPUT opPUTI op) refl refl refl refl
     where
-      go : (p q k : Bool) → among firstLoad lastLoad op ≡ p → among firstStore lastStore op ≡ q → among firstArithmetic lastArithmetic op ≡ k
+      go : (p q k o : Bool) → among firstLoad lastLoad op ≡ p → among firstStore lastStore op ≡ q → among firstArithmetic lastArithmetic op ≡ k → among opPUT opPUTI op ≡ o
           → Whole (cond p (loadOf w s op x y z) (cond q (storeOf w s op x y z)
-          (cond k (record { reply = arithmeticOf s op x y z .reply; state = arithmeticOf s op x y z .state; memory = w }) (record { reply = 3; state = s; memory = w })))) r t v
+          (cond k (telling w (arithmeticOf s op x y z)) (cond o (telling w (putOf s op x z)) (record { reply = 3; state = s; memory = w }))))) r t v
           → Whole (stepOf w s op x y z) r t v
-      go true q k e f g h = step-load v (load-arm op e) h
-      go false true k e f g h = step-store v (store-arm op f) h
-      go false false true e f g h = step-arithmetic v (arithmetic-arm op g) h
-      go false false false e f g h = rw (step-refused w s a u op x y z 3 (unfold refusalOf in (rw (no-arm op b e f g m))) (omega arith)) h
+      go true q k o e f g d h = step-load v (load-arm op e) h
+      go false true k o e f g d h = step-store v (store-arm op f) h
+      go false false true o e f g d h = step-arithmetic v (arithmetic-arm op g) h
+      go false false false true e f g d h = step-put v (put-arm op d) h
+      go false false false false e f g d h = rw (step-refused w s a u op x y z 3 (unfold refusalOf in (rw (no-arm op b e f g d m))) (omega arith)) h

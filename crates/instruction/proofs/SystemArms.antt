@@ -7,12 +7,11 @@ use native.Mathlib.Omega.{arith}
 use lib.Dec.{ltb, eqb}
 use Rattle.model.specs.Registers.{reg, next, admissible}
 use Rattle.model.specs.Memory.{Windows, shapesOf}
-use Rattle.model.specs.Plan.{Outcome}
-use Rattle.model.specs.Opcodes.{put, get, save, unsave, sync, swym, trip, trap, register, immediate, armOf}
+use Rattle.model.specs.Opcodes.{get, save, unsave, sync, swym, trip, trap, armOf}
 use Rattle.model.specs.NoMemory.{Said, say}
 use Rattle.model.specs.Control.{xyzOf}
 use Rattle.model.specs.Contexts.{saveContext, unsaveContext}
-use Rattle.model.specs.System.{putSpecial, got, syncOf}
+use Rattle.model.specs.System.{got, syncOf}
 use Rattle.model.specs.Trips.{wordOf, trapOf}
 use Rattle.model.specs.Step.{isNamed, refusalOf, unruledBy, planOf, stepOf}
 use Rattle.model.specs.declared.State.{State}
@@ -22,14 +21,10 @@ use Rattle.model.proofs.StepByArm.{step-told, step-refused}
 use Rattle.stack.specs.SaveUnsave.{saveIn, unsaveIn}
 use Rattle.exceptions.specs.Told.{Told}
 use Rattle.exceptions.specs.Interrupts.{tripOf, trapStep}
-use Rattle.instruction.specs.NoMemoryArms.{getOf, putOf}
+use Rattle.instruction.specs.NoMemoryArms.{getOf}
 use Rattle.instruction.specs.StepAnswer.{Whole}
-use Rattle.instruction.specs.Arms.{unsaveAt}
+use Rattle.instruction.specs.Arms.{telling, unsaveAt}
 use Rattle.instruction.proofs.ArmSteps.{told-step, plan-step, stack-step}
-
--- what is said, with the windows as they were
-abbrev telling : Windows → Said → Outcome State Windows
-telling w d = record { reply = d .reply; state = d .state; memory = w }
 
 module _ (w : Windows) (s : State) (a : admissible s ≡ true) (v : unruledBy (shapesOf w) ≡ 0) (op x y z : ℕ) where
   get-told : armOf op ≡ get → stepOf w s op x y z ≡ telling w (getOf s x z)
@@ -58,14 +53,6 @@ module _ (w : Windows) (s : State) (a : admissible s ≡ true) (v : unruledBy (s
   trap-step k h = tells (trapStep s op x y z) (trap-told w s a v op x y z k) h
 
   -- the other arms that touch no memory
-  pub put-step : armOf op ≡ put register → Told (putOf s x z) r t → Whole (stepOf w s op x y z) r t w
-  unfolding planOf refusalOf
-  put-step k h = told-step w s a v op x y z r t (put register) k refl (putOf s x z) refl h
-
-  pub puti-step : armOf op ≡ put immediate → Told (putSpecial s x z) r t → Whole (stepOf w s op x y z) r t w
-  unfolding planOf refusalOf
-  puti-step k h = told-step w s a v op x y z r t (put immediate) k refl (putSpecial s x z) refl h
-
   pub sync-step : armOf op ≡ sync → Told (syncOf s (xyzOf x y z)) r t → Whole (stepOf w s op x y z) r t w
   unfolding planOf refusalOf
   sync-step k h = told-step w s a v op x y z r t sync k refl (syncOf s (xyzOf x y z)) refl h

@@ -4,7 +4,8 @@ use mathlib.Core.Bool.{cond}
 use Rattle.model.specs.Memory.{Windows, shapesOf, both}
 use Rattle.model.specs.Plan.{Plan, Outcome, perform}
 use Rattle.model.specs.Registers.{rJ, sp, reg, goes, next, following, setRegister}
-use Rattle.model.specs.Opcodes.{firstLoad, lastLoad, firstStore, lastStore, firstArithmetic, lastArithmetic, widthOf, signOf, lastOf, wayOf, conditionOf, among}
+use Rattle.model.specs.Opcodes.{firstLoad, lastLoad, firstStore, lastStore, firstArithmetic, lastArithmetic, opPUT, opPUTI, widthOf, signOf, lastOf, wayOf, conditionOf, among}
+use Rattle.model.specs.NoMemory.{Said}
 use Rattle.model.specs.Control.{near, far, sumOf, yzOf, holds}
 use Rattle.model.specs.Frames.{hole, pushFrame, popFrame}
 use Rattle.model.specs.Trips.{wordOf}
@@ -13,7 +14,7 @@ use Rattle.model.specs.Step.{refusing}
 use Rattle.model.specs.declared.State.{State}
 use Rattle.stack.specs.GivenBack.{onlyIf, placed}
 use Rattle.stack.specs.SaveUnsave.{unsaveIn}
-use Rattle.instruction.specs.NoMemoryArms.{arithmeticOf}
+use Rattle.instruction.specs.NoMemoryArms.{arithmeticOf, putOf}
 
 -- a branch
 unfoldable pub branchOf : State → ℕ → ℕ → ℕ → ℕ → State
@@ -63,10 +64,15 @@ loadOf w s op x y z = carriedOut w s (loadFrom s (widthOf op) (signOf op) x (sum
 abbrev pub storeOf : Windows → State → ℕ → ℕ → ℕ → ℕ → Outcome State Windows
 storeOf w s op x y z = carriedOut w s (storeTo s (widthOf op) (signOf op) x (sumOf s (lastOf op) y z) (wordOf op x y z))
 
--- the opcodes that come in ranges, the branches apart; 3 for any other
+-- what is said, with the windows as they were
+abbrev pub telling : Windows → Said → Outcome State Windows
+telling w d = record { reply = d .reply; state = d .state; memory = w }
+
+-- the opcodes that come in ranges, the branches apart, PUT and PUTI among them; 3 for any other
 unfoldable pub rangedOf : Windows → State → ℕ → ℕ → ℕ → ℕ → Outcome State Windows
 rangedOf w s op x y z =
     cond (among firstLoad lastLoad op) (loadOf w s op x y z)
     (cond (among firstStore lastStore op) (storeOf w s op x y z)
-    (cond (among firstArithmetic lastArithmetic op) (record { reply = arithmeticOf s op x y z .reply; state = arithmeticOf s op x y z .state; memory = w })
-    (record { reply = 3; state = s; memory = w })))
+    (cond (among firstArithmetic lastArithmetic op) (telling w (arithmeticOf s op x y z))
+    (cond (among opPUT opPUTI op) (telling w (putOf s op x z))
+    (record { reply = 3; state = s; memory = w }))))

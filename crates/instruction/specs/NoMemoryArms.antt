@@ -2,7 +2,7 @@
 use Prim.Native.Nat.{ℕ}
 use mathlib.Core.Bool.{cond}
 use lib.Dec.{ltb}
-use Rattle.model.specs.Registers.{reg, next}
+use Rattle.model.specs.Registers.{next}
 use Rattle.model.specs.Opcodes.{operationOf, firstOf, lastOf}
 use Rattle.model.specs.NoMemory.{Said, say}
 use Rattle.model.specs.Control.{operandOf}
@@ -15,9 +15,9 @@ use Rattle.model.specs.declared.State.{State}
 unfoldable pub getOf : State → ℕ → ℕ → Said
 getOf s x z = cond (ltb 31 z) (say 5 s) (say 0 (next (got s x z)))
 
--- PUT of $z
-abbrev pub putOf : State → ℕ → ℕ → Said
-putOf s x z = putSpecial s x (reg s z)
+-- PUT of $z, PUTI of z
+abbrev pub putOf : State → ℕ → ℕ → ℕ → Said
+putOf s op x z = putSpecial s x (operandOf s (lastOf op) z)
 
 -- MUL to SRU
 abbrev pub arithmeticOf : State → ℕ → ℕ → ℕ → ℕ → Said

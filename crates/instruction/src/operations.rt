@@ -25,7 +25,7 @@ fn first(general: &[u64; 256], op: u8, y: u8) -> u64
 }
 
 /// $Z for an even opcode, Z for an odd one.
-fn last(general: &[u64; 256], op: u8, z: u8) -> u64
+pub(crate) fn last(general: &[u64; 256], op: u8, z: u8) -> u64
     ensures { λ r. ⌜ ((special : List ℕ) (pc halt marks : ℕ) → r
         ≡ operandOf (made (now (general .entry)) special pc halt marks) (lastOf op) z) ⌝ }
 {

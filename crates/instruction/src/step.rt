@@ -21,7 +21,8 @@ use decode::opcode;
 use model::Bases;
 use model::Reply;
 
-/// The opcodes that come in ranges, the branches apart: a question for each range, then 3.
+/// The opcodes that come in ranges, the branches apart: a question for each range, then 3. PUT and PUTI are asked for together, so that their arm is called
+/// once and stands in line.
 fn by_range(
     general: &mut [u64; 256],
     special: &mut [u64; 32],
@@ -49,6 +50,9 @@ fn by_range(
     }
     if opcode::is_among(op, opcode::FIRST_ARITHMETIC, opcode::LAST_ARITHMETIC) {
         return operations::compute(general, special, pc, halt, marks, op, x, y, z);
+    }
+    if opcode::is_among(op, opcode::PUT, opcode::PUTI) {
+        return system::put_by(general, special, pc, halt, op, x, z);
     }
     Reply::NoArm
 }
@@ -90,8 +94,6 @@ pub(crate) fn dispatch(
         opcode::PUSHJB => { control::push_jump(general, special, pc, a, b, at, op, x, y, z) }
         opcode::GETA => registers::get_address(general, special, pc, op, x, y, z),
         opcode::GETAB => registers::get_address(general, special, pc, op, x, y, z),
-        opcode::PUT => system::put_register(general, special, pc, halt, x, z),
-        opcode::PUTI => registers::put_value(general, special, pc, halt, x, z as u64),
         opcode::POP => calls::pop_to(general, special, pc, halt, a, b, at, x, y, z),
         opcode::SAVE => contexts::save_to(general, special, pc, halt, marks, a, b, at, x),
         opcode::UNSAVE => { system::unsave_register(general, special, pc, halt, a, b, at, z) }

@@ -9,6 +9,7 @@ ghost use Rattle.instruction.specs.NoMemoryArms.{putOf};
 ghost use Rattle.instruction.specs.StepAnswer.{Whole};
 ghost use Rattle.instruction.specs.Arms.{unsaveAt};
 use super::contexts;
+use super::operations;
 use super::registers;
 use model::Bases;
 use model::Reply;
@@ -23,20 +24,21 @@ pub(crate) fn skip(pc: &mut u64) -> Reply
     Reply::Done
 }
 
-/// PUT: the value is $z.
-pub(crate) fn put_register(
+/// PUT of $z and PUTI of z.
+pub(crate) fn put_by(
     general: &mut [u64; 256],
     special: &mut [u64; 32],
     pc: &mut u64,
     halt: &mut u64,
+    op: u8,
     x: u8,
     z: u8,
 ) -> Reply
     ensures { λ r. ⌜ ((marks : ℕ) → Told
-        (putOf (made (now (general .entry)) (now (special .entry)) (now (pc .entry)) (now (halt .entry)) marks) x z)
+        (putOf (made (now (general .entry)) (now (special .entry)) (now (pc .entry)) (now (halt .entry)) marks) op x z)
         r (made (now (general .exit)) (now (special .exit)) (now (pc .exit)) (now (halt .exit)) marks)) ⌝ }
 {
-    let value = general[z as usize];
+    let value = operations::last(general, op, z);
     registers::put_value(general, special, pc, halt, x, value)
 }
 

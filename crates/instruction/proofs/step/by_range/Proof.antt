@@ -60,12 +60,39 @@ returns-3 c =
     rw (sym (first .before .is-among .ensures) ∙ first .if1 .left, sym (second .before .is-among2 .ensures) ∙ second .if2 .left, sym (then .before .is-among3 .ensures) ∙ then .if3 .taken)
     (record { reply-is = c .compute .ensures .reply-is; state-is = c .compute .ensures .state-is; window-is = refl })
 
+is-among-requires-4 : tie.Need-is-among-requires-4
+is-among-requires-4 c κs = search needs
+
+put-by-requires : tie.Need-put-by-requires
+put-by-requires c κs = search needs
+
 returns-4 : tie.Need-returns-4
-unfolding rangedOf replyOf
+unfolding rangedOf
 returns-4 c =
-    let second = c .before .before in
+    let then = c .before .before .before .before .before in
+    let third = then .before .before in
+    let second = third .before .before in
     let first = second .before .before in
-    rw (sym (first .before .is-among .ensures) ∙ first .if1 .left, sym (second .before .is-among2 .ensures) ∙ second .if2 .left, sym (c .before .is-among3 .ensures) ∙ c .if3 .left) (search needs)
+    rw (
+      sym (first .before .is-among .ensures) ∙ first .if1 .left,
+      sym (second .before .is-among2 .ensures) ∙ second .if2 .left,
+      sym (third .before .is-among3 .ensures) ∙ third .if3 .left,
+      sym (then .before .is-among4 .ensures) ∙ then .if4 .taken,
+    )
+    (let told = c .put-by .ensures (first .before .before .before .before .args .marks) in record { reply-is = told .reply-is; state-is = told .state-is; window-is = refl })
+
+returns-5 : tie.Need-returns-5
+unfolding rangedOf replyOf
+returns-5 c =
+    let third = c .before .before in
+    let second = third .before .before in
+    let first = second .before .before in
+    rw (
+      sym (first .before .is-among .ensures) ∙ first .if1 .left,
+      sym (second .before .is-among2 .ensures) ∙ second .if2 .left,
+      sym (third .before .is-among3 .ensures) ∙ third .if3 .left,
+      sym (c .before .is-among4 .ensures) ∙ c .if4 .left,
+    ) (search needs)
 
 pub by-range-spec : {M : Type 1} → statement M
 by-range-spec =
@@ -84,4 +111,7 @@ by-range-spec =
     is-among-requires-3
     compute-requires
     returns-3
-    returns-4)
+    is-among-requires-4
+    put-by-requires
+    returns-4
+    returns-5)

@@ -5,7 +5,7 @@ use Rattle.model.specs.Opcodes.{armOf}
 use Rattle.model.specs.Parts.{made}
 use Rattle.decode.proofs.Groups.{branch-arm}
 use Rattle.instruction.proofs.ControlArms.{step-branch, step-go, step-push-go, step-jump, step-push-jump, step-get-address, step-pop}
-use Rattle.instruction.proofs.SystemArms.{trap-step, put-step, puti-step, save-step, unsave-step, sync-step, swym-step, get-step, trip-step}
+use Rattle.instruction.proofs.SystemArms.{trap-step, save-step, unsave-step, sync-step, swym-step, get-step, trip-step}
 use Rattle.instruction.proofs.LoadStoreArms.{ranged-step}
 use Rattle.instruction.proofs.step.dispatch.Statement.{statement}
 use Rattle.instruction.proofs.step.dispatch.Tie as tie
@@ -54,12 +54,6 @@ get-address-requires c κs = search needs
 
 get-address-requires-2 : tie.Need-get-address-requires-2
 get-address-requires-2 c κs = search needs
-
-put-register-requires : tie.Need-put-register-requires
-put-register-requires c κs = search needs
-
-put-value-requires : tie.Need-put-value-requires
-put-value-requires c κs = search needs
 
 pop-to-requires : tie.Need-pop-to-requires
 pop-to-requires c κs = search needs
@@ -186,32 +180,18 @@ returns-12 c =
     let start = key .before .before .before .before .before in
     step-get-address _ _ (start .pre .0) (start .pre .1) _ _ _ _ _ (made _ _ _ _ _) (rw (key .match .keys11)) (c .get-address2 .ensures _ _)
 
-returns-13 : tie.Need-returns-13
-unfolding armOf
-returns-13 c =
-    let key = c .before .before .before .before .before in
-    let start = key .before .before .before .before .before in
-    put-step _ _ (start .pre .0) (start .pre .1) _ _ _ _ _ (made _ _ _ _ _) (rw (key .match .keys12)) (c .put-register .ensures _)
-
-returns-14 : tie.Need-returns-14
-unfolding armOf
-returns-14 c =
-    let key = c .before .before .before .before .before in
-    let start = key .before .before .before .before .before in
-    puti-step _ _ (start .pre .0) (start .pre .1) _ _ _ _ _ (made _ _ _ _ _) (rw (key .match .keys13)) (c .put-value .ensures _)
-
 same-length-9 : tie.Need-same-length-9
 same-length-9 c = search needs
 
 same-length-10 : tie.Need-same-length-10
 same-length-10 c = search needs
 
-returns-15 : tie.Need-returns-15
+returns-13 : tie.Need-returns-13
 unfolding armOf
-returns-15 c =
+returns-13 c =
     let key = c .before .before .before .before .before .before .before in
     let start = key .before .before .before .before .before in
-    step-pop _ _ (start .pre .0) (start .pre .1) _ _ _ _ _ (made _ _ _ _ _) _ (rw (key .match .keys14)) (c .pop-to .ensures _)
+    step-pop _ _ (start .pre .0) (start .pre .1) _ _ _ _ _ (made _ _ _ _ _) _ (rw (key .match .keys12)) (c .pop-to .ensures _)
 
 same-length-11 : tie.Need-same-length-11
 same-length-11 c = search needs
@@ -219,12 +199,12 @@ same-length-11 c = search needs
 same-length-12 : tie.Need-same-length-12
 same-length-12 c = search needs
 
-returns-16 : tie.Need-returns-16
+returns-14 : tie.Need-returns-14
 unfolding armOf
-returns-16 c =
+returns-14 c =
     let key = c .before .before .before .before .before .before .before .before .before .before .before in
     let start = key .before .before .before .before .before in
-    save-step _ _ (start .pre .0) (start .pre .1) _ _ _ _ _ (made _ _ _ _ _) _ (rw (key .match .keys15)) (c .before .before .before .before .save-to .ensures)
+    save-step _ _ (start .pre .0) (start .pre .1) _ _ _ _ _ (made _ _ _ _ _) _ (rw (key .match .keys13)) (c .before .before .before .before .save-to .ensures)
 
 same-length-13 : tie.Need-same-length-13
 same-length-13 c = search needs
@@ -232,40 +212,40 @@ same-length-13 c = search needs
 same-length-14 : tie.Need-same-length-14
 same-length-14 c = search needs
 
+returns-15 : tie.Need-returns-15
+unfolding armOf
+returns-15 c =
+    let key = c .before .before .before .before .before .before .before in
+    let start = key .before .before .before .before .before in
+    unsave-step _ _ (start .pre .0) (start .pre .1) _ _ _ _ _ (made _ _ _ _ _) (rw (key .match .keys14)) (c .unsave-register .ensures _)
+
+returns-16 : tie.Need-returns-16
+unfolding armOf
+returns-16 c =
+    let key = c .before .before .before in
+    let start = key .before .before .before .before .before in
+    sync-step _ _ (start .pre .0) (start .pre .1) _ _ _ _ _ (made _ _ _ _ _) (rw (key .match .keys15)) (c .synchronize .ensures _ _ _)
+
 returns-17 : tie.Need-returns-17
 unfolding armOf
 returns-17 c =
-    let key = c .before .before .before .before .before .before .before in
+    let key = c .before .before in
     let start = key .before .before .before .before .before in
-    unsave-step _ _ (start .pre .0) (start .pre .1) _ _ _ _ _ (made _ _ _ _ _) (rw (key .match .keys16)) (c .unsave-register .ensures _)
+    swym-step _ _ (start .pre .0) (start .pre .1) _ _ _ _ _ (made _ _ _ _ _) (rw (key .match .keys16)) (c .skip .ensures _ _ _ _)
 
 returns-18 : tie.Need-returns-18
 unfolding armOf
 returns-18 c =
-    let key = c .before .before .before in
+    let key = c .before .before .before .before in
     let start = key .before .before .before .before .before in
-    sync-step _ _ (start .pre .0) (start .pre .1) _ _ _ _ _ (made _ _ _ _ _) (rw (key .match .keys17)) (c .synchronize .ensures _ _ _)
+    get-step _ _ (start .pre .0) (start .pre .1) _ _ _ _ _ (made _ _ _ _ _) (rw (key .match .keys17)) (c .get-special .ensures _ _)
 
 returns-19 : tie.Need-returns-19
 unfolding armOf
 returns-19 c =
-    let key = c .before .before in
-    let start = key .before .before .before .before .before in
-    swym-step _ _ (start .pre .0) (start .pre .1) _ _ _ _ _ (made _ _ _ _ _) (rw (key .match .keys18)) (c .skip .ensures _ _ _ _)
-
-returns-20 : tie.Need-returns-20
-unfolding armOf
-returns-20 c =
-    let key = c .before .before .before .before in
-    let start = key .before .before .before .before .before in
-    get-step _ _ (start .pre .0) (start .pre .1) _ _ _ _ _ (made _ _ _ _ _) (rw (key .match .keys19)) (c .get-special .ensures _ _)
-
-returns-21 : tie.Need-returns-21
-unfolding armOf
-returns-21 c =
     let key = c .before .before .before .before .before in
     let start = key .before .before .before .before .before in
-    trip-step _ _ (start .pre .0) (start .pre .1) _ _ _ _ _ (made _ _ _ _ _) (rw (key .match .keys20)) (c .trip-arm .ensures)
+    trip-step _ _ (start .pre .0) (start .pre .1) _ _ _ _ _ (made _ _ _ _ _) (rw (key .match .keys18)) (c .trip-arm .ensures)
 
 same-length-15 : tie.Need-same-length-15
 same-length-15 c = search needs
@@ -273,8 +253,8 @@ same-length-15 c = search needs
 same-length-16 : tie.Need-same-length-16
 same-length-16 c = search needs
 
-returns-22 : tie.Need-returns-22
-returns-22 c =
+returns-20 : tie.Need-returns-20
+returns-20 c =
     let call = c .before .before .before .before in
     let rest = call .before .before .before .before .before .before .before in
     let else = rest .before in
@@ -282,4 +262,4 @@ returns-22 c =
     ranged-step _ _ (start .pre .0) (start .pre .1) _ _ _ _ _ (made _ _ _ _ _) _ (sym (else .before .is-among .ensures) ∙ else .if1 .left) (rest .match .rest) (call .by-range .ensures)
 
 pub dispatch-spec : {M : Type 1} → statement M
-dispatch-spec = tie.close (tie.spec is-among-requires branch-requires returns trap-arm-requires go-by-requires go-by-requires-2 push-go-requires push-go-requires-2 jump-requires jump-requires-2 push-jump-requires push-jump-requires-2 get-address-requires get-address-requires-2 put-register-requires put-value-requires pop-to-requires save-to-requires unsave-register-requires synchronize-requires skip-requires get-special-requires trip-arm-requires by-range-requires returns-2 returns-3 returns-4 same-length same-length-2 returns-5 same-length-3 same-length-4 returns-6 returns-7 returns-8 same-length-5 same-length-6 returns-9 same-length-7 same-length-8 returns-10 returns-11 returns-12 returns-13 returns-14 same-length-9 same-length-10 returns-15 same-length-11 same-length-12 returns-16 same-length-13 same-length-14 returns-17 returns-18 returns-19 returns-20 returns-21 same-length-15 same-length-16 returns-22)
+dispatch-spec = tie.close (tie.spec is-among-requires branch-requires returns trap-arm-requires go-by-requires go-by-requires-2 push-go-requires push-go-requires-2 jump-requires jump-requires-2 push-jump-requires push-jump-requires-2 get-address-requires get-address-requires-2 pop-to-requires save-to-requires unsave-register-requires synchronize-requires skip-requires get-special-requires trip-arm-requires by-range-requires returns-2 returns-3 returns-4 same-length same-length-2 returns-5 same-length-3 same-length-4 returns-6 returns-7 returns-8 same-length-5 same-length-6 returns-9 same-length-7 same-length-8 returns-10 returns-11 returns-12 same-length-9 same-length-10 returns-13 same-length-11 same-length-12 returns-14 same-length-13 same-length-14 returns-15 returns-16 returns-17 returns-18 returns-19 same-length-15 same-length-16 returns-20)
