@@ -276,6 +276,12 @@ module _ (w : Shapes) (x : ℕ) where
       let c : i + (n - i) ≡ n = omega arith in
       rw c at (passes i k (n - i) p h e q z m (omega arith))
 
+  -- B has them all
+  pub within-b : (n k : ℕ) → x < 2 ^ 64 → w .b .size < 2 ^ 64 → k ≡ roomIn (w .b) x → 8 * k < 2 ^ 64 → n ≤ k → worst (refusing w) x n ≡ 0
+  unfolding worst
+  within-b zero k b s e f l = refl
+  within-b (suc n) k b s e f l = enough 0 k (suc n) x 1 refl (omega arith) (piece-b w x k s (λ z. omega arith) e f) (λ z. omega arith) (omega arith) (omega arith)
+
 -- ---- 2 and 22
 
 aligned-octa : (a : ℕ) → a < 2 ^ 64 → a % 8 ≡ 0 → octa a ≡ a

@@ -111,8 +111,8 @@ fn next_piece(a: &[u8], b: &[u8], at: Bases, addr: u64) -> Piece
     }
 }
 
-/// The number that refuses the n octabytes from `addr` up: 0 where each lies in a window, else 6.
-pub fn run_refusal(a: &[u8], b: &[u8], at: Bases, addr: u64, n: u64) -> u64
+/// The number that refuses the n octabytes from `addr` up, piece by piece: 0 where each lies in a window, else 6.
+fn pieces_refusal(a: &[u8], b: &[u8], at: Bases, addr: u64, n: u64) -> u64
     ensures { λ r. ⌜ r ≡ worst (refusing (shapesOf (lent at (now (a .entry)) (now (b .entry))))) addr n ⌝ }
 {
     let mut i: u64 = 0;
@@ -129,6 +129,16 @@ pub fn run_refusal(a: &[u8], b: &[u8], at: Bases, addr: u64, n: u64) -> u64
         place = super::number::wrapping_add(place, 8 * next.octas);
     }
     0
+}
+
+/// The same; where B has them all it is asked once.
+pub fn run_refusal(a: &[u8], b: &[u8], at: Bases, addr: u64, n: u64) -> u64
+    ensures { λ r. ⌜ r ≡ worst (refusing (shapesOf (lent at (now (a .entry)) (now (b .entry))))) addr n ⌝ }
+{
+    if n <= super::window::room(b, at.b, addr) {
+        return 0;
+    }
+    pieces_refusal(a, b, at, addr, n)
 }
 
 /// The octabyte that `addr` names, 0 where neither window holds it, and which does.
