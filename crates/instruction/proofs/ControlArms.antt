@@ -16,7 +16,7 @@ use Rattle.stack.specs.GivenBack.{placed}
 use Rattle.stack.proofs.PushPopAnswers.{admissible-placed}
 use Rattle.exceptions.specs.Told.{Told}
 use Rattle.instruction.specs.StepAnswer.{Whole}
-use Rattle.instruction.specs.Arms.{branchOf, jumpOf, addressOf, goOf, callTo, pushGoOf, pushJumpOf, returnOf}
+use Rattle.instruction.specs.Arms.{branchOf, jumpOf, addressOf, goOf, callTo, returnOf}
 use Rattle.instruction.proofs.ArmSteps.{told-step, stack-step}
 
 -- ---- the sum, the branch
@@ -37,11 +37,6 @@ module _ (s : State) (op x y z n : ℕ) (b : Bool) (e : b ≡ holds (conditionOf
   unfolding branchOf
   branch-not h q = ap (goes s) q ∙ sym (ap (λ (t : Bool). cond t (goes s (near s (wayOf op) y z)) (next s)) (sym e ∙ h))
 
--- a call of n is a call of what n is equal to
-pub push-at : (w : Windows) (s : State) (x n m : ℕ) (k : Reply) (t : State) (v : Windows) → n ≡ m
-    → Whole (callTo w s x n) k t v → Whole (callTo w s x m) k t v
-push-at w s x n m k t v e h = rw e at h
-
 -- ---- the step
 
 module _ (w : Windows) (s : State) (a : admissible s ≡ true) (u : unruledBy (shapesOf w) ≡ 0) (op x y z : ℕ) (r : Reply) (t : State) where
@@ -61,13 +56,14 @@ module _ (w : Windows) (s : State) (a : admissible s ≡ true) (u : unruledBy (s
   unfolding refusalOf planOf
   step-get-address k q = told-step w s a u op x y z r t (getAddress (wayOf op)) k refl _ refl q
 
-  pub step-push-go : (v : Windows) → armOf op ≡ pushGo (lastOf op) → Whole (pushGoOf w s op x y z) r t v → Whole (stepOf w s op x y z) r t v
+  -- the two calls, of a target n
+  pub step-push-go : (v : Windows) (n : ℕ) → armOf op ≡ pushGo (lastOf op) → n ≡ sumOf s (lastOf op) y z → Whole (callTo w s x n) r t v → Whole (stepOf w s op x y z) r t v
   unfolding refusalOf planOf
-  step-push-go v k q = stack-step w s a u op x y z r t (pushGo (lastOf op)) k refl (placed s) (admissible-placed s a) _ v refl q
+  step-push-go v n k e q = stack-step w s a u op x y z r t (pushGo (lastOf op)) k refl (placed s) (admissible-placed s a) _ v refl (rw e at q)
 
-  pub step-push-jump : (v : Windows) → armOf op ≡ pushJump (wayOf op) → Whole (pushJumpOf w s op x y z) r t v → Whole (stepOf w s op x y z) r t v
+  pub step-push-jump : (v : Windows) (n : ℕ) → armOf op ≡ pushJump (wayOf op) → n ≡ near s (wayOf op) y z → Whole (callTo w s x n) r t v → Whole (stepOf w s op x y z) r t v
   unfolding refusalOf planOf
-  step-push-jump v k q = stack-step w s a u op x y z r t (pushJump (wayOf op)) k refl (placed s) (admissible-placed s a) _ v refl q
+  step-push-jump v n k e q = stack-step w s a u op x y z r t (pushJump (wayOf op)) k refl (placed s) (admissible-placed s a) _ v refl (rw e at q)
 
   pub step-pop : (v : Windows) → armOf op ≡ pop → Whole (returnOf w s x y z) r t v → Whole (stepOf w s op x y z) r t v
   unfolding refusalOf planOf

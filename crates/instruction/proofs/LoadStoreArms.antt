@@ -28,7 +28,7 @@ use Rattle.exceptions.specs.Told.{Told}
 use Rattle.exceptions.proofs.PcAndHalt.{next-is}
 use Rattle.instruction.specs.NoMemoryArms.{arithmeticOf, putOf}
 use Rattle.instruction.specs.StepAnswer.{Whole}
-use Rattle.instruction.specs.Arms.{carriedOut, loadOf, storeOf, telling, rangedOf}
+use Rattle.instruction.specs.Arms.{NoCall, carriedOut, loadOf, storeOf, telling, rangedOf}
 use Rattle.instruction.proofs.Keys.{keys, put-arm, no-arm}
 
 -- ---- one octabyte, read first
@@ -103,10 +103,10 @@ module _ (w : Windows) (s : State) (a : admissible s ≡ true) (u : unruledBy (s
   unfolding refusalOf planOf
   step-put v e h = rw (step-told w s a u op x y z (putOf s op x z) (rw e) (rw e)) h
 
-  -- an opcode that is no branch and no key of the choice
-  pub ranged-step : (v : Windows) → among firstBranch lastBranch op ≡ false → Missed keys op → Whole (rangedOf w s op x y z) r t v → Whole (stepOf w s op x y z) r t v
+  -- an opcode that is no branch, no call and no key of the choice
+  pub ranged-step : (v : Windows) → among firstBranch lastBranch op ≡ false → NoCall op → Missed keys op → Whole (rangedOf w s op x y z) r t v → Whole (stepOf w s op x y z) r t v
   unfolding rangedOf
-  ranged-step v b m = go (among firstLoad lastLoad op) (among firstStore lastStore op) (among firstArithmetic lastArithmetic op) (among opPUT opPUTI op) refl refl refl refl
+  ranged-step v b n m = go (among firstLoad lastLoad op) (among firstStore lastStore op) (among firstArithmetic lastArithmetic op) (among opPUT opPUTI op) refl refl refl refl
     where
       go : (p q k o : Bool) → among firstLoad lastLoad op ≡ p → among firstStore lastStore op ≡ q → among firstArithmetic lastArithmetic op ≡ k → among opPUT opPUTI op ≡ o
           → Whole (cond p (loadOf w s op x y z) (cond q (storeOf w s op x y z)
@@ -116,4 +116,4 @@ module _ (w : Windows) (s : State) (a : admissible s ≡ true) (u : unruledBy (s
       go false true k o e f g d h = step-store v (store-arm op f) h
       go false false true o e f g d h = step-arithmetic v (arithmetic-arm op g) h
       go false false false true e f g d h = step-put v (put-arm op d) h
-      go false false false false e f g d h = rw (step-refused w s a u op x y z 3 (unfold refusalOf in (rw (no-arm op b e f g d m))) (omega arith)) h
+      go false false false false e f g d h = rw (step-refused w s a u op x y z 3 (unfold refusalOf in (rw (no-arm op b e f g d n m))) (omega arith)) h

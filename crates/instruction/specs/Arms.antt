@@ -1,10 +1,11 @@
 -- What the arms come to that the contracts cite by name: of a state, and of the windows and a state.
 use Prim.Native.Nat.{ℕ, _+_, _*_, _%_, _^_}
+use mathlib.Core.Path.{_≡_}
 use mathlib.Core.Bool.{cond}
 use Rattle.model.specs.Memory.{Windows, shapesOf, both}
 use Rattle.model.specs.Plan.{Plan, Outcome, perform}
 use Rattle.model.specs.Registers.{rJ, sp, reg, goes, next, following, setRegister}
-use Rattle.model.specs.Opcodes.{firstLoad, lastLoad, firstStore, lastStore, firstArithmetic, lastArithmetic, opPUT, opPUTI, widthOf, signOf, lastOf, wayOf, conditionOf, among}
+use Rattle.model.specs.Opcodes.{firstLoad, lastLoad, firstStore, lastStore, firstArithmetic, lastArithmetic, opPUSHGO, opPUSHGOI, opPUSHJ, opPUSHJB, opPUT, opPUTI, widthOf, signOf, lastOf, wayOf, conditionOf, among}
 use Rattle.model.specs.NoMemory.{Said}
 use Rattle.model.specs.Control.{near, far, sumOf, yzOf, holds}
 use Rattle.model.specs.Frames.{hole, pushFrame, popFrame}
@@ -39,13 +40,6 @@ goOf s op x y z = goTo s x (sumOf s (lastOf op) y z)
 abbrev pub callTo : Windows → State → ℕ → ℕ → Outcome State Windows
 callTo w s x target = onlyIf (placed s) w s (pushFrame s (hole s x) target)
 
--- by PUSHGO and by PUSHJ;
-abbrev pub pushGoOf : Windows → State → ℕ → ℕ → ℕ → ℕ → Outcome State Windows
-pushGoOf w s op x y z = callTo w s x (sumOf s (lastOf op) y z)
-
-abbrev pub pushJumpOf : Windows → State → ℕ → ℕ → ℕ → ℕ → Outcome State Windows
-pushJumpOf w s op x y z = callTo w s x (near s (wayOf op) y z)
-
 -- and POP
 abbrev pub returnOf : Windows → State → ℕ → ℕ → ℕ → Outcome State Windows
 returnOf w s x y z = onlyIf (placed s) w s (popFrame s x ((sp s rJ + 4 * yzOf y z) % 2 ^ 64))
@@ -63,6 +57,10 @@ loadOf w s op x y z = carriedOut w s (loadFrom s (widthOf op) (signOf op) x (sum
 
 abbrev pub storeOf : Windows → State → ℕ → ℕ → ℕ → ℕ → Outcome State Windows
 storeOf w s op x y z = carriedOut w s (storeTo s (widthOf op) (signOf op) x (sumOf s (lastOf op) y z) (wordOf op x y z))
+
+-- an opcode that is none of the four calls
+abbrev pub NoCall : ℕ → Type 0
+NoCall op = (op ≡ opPUSHGO → ⊥) × (op ≡ opPUSHGOI → ⊥) × (op ≡ opPUSHJ → ⊥) × (op ≡ opPUSHJB → ⊥)
 
 -- what is said, with the windows as they were
 abbrev pub telling : Windows → Said → Outcome State Windows

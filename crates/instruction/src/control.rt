@@ -5,14 +5,11 @@ ghost use Prim.Native.Nat.{ℕ};
 ghost use Rattle.model.specs.Opcodes.{lastOf};
 ghost use Rattle.model.specs.NoMemory.{say};
 ghost use Rattle.model.specs.Control.{sumOf};
-ghost use Rattle.model.specs.Parts.{made, lent};
+ghost use Rattle.model.specs.Parts.{made};
 ghost use Rattle.exceptions.specs.Told.{Told};
-ghost use Rattle.instruction.specs.StepAnswer.{Whole};
-ghost use Rattle.instruction.specs.Arms.{branchOf, jumpOf, goOf, pushGoOf, pushJumpOf};
-use super::calls;
+ghost use Rattle.instruction.specs.Arms.{branchOf, jumpOf, goOf};
 use super::registers;
 use decode::target;
-use model::Bases;
 use model::Reply;
 
 /// A branch.
@@ -71,48 +68,4 @@ pub(crate) fn go_by(
     let target = sum(general, op, y, z);
     registers::go_to(general, special, pc, x, target);
     Reply::Done
-}
-
-/// PUSHGO and PUSHGOI.
-pub(crate) fn push_go(
-    general: &mut [u64; 256],
-    special: &mut [u64; 32],
-    pc: &mut u64,
-    a: &mut [u8],
-    b: &mut [u8],
-    at: Bases,
-    op: u8,
-    x: u8,
-    y: u8,
-    z: u8,
-) -> Reply
-    ensures { λ r. ⌜ ((halt marks : ℕ) → Whole
-        (pushGoOf (lent at (now (a .entry)) (now (b .entry)))
-        (made (now (general .entry)) (now (special .entry)) (now (pc .entry)) halt marks) op x y z)
-        r (made (now (general .exit)) (now (special .exit)) (now (pc .exit)) halt marks) (lent at (now (a .exit)) (now (b .exit)))) ⌝ }
-{
-    let target = sum(general, op, y, z);
-    calls::push_to(general, special, pc, a, b, at, x, target)
-}
-
-/// PUSHJ and PUSHJB.
-pub(crate) fn push_jump(
-    general: &mut [u64; 256],
-    special: &mut [u64; 32],
-    pc: &mut u64,
-    a: &mut [u8],
-    b: &mut [u8],
-    at: Bases,
-    op: u8,
-    x: u8,
-    y: u8,
-    z: u8,
-) -> Reply
-    ensures { λ r. ⌜ ((halt marks : ℕ) → Whole
-        (pushJumpOf (lent at (now (a .entry)) (now (b .entry)))
-        (made (now (general .entry)) (now (special .entry)) (now (pc .entry)) halt marks) op x y z)
-        r (made (now (general .exit)) (now (special .exit)) (now (pc .exit)) halt marks) (lent at (now (a .exit)) (now (b .exit)))) ⌝ }
-{
-    let target = target::near(*pc, op, y, z);
-    calls::push_to(general, special, pc, a, b, at, x, target)
 }

@@ -1,15 +1,16 @@
 // One step in place: the judging of 1, 2 and 22, then the choice by opcode. The arms are in the other files.
 ghost use mathlib.Core.Path.{_≡_};
-ghost use mathlib.Core.Bool.{true};
+ghost use mathlib.Core.Bool.{true, false};
 ghost use mathlib.Core.List.{List};
 ghost use Prim.Native.Nat.{ℕ, _%_, _≤_};
 ghost use Rattle.model.specs.Memory.{shapesOf};
 ghost use Rattle.model.specs.Registers.{admissible};
+ghost use Rattle.model.specs.Opcodes.{firstBranch, lastBranch, among};
 ghost use Rattle.model.specs.Parts.{made, lent};
 ghost use Rattle.model.specs.Step.{unruledBy, stepOf};
 ghost use Rattle.stack.specs.GivenBack.{refusalOn};
 ghost use Rattle.instruction.specs.StepAnswer.{Whole, Numbered, judged, lentAt};
-ghost use Rattle.instruction.specs.Arms.{rangedOf};
+ghost use Rattle.instruction.specs.Arms.{NoCall, rangedOf};
 use super::calls;
 use super::contexts;
 use super::control;
@@ -18,6 +19,7 @@ use super::operations;
 use super::registers;
 use super::system;
 use decode::opcode;
+use decode::target;
 use model::Bases;
 use model::Reply;
 
@@ -57,7 +59,48 @@ fn by_range(
     Reply::NoArm
 }
 
-/// The arm, or 3, once 1, 2 and 22 have passed. Each opcode of the match is a key by itself, so that the choice is a jump and no chain of tests.
+/// The arm of an opcode that is no branch and no call, or 3. Each opcode of the match is a key by itself, so that the choice is a jump and no chain of tests.
+fn by_key(
+    general: &mut [u64; 256],
+    special: &mut [u64; 32],
+    pc: &mut u64,
+    halt: &mut u64,
+    marks: u64,
+    a: &mut [u8],
+    b: &mut [u8],
+    at: Bases,
+    op: u8,
+    x: u8,
+    y: u8,
+    z: u8,
+) -> Reply
+    requires { ⌜ (admissible (made (now general) (now special) (now pc) (now halt) marks) ≡ true)
+        × (unruledBy (shapesOf (lent at (now a) (now b))) ≡ 0) × (among firstBranch lastBranch op ≡ false) × (NoCall op) ⌝ }
+    ensures { λ r. ⌜ Whole
+        (stepOf (lent at (now (a .entry)) (now (b .entry)))
+        (made (now (general .entry)) (now (special .entry)) (now (pc .entry)) (now (halt .entry)) marks) op x y z)
+        r (made (now (general .exit)) (now (special .exit)) (now (pc .exit)) (now (halt .exit)) marks) (lent at (now (a .exit)) (now (b .exit))) ⌝ }
+{
+    match op {
+        opcode::TRAP => exceptions::trap_arm(general, special, *pc, halt, op, x, y, z),
+        opcode::GO => control::go_by(general, special, pc, op, x, y, z),
+        opcode::GOI => control::go_by(general, special, pc, op, x, y, z),
+        opcode::JMP => control::jump(pc, op, x, y, z),
+        opcode::JMPB => control::jump(pc, op, x, y, z),
+        opcode::GETA => registers::get_address(general, special, pc, op, x, y, z),
+        opcode::GETAB => registers::get_address(general, special, pc, op, x, y, z),
+        opcode::POP => calls::pop_to(general, special, pc, halt, a, b, at, x, y, z),
+        opcode::SAVE => contexts::save_to(general, special, pc, halt, marks, a, b, at, x),
+        opcode::UNSAVE => { system::unsave_register(general, special, pc, halt, a, b, at, z) }
+        opcode::SYNC => registers::synchronize(pc, halt, x, y, z),
+        opcode::SWYM => system::skip(pc),
+        opcode::GET => registers::get_special(general, special, pc, x, z),
+        opcode::TRIP => exceptions::trip_arm(general, special, pc, halt, marks, op, x, y, z),
+        _ => by_range(general, special, pc, halt, marks, a, b, at, op, x, y, z),
+    }
+}
+
+/// The arm, or 3, once 1, 2 and 22 have passed. The four calls differ in their target alone: the frame is pushed in one place, so that its code stands in line.
 pub(crate) fn dispatch(
     general: &mut [u64; 256],
     special: &mut [u64; 32],
@@ -82,27 +125,16 @@ pub(crate) fn dispatch(
     if opcode::is_among(op, opcode::FIRST_BRANCH, opcode::LAST_BRANCH) {
         return control::branch(general, pc, op, x, y, z);
     }
-    match op {
-        opcode::TRAP => exceptions::trap_arm(general, special, *pc, halt, op, x, y, z),
-        opcode::GO => control::go_by(general, special, pc, op, x, y, z),
-        opcode::GOI => control::go_by(general, special, pc, op, x, y, z),
-        opcode::PUSHGO => control::push_go(general, special, pc, a, b, at, op, x, y, z),
-        opcode::PUSHGOI => control::push_go(general, special, pc, a, b, at, op, x, y, z),
-        opcode::JMP => control::jump(pc, op, x, y, z),
-        opcode::JMPB => control::jump(pc, op, x, y, z),
-        opcode::PUSHJ => control::push_jump(general, special, pc, a, b, at, op, x, y, z),
-        opcode::PUSHJB => { control::push_jump(general, special, pc, a, b, at, op, x, y, z) }
-        opcode::GETA => registers::get_address(general, special, pc, op, x, y, z),
-        opcode::GETAB => registers::get_address(general, special, pc, op, x, y, z),
-        opcode::POP => calls::pop_to(general, special, pc, halt, a, b, at, x, y, z),
-        opcode::SAVE => contexts::save_to(general, special, pc, halt, marks, a, b, at, x),
-        opcode::UNSAVE => { system::unsave_register(general, special, pc, halt, a, b, at, z) }
-        opcode::SYNC => registers::synchronize(pc, halt, x, y, z),
-        opcode::SWYM => system::skip(pc),
-        opcode::GET => registers::get_special(general, special, pc, x, z),
-        opcode::TRIP => exceptions::trip_arm(general, special, pc, halt, marks, op, x, y, z),
-        _ => by_range(general, special, pc, halt, marks, a, b, at, op, x, y, z),
-    }
+    let target = match op {
+        opcode::PUSHGO => control::sum(general, op, y, z),
+        opcode::PUSHGOI => control::sum(general, op, y, z),
+        opcode::PUSHJ => target::near(*pc, op, y, z),
+        opcode::PUSHJB => target::near(*pc, op, y, z),
+        _ => {
+            return by_key(general, special, pc, halt, marks, a, b, at, op, x, y, z);
+        }
+    };
+    calls::push_to(general, special, pc, a, b, at, x, target)
 }
 
 /// What is added to an opcode to say that 1, 2 and 22 have passed.
