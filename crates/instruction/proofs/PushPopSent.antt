@@ -6,7 +6,7 @@ use mathlib.Core.List.{List, []}
 use Prim.Native.Nat.{ℕ, _≤_}
 use native.Mathlib.Omega.{arith}
 use lib.Dec.{eqb}
-use types.Run.{OneOf, miss}
+use types.Run.{OneOf}
 use denote.Enum.Declared.{tagOf}
 use borrow.Author.Tests.{ne-eqb}
 use Rattle.model.specs.Memory.{Windows}
@@ -29,7 +29,7 @@ use Rattle.stack.specs.PushPop.{pushIn, popIn, returnTo, popNumber, popAnswer, 
 use Rattle.stack.specs.declared.frame.PopFrame.{PopFrame}
 use Rattle.stack.specs.declared.frame.PopFrame.the-variants.{Frame, NoFrame, Rejected, Missing, NotAdmissible, WindowRule, Shared}
 use Rattle.instruction.specs.StepAnswer.{Whole}
-use Rattle.instruction.proofs.NoMemoryReplies.{refusals, tag-is}
+use Rattle.model.proofs.Numbers.{tag-is, refusals, not-done}
 
 -- ---- the stack's outcome, PC sent on
 
@@ -92,7 +92,7 @@ module _ (w : Windows) (s : State) (x target : ℕ) (r : Reply) (t : State) (v :
 
   number : tagOf the-type r ≡ pushIn w s x .reply
   unfolding pushIn Stays
-  number = tag-is _ r (push-stays (placed s) w s (hole s x) .0) (g .reply-is)
+  number = tag-is _ r (let h = push-stays (placed s) w s (hole s x) .0 in omega arith) (g .reply-is)
 
   at-start : pushIn w s x .state .pc ≡ s .pc
   unfolding pushIn Stays
@@ -103,7 +103,7 @@ module _ (w : Windows) (s : State) (x target : ℕ) (r : Reply) (t : State) (v :
 
   pub push-refused : OneOf refusals (tagOf the-type r) → Whole (onlyIf (placed s) w s (pushFrame s (hole s x) target)) r t v
   push-refused h =
-      let z : eqb (pushIn w s x .reply) 0 ≡ false = ne-eqb _ 0 (λ q. miss refusals 0 tt (rw (number ∙ q) at h)) in
+      let z : eqb (pushIn w s x .reply) 0 ≡ false = ne-eqb _ 0 (λ q. not-done _ h (number ∙ q)) in
       sent-not s _ _ target r t v push-open (g .reply-is) (g .state-is) (g .window-is) at-start z
 
 -- ---- POP

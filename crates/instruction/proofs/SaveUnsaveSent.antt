@@ -6,7 +6,7 @@ use mathlib.Core.List.{List, []}
 use Prim.Native.Nat.{ℕ, _+_, _%_, _^_, _≤_}
 use native.Mathlib.Omega.{arith}
 use lib.Dec.{ltb, eqb}
-use types.Run.{OneOf, miss}
+use types.Run.{OneOf}
 use denote.Enum.Declared.{tagOf}
 use borrow.Author.Tests.{eq-eqb, ne-eqb}
 use Rattle.model.specs.Registers.{rG, sp, following, goes, next, halted}
@@ -26,7 +26,7 @@ use Rattle.model.proofs.ItemInvariant.{Any}
 use Rattle.model.proofs.StepByArm.{sent, backTo, save-sent, unsave-sent}
 use Rattle.stack.specs.GivenBack.{onlyIf, Gives}
 use Rattle.instruction.specs.StepAnswer.{Whole}
-use Rattle.instruction.proofs.NoMemoryReplies.{refusals, tag-is}
+use Rattle.model.proofs.Numbers.{tag-is, refusals, not-done}
 
 -- an outcome with a reply of 0 to 22, and PC at @ + 4 where it is done, else as it was
 pub record Onward (o : Outcome State Windows) (s : State) : Type 0 where
@@ -70,7 +70,7 @@ module _ (w : Windows) (s : State) where
 module _ (o : Outcome State Windows) (s : State) (h : Onward o s) (r : Reply) (g l : List ℕ) (k : ℕ) (v : Windows)
     (e : Gives o s r (made g l (s .pc) k (s .marks)) v) where
   number : tagOf the-type r ≡ o .reply
-  number = tag-is (o .reply) r (h .most) (e .reply-is)
+  number = tag-is (o .reply) r (let m = h .most in omega arith) (e .reply-is)
 
   state-at : (b : Bool) → eqb (o .reply) 0 ≡ b → o .state ≡ cond b (goes (goes (o .state) (s .pc)) (following s)) (goes (o .state) (s .pc))
   state-at b q = ap (λ (p : Outcome State Windows). p .state) (h .sent-on) ∙ (unfold sent backTo in ap (λ (t : Bool). cond t (goes (goes (o .state) (s .pc)) (following s)) (goes (o .state) (s .pc))) q)
@@ -87,6 +87,6 @@ module _ (o : Outcome State Windows) (s : State) (h : Onward o s) (r : Reply) (g
   pub onward-refused : OneOf refusals (tagOf the-type r) → Whole o r (made g l (s .pc) k (s .marks)) v
   onward-refused z = record {
     reply-is = e .reply-is;
-    state-is = e .state-is ∙ sym (state-at false (ne-eqb _ 0 (λ q. miss refusals 0 tt (rw (number ∙ q) at z))));
+    state-is = e .state-is ∙ sym (state-at false (ne-eqb _ 0 (λ q. not-done _ z (number ∙ q))));
     window-is = e .window-is;
   }

@@ -1,4 +1,4 @@
--- Laws of PUT as code has it: the registers that rL and rG clear, what each answer gives, and the refusal of each special register.
+-- Laws of PUT as code has it: the registers that rL and rG clear, the special register that is put, what PUT answers, and the refusal of each special register.
 use mathlib.Core.Path.{_≡_, refl, sym, ap, _∙_}
 use mathlib.Core.Logic.{_⊎_, inl, inr}
 use mathlib.Core.Bool.{Bool, true, false, cond, _&&_, _||_}
@@ -6,7 +6,10 @@ use mathlib.Core.List.{List}
 use Prim.Native.Nat.{ℕ, _≤_, _<_, min, max}
 use native.Mathlib.Omega.{arith}
 use lib.Dec.{leb, ltb, eqb}
-use lib.ListN.{getD, set}
+use lib.ListN.{length, getD, set}
+use lib.Seq.{set-out}
+use types.Run.{OneOf}
+use denote.Enum.Declared.{tagOf}
 use borrow.Author.Tests.{lt-ltb, le-ltb, le-leb, lt-leb, ne-eqb}
 use Rattle.model.specs.Fill.{over}
 use Rattle.model.specs.Registers.{withParts, rG, rL, sp, withSpecial, cleared, putLocals, putGlobals}
@@ -14,7 +17,9 @@ use Rattle.model.specs.System.{isPrivileged, isIllegal, putRefusal, putState}
 use Rattle.model.specs.Numbers.{replyOf}
 use Rattle.model.specs.declared.State.{State}
 use Rattle.model.specs.declared.Reply.{Reply}
-use Rattle.model.specs.declared.Reply.the-variants.{Done}
+use Rattle.model.proofs.Reply.{the-type}
+use Rattle.model.proofs.Numbers.{tag-is, refusals, not-done}
+use Rattle.model.proofs.ArmAnswers.{put-most}
 use Rattle.model.proofs.Bools.{each, at-each}
 use Rattle.machine.specs.Put.{PutGives}
 
@@ -34,21 +39,41 @@ module _ (s : State) (g h special : List ℕ) (v low : ℕ) where
       ∙ ap (λ (n : ℕ). withParts s (over (λ k. 0) n high g) (set special rG v)) e
       ∙ ap (λ (n : ℕ). withParts s (over (λ k. 0) (min v (getD special rG 0)) n g) (set special rG v)) t
 
--- ---- what each answer gives
+-- ---- the special register that is put
 
 module _ (s : State) (x v : ℕ) where
-  pub refused : (n : ℕ) (r : Reply) → putRefusal s x v ≡ n → eqb n 0 ≡ false → r ≡ replyOf n → PutGives s x v r s
-  refused n r e z q = record {
-    reply-is = q ∙ ap replyOf (sym e);
-    state-is = sym (ap (λ (t : Bool). cond t (putState s x v) s) (ap (λ (k : ℕ). eqb k 0) e ∙ z));
-  }
+  pub put-local : (t : State) → x ≡ 20 → t ≡ putLocals s v → t ≡ putState s x v
+  unfolding putState
+  put-local t e q = rw e q
 
-  pub put-done : (t : State) → putRefusal s x v ≡ 0 → t ≡ putState s x v → PutGives s x v Done t
-  unfolding replyOf
-  put-done t e q = record {
-    reply-is = sym (ap replyOf e);
-    state-is = q ∙ sym (ap (λ (k : ℕ). cond (eqb k 0) (putState s x v) s) e);
-  }
+  pub put-global : (t : State) → x ≡ 19 → t ≡ putGlobals s v → t ≡ putState s x v
+  unfolding putState
+  put-global t e q = rw e q
+
+  pub put-other : (x ≡ 20 → ⊥) → (x ≡ 19 → ⊥) → withSpecial s x v ≡ putState s x v
+  unfolding putState
+  put-other l g = simp (ne-eqb x 20 l, ne-eqb x 19 g)
+
+  -- above 31 there is none
+  pub put-none : length (s .special) ≡ 32 → 31 < x → s ≡ withSpecial s x v
+  unfolding withSpecial
+  put-none n h = ap (withParts s (s .general)) (sym (set-out (s .special) x v (omega arith)))
+
+-- ---- what PUT answers
+
+module _ (s : State) (x v : ℕ) where
+  pub judged : (n : ℕ) (r : Reply) → putRefusal s x v ≡ n → r ≡ replyOf n → r ≡ replyOf (putRefusal s x v)
+  judged n r e q = q ∙ ap replyOf (sym e)
+
+  pub put-tag : (r : Reply) → r ≡ replyOf (putRefusal s x v) → tagOf the-type r ≡ putRefusal s x v
+  put-tag r e = tag-is (putRefusal s x v) r (let h = put-most s x v in omega arith) e
+
+  module _ (r : Reply) (e : r ≡ replyOf (putRefusal s x v)) where
+    pub put-done : (t : State) → tagOf the-type r ≡ 0 → t ≡ putState s x v → PutGives s x v r t
+    put-done t z q = record { reply-is = e; state-is = q ∙ sym (ap (λ (k : ℕ). cond (eqb k 0) (putState s x v) s) (sym (put-tag r e) ∙ z)) }
+
+    pub put-refused : OneOf refusals (tagOf the-type r) → PutGives s x v r s
+    put-refused z = record { reply-is = e; state-is = rw (ne-eqb (putRefusal s x v) 0 (λ q. not-done _ z (put-tag r e ∙ q))) refl }
 
 -- ---- the refusals, by ranges
 
@@ -117,29 +142,23 @@ module _ (s : State) (x v : ℕ) where
   unfolding putRefusal
   threshold-high e h l m = rw e (simp (le-ltb v 32 h, le-ltb v (sp s rL) l, lt-ltb 255 v m))
 
-  pub threshold-put : (t : State) → x ≡ 19 → 32 ≤ v → sp s rL ≤ v → v ≤ 255 → t ≡ putGlobals s v → PutGives s x v Done t
-  unfolding putRefusal putState
-  threshold-put t e h l m q = put-done s x v t (rw e (simp (le-ltb v 32 h, le-ltb v (sp s rL) l, le-ltb 255 v m))) (rw e q)
-
-  pub local-put : (t : State) → x ≡ 20 → t ≡ putLocals s v → PutGives s x v Done t
-  unfolding putRefusal putState
-  local-put t e q = put-done s x v t (rw e) (rw e q)
+  pub threshold-passes : x ≡ 19 → 32 ≤ v → sp s rL ≤ v → v ≤ 255 → putRefusal s x v ≡ 0
+  unfolding putRefusal
+  threshold-passes e h l m = rw e (simp (le-ltb v 32 h, le-ltb v (sp s rL) l, le-ltb 255 v m))
 
   pub status-high : x ≡ 21 → 0x3FFFF < v → putRefusal s x v ≡ 11
   unfolding putRefusal
   status-high e h = rw e (simp (lt-ltb 0x3FFFF v h))
 
-  pub status-put : x ≡ 21 → v ≤ 0x3FFFF → PutGives s x v Done (withSpecial s 21 v)
-  unfolding putRefusal putState
-  status-put e h = put-done s x v (withSpecial s 21 v) (rw e (simp (le-ltb 0x3FFFF v h))) (rw e refl)
+  pub status-passes : x ≡ 21 → v ≤ 0x3FFFF → putRefusal s x v ≡ 0
+  unfolding putRefusal
+  status-passes e h = rw e (simp (le-ltb 0x3FFFF v h))
 
   -- any other
-  pub other-put : (x < 8) ⊎ (19 ≤ x) → (x ≡ 19 → ⊥) → (x ≡ 20 → ⊥) → (x ≡ 21 → ⊥) → x ≤ 31 → PutGives s x v Done (withSpecial s x v)
-  unfolding putRefusal putState
-  other-put far g l a h =
-      put-done s x v (withSpecial s x v)
-      (simp (le-ltb 31 x h, privileged-is x (omega arith), illegal-is x (omega arith), not-privileged far, not-illegal far, ne-eqb x 19 g, ne-eqb x 21 a))
-      (simp (ne-eqb x 20 l, ne-eqb x 19 g))
+  pub other-passes : (x < 8) ⊎ (19 ≤ x) → (x ≡ 19 → ⊥) → (x ≡ 21 → ⊥) → x ≤ 31 → putRefusal s x v ≡ 0
+  unfolding putRefusal
+  other-passes far g a h =
+      simp (le-ltb 31 x h, privileged-is x (omega arith), illegal-is x (omega arith), not-privileged far, not-illegal far, ne-eqb x 19 g, ne-eqb x 21 a)
     where
       not-privileged : (x < 8) ⊎ (19 ≤ x) → inPrivileged x ≡ false
       not-privileged (inl lo) = simp (ne-eqb x 8 (omega arith), lt-leb 12 x (omega arith))

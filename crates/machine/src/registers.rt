@@ -5,7 +5,9 @@ ghost use mathlib.Core.List.{List};
 ghost use Prim.Native.Nat.{ℕ};
 ghost use lib.ListN.{length};
 ghost use Rattle.model.specs.Fill.{over};
-ghost use Rattle.model.specs.Registers.{withParts, admissible, claimLocal, setRegister, putLocals, putGlobals};
+ghost use Rattle.model.specs.Registers.{withParts, rL, sp, admissible, claimLocal, setRegister, putLocals, putGlobals};
+ghost use Rattle.model.specs.System.{putRefusal, putState};
+ghost use Rattle.model.specs.Numbers.{replyOf};
 ghost use Rattle.model.specs.Parts.{made};
 ghost use Rattle.model.specs.declared.State.{State};
 ghost use Rattle.machine.specs.Put.{PutGives};
@@ -24,35 +26,35 @@ pub const STATUS_MAX: u64 = 0x3FFFF;
 const MARKS_END: u64 = 512;
 
 // The special registers that PUT tells apart, as it numbers them.
-const RC: u8 = State::RC as u8;
+const RC: u64 = State::RC as u64;
 
-const RN: u8 = State::RN as u8;
+const RN: u64 = State::RN as u64;
 
-const RO: u8 = State::RO as u8;
+const RO: u64 = State::RO as u64;
 
-const RS: u8 = State::RS as u8;
+const RS: u64 = State::RS as u64;
 
-const RI: u8 = State::RI as u8;
+const RI: u64 = State::RI as u64;
 
-const RT: u8 = State::RT as u8;
+const RT: u64 = State::RT as u64;
 
-const RTT: u8 = State::RTT as u8;
+const RTT: u64 = State::RTT as u64;
 
-const RK: u8 = State::RK as u8;
+const RK: u64 = State::RK as u64;
 
-const RQ: u8 = State::RQ as u8;
+const RQ: u64 = State::RQ as u64;
 
-const RU: u8 = State::RU as u8;
+const RU: u64 = State::RU as u64;
 
-const RV: u8 = State::RV as u8;
+const RV: u64 = State::RV as u64;
 
-const RG: u8 = State::RG as u8;
+const RG: u64 = State::RG as u64;
 
-const RL: u8 = State::RL as u8;
+const RL: u64 = State::RL as u64;
 
-const RA: u8 = State::RA as u8;
+const RA: u64 = State::RA as u64;
 
-const RZZ: u8 = State::RZZ as u8;
+const RZZ: u64 = State::RZZ as u64;
 
 /// Whether the registers and marks are those of an admissible state.
 pub fn admissible(special: &[u64; 32], marks: u64) -> bool
@@ -144,16 +146,14 @@ pub fn put_rg(general: &mut [u64; 256], special: &mut [u64; 32], value: u64)
     special[State::RG] = value;
 }
 
-/// Special register x becomes `value`, or one of 7 to 11 and nothing changes. Neither PC nor halt code is its business.
-pub fn put_special(general: &mut [u64; 256], special: &mut [u64; 32], x: u8, value: u64) -> Reply
-    ensures { λ r. ⌜ ((s : State) → PutGives (withParts s (now (general .entry)) (now (special .entry))) x value r
-        (withParts s (now (general .exit)) (now (special .exit)))) ⌝ }
+/// What PUT of `value` to special register x answers where rL is `rl`: one of 7 to 11, or Done. It judges by nothing else of a state.
+pub fn put_refusal(rl: u64, x: u64, value: u64) -> Reply
+    ensures { λ r. ⌜ ((s : State) → sp s rL ≡ rl → r ≡ replyOf (putRefusal s x value)) ⌝ }
 {
     match x {
         RC | RI | RT | RTT | RK | RQ | RU | RV => Reply::PutPrivileged,
         RN | RO | RS => Reply::PutIllegal,
         RG => {
-            let rl = special[State::RL];
             if value < THRESHOLD_MIN {
                 return Reply::PutThreshold;
             }
@@ -163,28 +163,54 @@ pub fn put_special(general: &mut [u64; 256], special: &mut [u64; 32], x: u8, val
             if THRESHOLD_MAX < value {
                 return Reply::PutThreshold;
             }
-            put_rg(general, special, value);
-            Reply::Done
-        }
-        RL => {
-            put_rl(general, special, value);
             Reply::Done
         }
         RA => {
             if STATUS_MAX < value {
                 return Reply::PutStatus;
             }
-            special[State::RA] = value;
             Reply::Done
         }
         _ => {
             if RZZ < x {
                 return Reply::PutUnknown;
             }
-            special[x as usize] = value;
             Reply::Done
         }
     }
+}
+
+/// Special register x becomes `value` as PUT makes it, which judged it before; above 31 there is none, and nothing changes.
+pub fn put_state(general: &mut [u64; 256], special: &mut [u64; 32], x: u64, value: u64)
+    ensures { λ _. ⌜ ((s : State) → withParts s (now (general .exit)) (now (special .exit))
+        ≡ putState (withParts s (now (general .entry)) (now (special .entry))) x value) ⌝ }
+{
+    if x == RL {
+        put_rl(general, special, value);
+        return;
+    }
+    if x == RG {
+        put_rg(general, special, value);
+        return;
+    }
+    let all = *special;
+    of_32(all);
+    if x <= RZZ {
+        special[x as usize] = value;
+    }
+}
+
+/// Special register x becomes `value`, or one of 7 to 11 and nothing changes. Neither PC nor halt code is its business.
+pub fn put_special(general: &mut [u64; 256], special: &mut [u64; 32], x: u8, value: u64) -> Reply
+    ensures { λ r. ⌜ ((s : State) → PutGives (withParts s (now (general .entry)) (now (special .entry))) x value r
+        (withParts s (now (general .exit)) (now (special .exit)))) ⌝ }
+{
+    let rl = special[State::RL];
+    let judged = put_refusal(rl, x as u64, value);
+    if let Reply::Done = judged {
+        put_state(general, special, x as u64, value);
+    }
+    judged
 }
 
 pub(crate) fn of_256(general: [u64; 256])

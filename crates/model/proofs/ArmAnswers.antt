@@ -95,11 +95,12 @@ pub put-status : (s : State) (v : ℕ) → putRefusal s rA v ≡ 0 → v ≤ 0x3
 unfolding putRefusal
 put-status s v = on (λ (n : ℕ). n ≡ 0 → v ≤ 0x3FFFF) (ltb 0x3FFFF v) (λ e f. absurd (omega arith)) (λ e f. ltb-false _ _ e)
 
-Range : ℕ → Type 0
+-- 7 to 11, or none
+abbrev pub Range : ℕ → Type 0
 Range n = (n ≡ 0) ⊎ ((7 ≤ n) × (n ≤ 11))
 
-put-bound : (s : State) (x v : ℕ) → Range (putRefusal s x v)
-unfolding putRefusal Range
+pub put-bound : (s : State) (x v : ℕ) → Range (putRefusal s x v)
+unfolding putRefusal
 put-bound s x v =
     on Range (ltb 31 x) (λ e. inr (omega arith, omega arith)) (λ e.
     on Range (isPrivileged x) (λ e. inr (omega arith, omega arith)) (λ e.
@@ -107,11 +108,13 @@ put-bound s x v =
     on Range (eqb x rG) (λ e. on Range (ltb v 32 || (ltb v (sp s rL) || ltb 255 v)) (λ e. inr (omega arith, omega arith)) (λ e. inl refl)) (λ e.
     on Range (eqb x rA) (λ e. on Range (ltb 0x3FFFF v) (λ e. inr (omega arith, omega arith)) (λ e. inl refl)) (λ e. inl refl)))))
 
+pub put-most : (s : State) (x v : ℕ) → putRefusal s x v ≤ 11
+put-most s x v = ⊎-elim (λ e. omega arith) (λ h. h .1) (put-bound s x v)
+
 put-range : (s : State) (x v : ℕ) → eqb (putRefusal s x v) 0 ≡ false → Halting (putRefusal s x v)
-unfolding Range
 put-range s x v e = pick (putRefusal s x v) (eqb-false _ _ e) (put-bound s x v)
   where
-    pick : (n : ℕ) → (n ≡ 0 → ⊥) → (n ≡ 0) ⊎ ((7 ≤ n) × (n ≤ 11)) → Halting n
+    pick : (n : ℕ) → (n ≡ 0 → ⊥) → Range n → Halting n
     pick n f (inl g) = absurd (f g)
     pick n f (inr g) = let a : 7 ≤ n = g .0 in let b : n ≤ 11 = g .1 in inl (a, omega arith)
 

@@ -1,14 +1,18 @@
--- The numbers of the replies.
-use mathlib.Core.Path.{_≡_, refl}
+-- The numbers of the replies, and their tags, by which code tells the cases of a match.
+use mathlib.Core.Path.{_≡_, refl, ap, _∙_}
 use mathlib.Core.Logic.{_⊎_, inl, inr, ⊎-elim}
 use mathlib.Core.Bool.{true}
+use mathlib.Core.List.{List, [], _∷_}
 use Prim.Native.Nat.{ℕ, _≤_}
 use native.Mathlib.Omega.{arith}
 use lib.Dec.{eqb}
+use types.Run.{OneOf, miss}
+use denote.Enum.Declared.{tagOf}
 use borrow.Author.Tests.{eqb-true}
 use Rattle.model.specs.Numbers.{Halting, numberOf, replyOf, Numbered}
 use Rattle.model.specs.declared.Reply.{Reply}
 use Rattle.model.specs.declared.Reply.the-variants.{Done, NotAdmissible, WindowRule, NoArm, NamedTrap, NoSpecial, Missing, PutUnknown, PutPrivileged, PutIllegal, PutThreshold, PutStatus, Misplaced, SaveLocal, SavedThreshold, SavedStatus, SavedCount, SyncPrivileged, SyncIllegal, NotLoaded, Trapped, OutOfReach, Shared, Across, NotFetched, GrantTooLarge, StoreTooShort, NoPoint, OtherPoint, NoFrame, TooManyPairs}
+use Rattle.model.proofs.Reply.{the-type}
 use Rattle.model.proofs.Bools.{each, at-each}
 
 there : (r : Reply) → replyOf (numberOf r) ≡ r
@@ -66,3 +70,18 @@ step-number n h = numbered .number-reply n (⊎-elim (λ l. omega arith) (⊎-el
 -- a run's is one of these, 24 or 25
 pub run-number : (n : ℕ) → (n ≤ 20) ⊎ ((n ≡ 22) ⊎ ((n ≡ 24) ⊎ ((n ≡ 25) ⊎ (n ≡ 29)))) → numberOf (replyOf n) ≡ n
 run-number n h = numbered .number-reply n (⊎-elim (λ l. omega arith) (⊎-elim (λ e. let f : n ≡ 22 = e in omega arith) (⊎-elim (λ e. let f : n ≡ 24 = e in omega arith) (⊎-elim (λ e. let f : n ≡ 25 = e in omega arith) (λ e. let f : n ≡ 29 = e in omega arith)))) h)
+
+-- a reply's tag is its number
+tags : each 31 (λ n. eqb (tagOf the-type (replyOf n)) n) ≡ true
+unfolding each replyOf
+tags = refl
+
+pub tag-is : (n : ℕ) (r : Reply) → n ≤ 30 → r ≡ replyOf n → tagOf the-type r ≡ n
+tag-is n r h e = ap (tagOf the-type) e ∙ eqb-true (tagOf the-type (replyOf n)) n (at-each 31 (λ k. eqb (tagOf the-type (replyOf k)) k) tags n (omega arith))
+
+-- the tags that are not Done's
+abbrev pub refusals : List ℕ
+refusals = 1 ∷ 2 ∷ 3 ∷ 4 ∷ 5 ∷ 6 ∷ 7 ∷ 8 ∷ 9 ∷ 10 ∷ 11 ∷ 12 ∷ 13 ∷ 14 ∷ 15 ∷ 16 ∷ 17 ∷ 18 ∷ 19 ∷ 20 ∷ 21 ∷ 22 ∷ 23 ∷ 24 ∷ 25 ∷ 26 ∷ 27 ∷ 28 ∷ 29 ∷ 30 ∷ []
+
+pub not-done : (n : ℕ) → OneOf refusals n → n ≡ 0 → ⊥
+not-done n h e = miss refusals 0 tt (rw e at h)
