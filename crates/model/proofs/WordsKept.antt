@@ -92,11 +92,11 @@ goes-words : (s : State) (a : ℕ) → Word a → Words s → Words (goes s a)
 unfolding goes
 goes-words s a b h = words-by (goes s a) (generals s h) (specials s h) b (h .halt-word) (h .marks-word)
 
-halted-words : (s : State) → Words s → Words (halted s)
+pub halted-words : (s : State) → Words s → Words (halted s)
 unfolding halted
 halted-words s h = words-by (halted s) (generals s h) (specials s h) (h .pc-word) (omega arith) (h .marks-word)
 
-special-words : (s : State) (k v : ℕ) → Word v → Words s → Words (withSpecial s k v)
+pub special-words : (s : State) (k v : ℕ) → Word v → Words s → Words (withSpecial s k v)
 unfolding withSpecial
 special-words s k v b h = words-by (withSpecial s k v) (generals s h) (set-below (2 ^ 64) (s .special) k v (specials s h) b) (h .pc-word) (h .halt-word) (h .marks-word)
 
@@ -127,12 +127,12 @@ set-words : (s : State) (x v : ℕ) → Word v → Words s → Words (setRegiste
 unfolding setRegister
 set-words s x v b h = stored-words _ x v b (claim-words s x h)
 
-locals-words : (s : State) (v : ℕ) → Words s → Words (putLocals s v)
+pub locals-words : (s : State) (v : ℕ) → Words s → Words (putLocals s v)
 unfolding putLocals
 locals-words s v h = let l : sp s rL < 2 ^ 64 = h .special-word rL in
     special-words _ rL (min v (sp s rL)) (omega arith) (cleared-words s (min v (sp s rL)) (sp s rL) h)
 
-globals-words : (s : State) (v : ℕ) → v ≤ 255 → Words s → Words (putGlobals s v)
+pub globals-words : (s : State) (v : ℕ) → v ≤ 255 → Words s → Words (putGlobals s v)
 unfolding putGlobals
 globals-words s v b h = special-words _ rG v (omega arith) (cleared-words s (min v (sp s rG)) (max v (sp s rG)) h)
 

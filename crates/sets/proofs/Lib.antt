@@ -1,0 +1,2 @@
+-- The laws of sets, and the proofs of the theorems.
+pub mod JudgedFirst
