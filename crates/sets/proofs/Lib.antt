@@ -2,3 +2,4 @@
 pub mod JudgedFirst
 pub mod SetMeant
 pub mod SetLeaves
+pub mod SetPoints

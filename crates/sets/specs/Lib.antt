@@ -1,3 +1,4 @@
 pub mod Sets
 pub mod SetMeant
 pub mod Judged
+pub mod SetPoints
