@@ -44,7 +44,7 @@ setPoints =
     does (between 50 2) [] (between 50 2)
     -- a study: rL drops $1, rG drops $40
     ∷ does (between 32 2) (pair rL 1 ∷ pair rG 41 ∷ pair rA 0x3FFFF ∷ pair rJ 0x100 ∷ [])
-      (withSpecial (withSpecial (withSpecial (withSpecial start rG 41) rL 1) rA 0x3FFFF) rJ 0x100)
+    (withSpecial (withSpecial (withSpecial (withSpecial start rG 41) rL 1) rA 0x3FFFF) rJ 0x100)
     -- rG of 32 passes where rL was lowered before, and not the other way round; rL is never raised
     ∷ does (between 50 48) (pair rL 0 ∷ pair rG 32 ∷ []) (withSpecial (withSpecial start rG 32) rL 0)
     ∷ refuses (between 50 48) (pair rG 32 ∷ pair rL 0 ∷ []) 10 0
