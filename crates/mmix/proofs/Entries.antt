@@ -20,7 +20,8 @@ use Rattle.instruction.specs.StepAnswer.{Numbered, RunNumbered}
 use Rattle.model.specs.Kept.{imageLength}
 use Rattle.image.specs.Image.{isImage, imageOf, stateOf, Encoded}
 use Rattle.image.proofs.Coded.{if-other, if-image}
-use Rattle.mmix.specs.Entries.{Initialized, Stepped, SteppedState, RanImage, RanState, Raised, RaisedState, FieldTold}
+use Rattle.sets.specs.Sets.{Pair, SetOutcome, putSetOf, PutSet}
+use Rattle.mmix.specs.Entries.{Initialized, Stepped, SteppedState, RanImage, RanState, Raised, RaisedState, SetImage, FieldTold}
 
 -- ---- on the parts of a state
 
@@ -34,6 +35,9 @@ pub raised-state : (s : State) (f op x y z u v : ℕ) (q : Reply) (t : State) �
     → (r : ℕ) → r ≡ numberOf q → RaisedState s f op x y z u v r t
 raised-state s f op x y z u v q t g r e = record { reply-is = e ∙ ap numberOf (g .reply-is); state-is = g .state-is }
 
+pub set-numbered : (s : State) (ps : List Pair) (q : Reply) (i : ℕ) (t : State) → PutSet s ps (numberOf q) i t → (r : ℕ) → r ≡ numberOf q → PutSet s ps r i t
+set-numbered s ps q i t g r e = rw e g
+
 -- ---- on an image of another length
 
 module _ (l : List ℕ) (h : length l ≡ imageLength → ⊥) where
@@ -45,6 +49,9 @@ module _ (l : List ℕ) (h : length l ≡ imageLength → ⊥) where
 
   pub raised-else : (f op x y z u v : ℕ) → Raised l f op x y z u v 1 l
   raised-else f op x y z u v = record { reply-is = if-other l h _ _; image-is = if-other l h _ _ }
+
+  pub set-else : (ps : List Pair) → SetImage l ps 1 0 l
+  set-else ps = record { reply-is = if-other l h _ _; place-is = if-other l h _ _; image-is = if-other l h _ _ }
 
 -- ---- on an image
 
@@ -80,6 +87,17 @@ module _ (l : List ℕ) (n : length l ≡ imageLength) where
       record {
         reply-is = g .reply-is ∙ ap (λ (o : Said). numberOf (replyOf (o .reply))) d ∙ if-image l n _ _;
         image-is = k ∙ ap imageOf (g .state-is) ∙ ap (λ (o : Said). imageOf (o .state)) d ∙ if-image l n _ _;
+      }
+
+  pub set-put : (ps : List Pair) (s : State) → s ≡ stateOf l
+      → (r i : ℕ) (t : State) → PutSet s ps r i t
+      → (m : List ℕ) → m ≡ imageOf t → SetImage l ps r i m
+  set-put ps s e r i t g m k =
+      let d : putSetOf s ps ≡ putSetOf (stateOf l) ps = ap (λ (u : State). putSetOf u ps) e in
+      record {
+        reply-is = g .reply-is ∙ ap (λ (o : SetOutcome). o .reply) d ∙ if-image l n _ _;
+        place-is = g .place-is ∙ ap (λ (o : SetOutcome). o .place) d ∙ if-image l n _ _;
+        image-is = k ∙ ap imageOf (g .state-is) ∙ ap (λ (o : SetOutcome). imageOf (o .state)) d ∙ if-image l n _ _;
       }
 
 -- the image of the fresh state

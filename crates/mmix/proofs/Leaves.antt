@@ -32,6 +32,7 @@ use Rattle.image.proofs.Coded.{if-other}
 use Rattle.mmix.proofs.Call.{Left, image-left, few}
 use Rattle.mmix.proofs.ImageLeaves.{halt-same, halted-same, tripped-image, not-loaded, trapped-image}
 use Rattle.mmix.proofs.RunLeaves.{by-run, by-state-run}
+use Rattle.mmix.proofs.SetLeaves.{by-set, by-state-set}
 
 -- ---- a step and an exception on an image
 
@@ -158,9 +159,11 @@ calls-leave = record {
   by-step = by-step;
   by-run = by-run;
   by-exception = by-exception;
+  by-set = by-set;
   by-state-step = by-state-step;
   by-state-run = by-state-run;
   by-state-exception = by-state-exception;
+  by-state-set = by-state-set;
   by-context = by-context;
   by-field = by-field;
 }

@@ -7,6 +7,7 @@ pub mod Writes
 pub mod ImageLeaves
 pub mod OwnNumbers
 pub mod RunLeaves
+pub mod SetLeaves
 pub mod Leaves
 pub mod Chains
 pub mod Calls

@@ -1,6 +1,7 @@
 -- Demand 3 as a host meets it: lists of calls of the C functions, in any mix, each on what the one before left. A host holds the machine as
 -- an image or as a struct, goes from one to the other by mmix_decode and mmix_encode, and lends two windows. (mmix_initialize starts another
--- run, mmix_context changes nothing, and mmix_branch_field and mmix_jump_field are given neither state nor window: none of them is in a list.)
+-- run, mmix_put_set and mmix_put_set_parts are the host's own change of the state, mmix_context changes nothing, and mmix_branch_field and
+-- mmix_jump_field are given neither state nor window: none of them is in a list.)
 -- `Stepped`, `Raised`, `RanImage`, `SteppedState`, `RaisedState`, `RanState`, `Decoded` and `Encoded` are the functions' contracts.
 use Prim.Native.Nat.{ℕ, suc, _+_, _<_}
 use mathlib.Core.Path.{_≡_}

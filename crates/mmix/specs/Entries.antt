@@ -14,6 +14,7 @@ use Rattle.model.specs.Numbers.{numberOf, replyOf}
 use Rattle.model.specs.Field.{FieldAnswer}
 use Rattle.model.specs.declared.State.{State}
 use Rattle.image.specs.Image.{isImage, imageOf, stateOf, Encoded}
+use Rattle.sets.specs.Sets.{Pair, putSetOf}
 
 -- the two windows as C lends them: the base of each, and its bytes
 abbrev pub lentAt : ℕ → ℕ → List ℕ → List ℕ → Windows
@@ -37,6 +38,12 @@ pub record RanImage (l : List ℕ) (w : Windows) (grant r n : ℕ) (m : List ℕ
 pub record Raised (l : List ℕ) (f op x y z u v r : ℕ) (m : List ℕ) : Type 0 where
   pub reply-is : r ≡ cond (isImage l) (numberOf (replyOf (exceptionOf (stateOf l) f op x y z u v .reply))) 1
   pub image-is : m ≡ cond (isImage l) (imageOf (exceptionOf (stateOf l) f op x y z u v .state)) l
+
+-- a set of pairs; the place is 0 unless a pair fails, with an image of another length too. On a state in parts: `PutSet` of crate sets
+pub record SetImage (l : List ℕ) (ps : List Pair) (r place : ℕ) (m : List ℕ) : Type 0 where
+  pub reply-is : r ≡ cond (isImage l) (putSetOf (stateOf l) ps .reply) 1
+  pub place-is : place ≡ cond (isImage l) (putSetOf (stateOf l) ps .place) 0
+  pub image-is : m ≡ cond (isImage l) (imageOf (putSetOf (stateOf l) ps .state)) l
 
 -- a state lent whole or in parts
 pub record SteppedState (w : Windows) (s : State) (op x y z r : ℕ) (t : State) (v : Windows) : Type 0 where

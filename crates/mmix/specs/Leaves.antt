@@ -27,7 +27,9 @@ use Rattle.model.specs.Leaves.{Sharing, StepLeaves, RunLeaves, ExceptionLeaves,
 use Rattle.model.specs.declared.State.{State}
 use Rattle.model.specs.Kept.{imageLength}
 use Rattle.image.specs.Image.{stateOf, imageOf}
-use Rattle.mmix.specs.Entries.{Stepped, RanImage, Raised, SteppedState, RanState, RaisedState, ContextAt, FieldTold}
+use Rattle.sets.specs.Sets.{Pair, setSays, PutSet}
+use Rattle.sets.specs.SetMeant.{SetLeaves}
+use Rattle.mmix.specs.Entries.{Stepped, RanImage, Raised, SetImage, SteppedState, RanState, RaisedState, ContextAt, FieldTold}
 use Rattle.model.specs.declared.Operation.{Operation}
 
 -- the image with octabytes replaced, one after another: by its number among the 291, and what it becomes
@@ -154,6 +156,13 @@ pub record ExceptionCallLeaves (l : List ℕ) (f op x y z u v r : ℕ) (m : List
   pub nineteen : r ≡ 19 → m ≡ replaced l ((atSpecial rA, sp (withAdded (stateOf l) f) rA) ∷ tripOctas (stateOf l) (wordOf op x y z) u v)
   pub done : r ≡ 0 → haltBytes m ≡ haltBytes l
 
+-- what mmix_put_set leaves: 1 and 30 every byte; 7 to 11 the halt code's alone; the place is 0 unless a pair fails
+pub record SetCallLeaves (l : List ℕ) (ps : List Pair) (r place : ℕ) (m : List ℕ) : Type 0 where
+  pub among : (r ≡ 0) ⊎ ((r ≡ 1) ⊎ (((7 ≤ r) × (r ≤ 11)) ⊎ (r ≡ 30)))
+  pub whole : (r ≡ 1) ⊎ (r ≡ 30) → (place ≡ 0) × (m ≡ l)
+  pub seven-to-eleven : 7 ≤ r → r ≤ 11 → (place < length ps) × (m ≡ replaced l ((atHalt, 1) ∷ []))
+  pub done : r ≡ 0 → (place ≡ 0) × (haltBytes m ≡ haltBytes l)
+
 -- what mmix_context leaves: "refusing, by 22 and 23 too", *which, *start and *length are 0. It is lent the windows to read
 pub record ContextCallLeaves (w : Windows) (r which start length : ℕ) : Type 0 where
   pub among : (r ≡ 0) ⊎ ((r ≡ 2) ⊎ ((r ≡ 6) ⊎ ((r ≡ 14) ⊎ ((r ≡ 15) ⊎ ((r ≡ 16) ⊎ ((r ≡ 22) ⊎ (r ≡ 23)))))))
@@ -168,13 +177,16 @@ pub record CallsLeave : Type 0 where
       → RanImage l w grant r n m v → RunCallLeaves l w grant r n m v
   pub by-exception : (l : List ℕ) (f op x y z u v r : ℕ) (m : List ℕ) → ((i : ℕ) → getD l i 0 < 256)
       → Raised l f op x y z u v r m → ExceptionCallLeaves l f op x y z u v r m
-  -- on a struct or its parts: what model's `RepliesLeave` says
+  pub by-set : (l : List ℕ) (ps : List Pair) (r place : ℕ) (m : List ℕ) → ((i : ℕ) → getD l i 0 < 256)
+      → SetImage l ps r place m → SetCallLeaves l ps r place m
+  -- on a struct or its parts: what model's `RepliesLeave` says, and `SetsLeave` of sets
   pub by-state-step : (w : Windows) (s : State) (op x y z r : ℕ) (t : State) (v : Windows) → Sized s
       → SteppedState w s op x y z r t v → StepLeaves w s op x y z (record { reply = r; state = t; memory = v })
   pub by-state-run : (w : Windows) (s : State) (grant r n : ℕ) (t : State) (v : Windows) → Sized s
       → RanState w s grant r n t v → RunLeaves w s grant (record { done = n; reply = r; state = t; memory = v })
   pub by-state-exception : (s : State) (f op x y z u v r : ℕ) (t : State) → Sized s
       → RaisedState s f op x y z u v r t → ExceptionLeaves s f op x y z u v (say r t)
+  pub by-state-set : (s : State) (ps : List Pair) (r place : ℕ) (t : State) → PutSet s ps r place t → SetLeaves s ps (setSays r place t)
   -- the context reader: it is given no state; refused, all three outputs are 0
   pub by-context : (w : Windows) (p r which start length : ℕ) → ContextAt w p r which start length → ContextCallLeaves w r which start length
   -- the search for a field: 0 or 21, and then both outputs are 0

@@ -1,4 +1,4 @@
-//! The C library: what a relay host calls, on numbers and byte slices. 0 is done; 1 to 29 are the refusals.
+//! The C library: what a relay host calls, on numbers and byte slices. 0 is done; 1 to 30 are the refusals.
 
 ghost use Rattle.model.specs.Control.{branchFields, jumpFields};
 ghost use Rattle.model.specs.Field.{fieldOf, answerOf};
@@ -6,7 +6,8 @@ ghost use Rattle.model.specs.Parts.{made};
 ghost use Rattle.model.specs.Kept.{pointIn};
 ghost use Rattle.image.specs.Image.{Decoded, Encoded};
 ghost use Rattle.store.specs.Store.{Took, GoneBack};
-ghost use Rattle.mmix.specs.Entries.{lentAt, Initialized, Stepped, SteppedState, RanImage, RanState, Raised, RaisedState, ContextAt, FieldTold};
+ghost use Rattle.sets.specs.Sets.{pairsOf, pairsIn, PutSet};
+ghost use Rattle.mmix.specs.Entries.{lentAt, Initialized, Stepped, SteppedState, RanImage, RanState, Raised, RaisedState, SetImage, ContextAt, FieldTold};
 use image::Answer;
 use image::IMAGE_LEN;
 use image::Rest;
@@ -237,6 +238,26 @@ pub extern "C" fn mmix_exceptions(
     reply
 }
 
+/// PUT for a whole set on an image: 16 bytes a pair, its register's number and the value. `place` becomes that of the first pair that fails, or 0.
+#[no_mangle]
+pub extern "C" fn mmix_put_set(image: &mut [u8], pairs: &[u8], place: &mut u64) -> u64
+    ensures { λ r. ⌜ SetImage (now (image .entry)) (pairsIn (now (pairs .entry))) r (now (place .exit)) (now (image .exit)) ⌝ }
+{
+    if image.len() != IMAGE_LEN {
+        *place = 0;
+        return 1;
+    }
+    let mut general = [0u64; 256];
+    let mut special = [0u64; 32];
+    let rest = image::load_state(&*image, &mut general, &mut special);
+    let pc = rest.pc;
+    let mut halt = rest.halt;
+    let marks = rest.marks;
+    let put = sets::put_set_bytes(&mut general, &mut special, &mut halt, marks, pairs, place);
+    image::store_state(&mut *image, &general, &special, Rest { pc, halt, marks });
+    instruction::value::number_of(put)
+}
+
 /// One step in place on the parts of a state, for a host that steps millions of times.
 #[no_mangle]
 pub extern "C" fn mmix_step_parts(
@@ -328,6 +349,25 @@ pub extern "C" fn mmix_exceptions_parts(
         z_val,
     );
     instruction::value::number_of(raised)
+}
+
+/// PUT for a whole set in place on the parts of a state: `pairs` are numbers of registers, each with its value behind it. PC stays as it is.
+#[no_mangle]
+pub extern "C" fn mmix_put_set_parts(
+    general: &mut [u64; 256],
+    special: &mut [u64; 32],
+    pc: &mut u64,
+    halt: &mut u64,
+    marks: u64,
+    pairs: &[u64],
+    place: &mut u64,
+) -> u64
+    ensures { λ r. ⌜ PutSet
+        (made (now (general .entry)) (now (special .entry)) (now (pc .entry)) (now (halt .entry)) marks) (pairsOf (now (pairs .entry))) r (now (place .exit))
+        (made (now (general .exit)) (now (special .exit)) (now (pc .exit)) (now (halt .exit)) marks) ⌝ }
+{
+    let put = sets::put_set(general, special, halt, marks, pairs, place);
+    instruction::value::number_of(put)
 }
 
 /// Where the context saved at `address` lies: in which window, 0 for A and 1 for B, its first byte's index there and its length, all 0

@@ -1,0 +1,46 @@
+-- `mmix_put_set` meets its contract: the image's state takes the set, and goes back into the image.
+use native.Mathlib.Omega.{arith}
+use Rattle.mmix.proofs.Entries.{set-else, set-put, set-numbered}
+use Rattle.image.proofs.Coded.{of-image}
+use borrow.Author.Needs.{needs}
+use Rattle.mmix.proofs.mmix_put_set.Statement.{statement}
+use Rattle.mmix.proofs.mmix_put_set.Tie as tie
+
+returns : tie.Need-returns
+returns c = set-else _ (λ e. omega arith) _
+
+load-state-requires : tie.Need-load-state-requires
+load-state-requires c κs = search needs
+
+put-set-bytes-requires : tie.Need-put-set-bytes-requires
+put-set-bytes-requires c κs = search needs
+
+store-state-requires : tie.Need-store-state-requires
+store-state-requires c κs = search needs
+
+number-of-requires : tie.Need-number-of-requires
+number-of-requires c κs = search needs
+
+same-length : tie.Need-same-length
+same-length c = search needs
+
+returns-2 : tie.Need-returns-2
+returns-2 c =
+    let storing = c .before .before .before in
+    let putting = storing .before .before .before .before in
+    let loading = putting .before .before .before .before .before in
+    let l = loading .before .before .before .before .before .before .before .args .image .now in
+    set-put l (omega arith) _ _ (of-image l (omega arith) _ _ _ (loading .load-state .ensures)) _ _ _
+    (set-numbered _ _ _ _ _ (putting .put-set-bytes .ensures (loading .load-state .result .pc)) _ (c .number-of .ensures)) _ (of-image l (omega arith) _ _ _ (storing .store-state .ensures))
+
+pub mmix-put-set-spec : {M : Type 1} → statement M
+mmix-put-set-spec =
+    tie.close
+    (tie.spec
+    returns
+    load-state-requires
+    put-set-bytes-requires
+    store-state-requires
+    number-of-requires
+    same-length
+    returns-2)
