@@ -1,8 +1,8 @@
 /* A relay host. It keeps the direction of feed in a local of the caller, calls the feed routine some levels deep, parks the
  * whole context while a case is worked, comes back, and shows that the direction is as it was. Its curves and texts live low
- * in memory, in window A, and the calls' stack in window B. It takes a point, tries an alternative and returns to it. On the
- * way it meets what a host meets: a curve kept in A, a trip, a system call to serve, a halt, a jump to patch, a window too
- * small, windows that share, steps in place.
+ * in memory, in window A, and the calls' stack in window B. It loads a study's registers in one call, takes a point, tries an
+ * alternative and returns to it. On the way it meets what a host meets: a curve kept in A, a trip, a system call to serve, a
+ * halt, a jump to patch, a window too small, windows that share, steps in place.
  *
  *     make host
  */
@@ -85,6 +85,37 @@ static void refused(const char *what, uint64_t reply, uint64_t expected)
     printf("%-28s %s\n", "", mmix_reply_text(reply));
     if (reply != expected)
         end("that is another reply than expected");
+}
+
+/* One set of special registers: numbers, each with its value behind it, as bytes. */
+static uint64_t put_set(const uint64_t *numbers, size_t count, uint64_t *place)
+{
+    uint8_t pairs[16 * MMIX_PAIRS_MAX];
+
+    for (size_t k = 0; k < 8 * count; k++)
+        pairs[k] = (uint8_t)(numbers[k / 8] >> (56 - 8 * (k % 8)));
+    return mmix_put_set(image, sizeof image, pairs, 8 * count, place);
+}
+
+/* A study's registers, all or none: a wrong one, of which nothing is loaded, and the right one. */
+static void load_a_study(void)
+{
+    static const uint64_t wrong[] = { MMIX_RA, MMIX_FLAG_V * 256, MMIX_RM, 0xFF, MMIX_RG, 300 };
+    static const uint64_t study[] = { MMIX_RL, 0, MMIX_RG, 48, MMIX_RA, MMIX_FLAG_V * 256, MMIX_RM, 0xFF };
+    uint64_t place;
+
+    refused("a study with rG 300", put_set(wrong, sizeof wrong / sizeof *wrong, &place), MMIX_PUT_THRESHOLD);
+    printf("%-28s %" PRIu64 ", halt code %" PRIu64 ", rA %" PRIx64 "\n", "the failing pair's place", place,
+           octabyte(MMIX_AT_HALT), special(MMIX_RA));
+    if (special(MMIX_RA) != 0 || special(MMIX_RM) != 0)
+        end("half a study is loaded");
+    set_octabyte(MMIX_AT_HALT, 0);
+
+    uint64_t reply = put_set(study, sizeof study / sizeof *study, &place);
+    if (reply != MMIX_DONE)
+        end(mmix_reply_text(reply));
+    printf("%-28s reply %2" PRIu64 "  rG %" PRIu64 "  rL %" PRIu64 "  rA %" PRIx64 "  rM %" PRIx64 "\n", "the study in one call",
+           reply, special(MMIX_RG), special(MMIX_RL), special(MMIX_RA), special(MMIX_RM));
 }
 
 /* Parks the context at the top of the stack in $255, works another case, and takes the context up again. */
@@ -173,11 +204,10 @@ static void try_an_alternative(void)
     printf("%-28s %" PRId64 "\n", "the margin", (int64_t)general(252));
 }
 
-/* Integer overflow, which rA enables: a trip through the vector at 32. There is no RESUME, so the host goes back itself. */
+/* Integer overflow, which the study enables in rA: a trip through the vector at 32. There is no RESUME, so the host goes back itself. */
 static void take_a_trip(void)
 {
     set_octabyte(MMIX_AT_MARKS, 0x1FF);
-    set_octabyte(MMIX_AT_SPECIAL(MMIX_RA), MMIX_FLAG_V * 256);
     uint64_t at_255 = general(255);
     uint64_t reply = mmix_exceptions(MMIX_FLAG_V | MMIX_FLAG_X, 0x20, 1, 2, 3, 7, 9, image, sizeof image);
     if (reply != MMIX_DONE)
@@ -262,6 +292,7 @@ int main(void)
     if (mmix_initialize(image, sizeof image) != MMIX_DONE)
         end("the image has the wrong length");
     show("fresh state", MMIX_DONE);
+    load_a_study();
 
     /* the caller's direction marker is in its $0, the argument of each call in $1 */
     step("PUT rL, 2: no more than rL", MMIX_OP_PUTI, MMIX_RL, 0, 2);

@@ -1,14 +1,14 @@
 /* mmix.h: the MMIX register machine, a program or one step at a time.
  *
  * The library keeps nothing between calls, allocates nothing and calls nothing but memcpy and memset. Every function
- * takes any values, ends, and returns MMIX_DONE (0) or the number of a refusal (1 to 28). That each function does what it
+ * takes any values, ends, and returns MMIX_DONE (0) or the number of a refusal (1 to 30). That each function does what it
  * should is proved; README.md says what that means.
  *
  * What the caller owes:
  *  - a pointer is to as many bytes as the length beside it says, or to an object of its type; it may be null only where
  *    that length is 0. It is aligned as C demands of its type;
  *  - no two objects that one call may write to overlap, and none that it writes to overlaps one that it reads: image, the
- *    windows a and b, store, state, parts, done, which, start, length, backward and field are apart from each other;
+ *    windows a and b, store, state, parts, pairs, place, done, which, start, length, backward and field are apart from each other;
  *  - nothing else reads or writes them during the call.
  *
  * What can hurt:
@@ -55,15 +55,16 @@ extern "C" {
  * but the leftmost one. Flags of which rA enables at most one, and all steps and runs, do what they did.
  * 3.1: mmix_take and mmix_go_back, with MMIX_STORE_TOO_SHORT, MMIX_NO_POINT and MMIX_OTHER_POINT.
  * 4.0: POP where rO is at or below MMIX_STACK_START is refused, by MMIX_NO_FRAME, where it went on to rJ + 4 * YZ: a program whose
- * last return is such a POP stops there. Every other step does what it did; images, stores and points are what they were. */
+ * last return is such a POP stops there. Every other step does what it did; images, stores and points are what they were.
+ * 4.1: mmix_put_set and mmix_put_set_parts, with MMIX_TOO_MANY_PAIRS. */
 #define MMIX_VERSION_MAJOR 4
-#define MMIX_VERSION_MINOR 0
+#define MMIX_VERSION_MINOR 1
 
-/* The replies. 1 to 6, 22 and 24 to 28 leave every byte as it was; 7 to 18 and 29 set the halt code to 1 and leave all else; 19
+/* The replies. 1 to 6, 22, 24 to 28 and 30 leave every byte as it was; 7 to 18 and 29 set the halt code to 1 and leave all else; 19
  * and 20 set the halt code to 1 and the trip or trap registers, with PC where it was (an exception refused by 19 has also added to
  * rA; a store refused by 19 is made, and $X, rH and rR of an operation are written). 21 is the number of mmix_branch_field and
  * mmix_jump_field alone, and 23 that of mmix_context alone, which are given no state; 24 and 25 are those of mmix_run and
- * mmix_run_parts alone, 26 to 28 those of mmix_take and mmix_go_back. What a reply leaves of a run, it leaves of the
+ * mmix_run_parts alone, 26 to 28 those of mmix_take and mmix_go_back, 30 that of mmix_put_set and mmix_put_set_parts. What a reply leaves of a run, it leaves of the
  * instruction at which the run stopped. */
 enum mmix_reply {
     MMIX_DONE = 0,                /* The step or the exception was done. */
@@ -95,7 +96,8 @@ enum mmix_reply {
     MMIX_STORE_TOO_SHORT = 26,    /* mmix_take, mmix_go_back: the store is shorter than MMIX_STORE_LEN. */
     MMIX_NO_POINT = 27,           /* A name above 15; mmix_go_back: no point is taken under that name. */
     MMIX_OTHER_POINT = 28,        /* mmix_go_back: the point has other bases or lengths, or its state is not admissible. */
-    MMIX_NO_FRAME = 29            /* POP where rO is MMIX_STACK_START or less: no frame is left. Judged before 12. */
+    MMIX_NO_FRAME = 29,           /* POP where rO is MMIX_STACK_START or less: no frame is left. Judged before 12. */
+    MMIX_TOO_MANY_PAIRS = 30      /* mmix_put_set: a set of more than MMIX_PAIRS_MAX pairs. Judged after 1. */
 };
 
 /* The opcodes that have an arm; every other byte is MMIX_NO_ARM. Of a pair with B at the end, that one goes backward; with I
@@ -164,6 +166,9 @@ enum mmix_flag {
 /* The most instructions that one run may be granted. */
 #define MMIX_GRANT_MAX 1000000
 
+/* The most pairs that one set may have. */
+#define MMIX_PAIRS_MAX 32
+
 /* Where the register stack starts: rO and rS of a fresh state. */
 #define MMIX_STACK_START UINT64_C(0x6000000000000000)
 
@@ -208,6 +213,15 @@ uint64_t mmix_run(uint64_t base_a, uint64_t base_b, uint64_t grant, uint8_t *ima
 uint64_t mmix_exceptions(uint8_t flags, uint8_t op, uint8_t x, uint8_t y, uint8_t z, uint64_t y_val, uint64_t z_val,
                          uint8_t *image, size_t image_len);
 
+/* PUT for a whole set of special registers: a pair is 16 bytes, the register's number and then its value, each with its high
+ * byte first; a part of a pair at the end is not looked at. Each pair is judged as PUT would judge it in the state that the
+ * earlier ones leave (so rL may be lowered before rG is), and all take effect or none does. PC does not move, and no pairs at
+ * all are done.
+ *
+ * Refused by 7 to 11, the halt code is 1 and nothing else has changed, and *place is that of the first pair that fails, from
+ * 0: its number is the reply. 1 comes first, then 30. *place is written at every reply, 0 unless a pair fails. */
+uint64_t mmix_put_set(uint8_t *image, size_t image_len, const uint8_t *pairs, size_t pairs_len, uint64_t *place);
+
 /* ---- on a state of the host's numbers, changed in place */
 
 /* Makes the struct the state of the image. MMIX_NOT_ADMISSIBLE, and the struct left as it was, where image_len is not
@@ -233,6 +247,11 @@ uint64_t mmix_exceptions_parts(uint8_t flags, uint8_t op, uint8_t x, uint8_t y, 
 uint64_t mmix_run_parts(uint64_t base_a, uint64_t base_b, uint64_t grant, uint64_t general[256], uint64_t special[32],
                         uint64_t *pc, uint64_t *halt, uint64_t marks, uint8_t *a, size_t a_len, uint8_t *b, size_t b_len,
                         uint64_t *done);
+
+/* As mmix_put_set, on the parts of a state. `pairs_len` counts the numbers in `pairs`, two a pair; an odd last one is not looked
+ * at. *pc is left as it is. */
+uint64_t mmix_put_set_parts(uint64_t general[256], uint64_t special[32], uint64_t *pc, uint64_t *halt, uint64_t marks,
+                            const uint64_t *pairs, size_t pairs_len, uint64_t *place);
 
 /* ---- saved contexts */
 

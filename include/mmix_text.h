@@ -44,6 +44,7 @@ static inline const char *mmix_reply_text(uint64_t reply)
     case MMIX_NO_POINT: return "no point is kept under that name";
     case MMIX_OTHER_POINT: return "the point has other bases or lengths, or no admissible state";
     case MMIX_NO_FRAME: return "POP where no frame is left";
+    case MMIX_TOO_MANY_PAIRS: return "a set of more than 32 pairs";
     default: return "no reply of this version";
     }
 }

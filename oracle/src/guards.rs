@@ -48,6 +48,17 @@ fn of_bytes<T: Plain>(bytes: &mut [u8]) -> &mut T {
     unsafe { &mut *bytes.as_mut_ptr().cast() }
 }
 
+fn octabytes_of(values: &mut [u64]) -> &mut [u8] {
+    // SAFETY: numbers without padding, as bytes.
+    unsafe { slice::from_raw_parts_mut(values.as_mut_ptr().cast(), size_of_val(values)) }
+}
+
+fn of_octabytes(bytes: &mut [u8]) -> &mut [u64] {
+    assert!(bytes.len().is_multiple_of(8) && bytes.as_ptr().cast::<u64>().is_aligned());
+    // SAFETY: length and alignment are right, and any bytes are such numbers.
+    unsafe { slice::from_raw_parts_mut(bytes.as_mut_ptr().cast(), bytes.len() / 8) }
+}
+
 pub struct Guarded {
     subject: Box<dyn Subject>,
     guard: Guard,
@@ -193,6 +204,32 @@ impl Subject for Guarded {
             let parts = Parts { general, special, pc: of_bytes(pc), halt: of_bytes(halt), marks };
             self.subject.exceptions_parts(flags, of, y_val, z_val, parts)
         })
+    }
+
+    fn put_set(&self, image: &mut [u8], pairs: &[u8], place: &mut u64) -> u64 {
+        let mut copy = pairs.to_vec();
+        let reply = self.call([image, &mut copy, bytes_of(place)], |[image, pairs, place]| {
+            self.subject.put_set(image, pairs, of_bytes(place))
+        });
+        if copy == pairs { reply } else { WROTE_OUTSIDE }
+    }
+
+    fn put_set_parts(&self, parts: Parts, pairs: &[u64], place: &mut u64) -> u64 {
+        let (Parts { general, special, pc, halt, marks }, mut copy) = (parts, pairs.to_vec());
+        let buffers = [
+            bytes_of(general),
+            bytes_of(special),
+            bytes_of(pc),
+            bytes_of(halt),
+            octabytes_of(&mut copy),
+            bytes_of(place),
+        ];
+        let reply = self.call(buffers, |[general, special, pc, halt, pairs, place]| {
+            let (general, special) = (of_bytes(general), of_bytes(special));
+            let parts = Parts { general, special, pc: of_bytes(pc), halt: of_bytes(halt), marks };
+            self.subject.put_set_parts(parts, of_octabytes(pairs), of_bytes(place))
+        });
+        if copy == pairs { reply } else { WROTE_OUTSIDE }
     }
 
     fn decode(&self, image: &[u8], state: &mut State) -> u64 {

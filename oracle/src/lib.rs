@@ -8,7 +8,7 @@
 //!   `guards` lends each of their buffers in a guarded place (`areas`).
 //! - `compare`: one case on all sides. `shrink`: a smaller case that still differs.
 //! - `random`, `states`, `windows`, `operands`, `numbers`, `fields`, `rounds`, `chains`, `programs`, `sweep`: the cases. `starts`, `points`:
-//!   short ones. `histories`, `ledger`: calls on one store, and what they must answer. `tally`, `situations`, `met`, `lendings`, `runs`: the counts.
+//!   short ones. `histories`, `ledger`: calls on one store, and what they must answer. `sets`: sets of special registers. `tally`, `situations`, `met`, `lendings`, `runs`: the counts.
 
 // The model that is compared: `model`, or a copy with a fault in it (build.rs).
 #[cfg(changed_model)]
@@ -40,6 +40,7 @@ pub mod random;
 pub mod reference;
 pub mod rounds;
 pub mod runs;
+pub mod sets;
 pub mod shrink;
 pub mod situations;
 pub mod starts;

@@ -117,6 +117,17 @@ unsafe extern "C" {
         halt: *mut u64,
         marks: u64,
     ) -> u64;
+    fn mmix_put_set(image: *mut u8, image_len: usize, pairs: *const u8, pairs_len: usize, place: *mut u64) -> u64;
+    fn mmix_put_set_parts(
+        general: *mut [u64; 256],
+        special: *mut [u64; 32],
+        pc: *mut u64,
+        halt: *mut u64,
+        marks: u64,
+        pairs: *const u64,
+        pairs_len: usize,
+        place: *mut u64,
+    ) -> u64;
     fn mmix_decode(image: *const u8, image_len: usize, state: *mut State) -> u64;
     fn mmix_encode(state: *const State, image: *mut u8, image_len: usize) -> u64;
     fn mmix_branch_field(from: u64, to: u64, backward: *mut u8, field: *mut u32) -> u64;
@@ -155,8 +166,8 @@ pub struct Library {
 }
 
 impl Library {
-    fn lent(&self, bytes: &[u8]) -> *const u8 {
-        if bytes.is_empty() && self.empty_is_null { ptr::null() } else { bytes.as_ptr() }
+    fn lent<T>(&self, slice: &[T]) -> *const T {
+        if slice.is_empty() && self.empty_is_null { ptr::null() } else { slice.as_ptr() }
     }
 
     fn lent_mut(&self, bytes: &mut [u8]) -> *mut u8 {
@@ -235,6 +246,18 @@ impl Subject for Library {
         let Instruction { op, x, y, z } = of;
         let Parts { general, special, pc, halt, marks } = parts;
         unsafe { mmix_exceptions_parts(flags, op, x, y, z, y_val, z_val, general, special, pc, halt, marks) }
+    }
+
+    #[inline]
+    fn put_set(&self, image: &mut [u8], pairs: &[u8], place: &mut u64) -> u64 {
+        unsafe { mmix_put_set(self.lent_mut(image), image.len(), self.lent(pairs), pairs.len(), place) }
+    }
+
+    #[inline]
+    fn put_set_parts(&self, parts: Parts, pairs: &[u64], place: &mut u64) -> u64 {
+        let Parts { general, special, pc, halt, marks } = parts;
+        let (given, len) = (self.lent(pairs), pairs.len());
+        unsafe { mmix_put_set_parts(general, special, pc, halt, marks, given, len, place) }
     }
 
     #[inline]

@@ -1,5 +1,5 @@
 //! The machine that is compared with the Rust: functions that equal those of include/mmix.h. 0 is done,
-//! 1 to 20 are 01's numbers; 21 is request 2's, 22 and 23 are request 5's, 24 and 25 request 6's, 26 to 28 request 8's.
+//! 1 to 20 are 01's numbers; 21 is request 2's, 22 and 23 are request 5's, 24 and 25 request 6's, 26 to 28 request 8's, 30 request 10's.
 
 use crate::case::{Instruction, Kind};
 use crate::compared::Model;
@@ -49,6 +49,8 @@ pub trait Subject {
     fn run(&self, grant: u64, image: &mut [u8], lent: Lent, done: &mut u64) -> u64;
     fn run_parts(&self, grant: u64, parts: Parts, lent: Lent, done: &mut u64) -> u64;
     fn exceptions_parts(&self, flags: u8, of: Instruction, y_val: u64, z_val: u64, parts: Parts) -> u64;
+    fn put_set(&self, image: &mut [u8], pairs: &[u8], place: &mut u64) -> u64;
+    fn put_set_parts(&self, parts: Parts, pairs: &[u64], place: &mut u64) -> u64;
     fn decode(&self, image: &[u8], state: &mut State) -> u64;
     fn encode(&self, state: &State, image: &mut [u8]) -> u64;
     fn field(&self, kind: Kind, from: u64, to: u64, aim: Aim) -> u64;

@@ -88,6 +88,15 @@ impl Subject for Probe {
     fn exceptions_parts(&self, _: u8, _: Instruction, _: u64, _: u64, _: Parts) -> u64 {
         0
     }
+    /// Around the image where there are no pairs, else around the eight bytes of the place.
+    fn put_set(&self, image: &mut [u8], pairs: &[u8], place: &mut u64) -> u64 {
+        // SAFETY: the eight bytes of the place.
+        let eight = unsafe { std::slice::from_raw_parts_mut(std::ptr::from_mut(place).cast(), 8) };
+        self.around(if pairs.is_empty() { image } else { eight })
+    }
+    fn put_set_parts(&self, _: Parts, _: &[u64], place: &mut u64) -> u64 {
+        self.put_set(&mut [], &[0], place)
+    }
     fn decode(&self, _: &[u8], _: &mut State) -> u64 {
         0
     }
@@ -110,8 +119,8 @@ impl Subject for Probe {
 /// Two calls in turn: flush against the page after the buffer, then against the one before it. The buffer is an image;
 /// window A or B of a step by each of its functions, where loads and stores of its last bytes and its first go, the other one
 /// as long as a window may be; the same of a run, and its count; the reader's word which window it is; the four bytes of a field;
-/// a store, and what is given back.
-fn twice(probe: Probe) -> [[u64; 2]; 19] {
+/// a store, and what is given back; the image of a set, and its place.
+fn twice(probe: Probe) -> [[u64; 2]; 22] {
     let guarded = Guarded::new(Box::new(probe), Guard::Pages);
     let (mut image, mut state) = (vec![0; IMAGE_LEN], State::zero());
     let at = Bases { a: 0, b: 1 << 32 };
@@ -148,16 +157,21 @@ fn twice(probe: Probe) -> [[u64; 2]; 19] {
         };
         steps.push([back(), back()]);
     }
-    steps.try_into().expect("nineteen")
+    let mut set = |pairs: &[u8]| guarded.put_set(&mut image, pairs, &mut 0);
+    steps.push([set(&[]), set(&[])]);
+    steps.push([set(&[0; 16]), set(&[0; 16])]);
+    let mut set = || guarded.put_set_parts((&mut state).into(), &[0; 8], &mut 0);
+    steps.push([set(), set()]);
+    steps.try_into().expect("twenty-two")
 }
 
 #[test]
 fn pages_beside_a_buffer_cannot_be_touched() {
-    assert_eq!(twice(Probe::ReadAround), [[2, 1]; 19]);
+    assert_eq!(twice(Probe::ReadAround), [[2, 1]; 22]);
 }
 
 #[test]
 fn canaries_see_a_byte_written() {
-    assert_eq!(twice(Probe::WriteAfter), [[2, WROTE_OUTSIDE]; 19]);
-    assert_eq!(twice(Probe::WriteBefore), [[WROTE_OUTSIDE, 1]; 19]);
+    assert_eq!(twice(Probe::WriteAfter), [[2, WROTE_OUTSIDE]; 22]);
+    assert_eq!(twice(Probe::WriteBefore), [[WROTE_OUTSIDE, 1]; 22]);
 }

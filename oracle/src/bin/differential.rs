@@ -1,7 +1,7 @@
 //! Compare with the Rust on many cases: the library where it is linked, and the model. For loads, stores and whole-number
 //! arithmetic the Rust has no arm, and flags two of which are raised and enabled it forgets: there the library is compared with
 //! the model alone. Points to return to, which the Rust has not either, are compared with a ledger (src/histories.rs), N / 200
-//! histories of calls.
+//! histories of calls; and sets of special registers with the Rust's PUT, pair by pair (src/sets.rs), N / 10 sets.
 //!
 //!     differential [--cases N] [--seed S] [--threads T] [--guards pages|heap]
 //!     differential --replay LINE [--guards pages|heap]
@@ -26,6 +26,7 @@ use oracle::histories;
 use oracle::programs;
 use oracle::reference::{Answer, Reference};
 use oracle::rounds::{ROUND, round};
+use oracle::sets;
 use oracle::shrink::shrink;
 use oracle::subject::{Subject, guarded, subjects};
 use oracle::sweep;
@@ -38,6 +39,8 @@ const COUNTED_FROM: u64 = 200_000;
 const TOLD_EVERY: u64 = 100_000;
 /// One history of points for so many cases.
 const HISTORY_EVERY: u64 = 200;
+/// One set for so many.
+const SET_EVERY: u64 = 10;
 
 struct Options {
     cases: u64,
@@ -138,7 +141,8 @@ impl Runner<'_> {
 }
 
 fn replay(line: &str, guard: Option<Guard>) -> Result<bool, String> {
-    if let Some(told) = histories::replay(line, &chosen(guard)) {
+    let subjects = chosen(guard);
+    if let Some(told) = histories::replay(line, &subjects).or_else(|| sets::replay(line, &subjects)) {
         println!("{}", told.as_ref().map_or_else(|difference| difference.as_str(), |()| "same"));
         return Ok(told.is_ok());
     }
@@ -178,22 +182,26 @@ fn run(options: &Options) -> (Tally, Vec<String>) {
 fn differential(options: &Options) -> bool {
     let began = Instant::now();
     let (met, history) = histories::histories(options.seed, options.cases / HISTORY_EVERY, &chosen(options.guard));
-    let (total, found) = history.map_or_else(|difference| (Tally::default(), vec![difference]), |()| run(options));
+    let (put, set) = sets::sets(options.seed, options.cases / SET_EVERY, &chosen(options.guard));
+    let (total, found) =
+        history.and(set).map_or_else(|difference| (Tally::default(), vec![difference]), |()| run(options));
     total.print();
     met.print();
+    put.print();
     let counted = options.cases >= COUNTED_FROM && found.is_empty();
-    let seldom = if counted { [total.seldom(), met.seldom()].concat() } else { Vec::new() };
+    let seldom = if counted { [total.seldom(), met.seldom(), put.seldom()].concat() } else { Vec::new() };
     seldom.iter().for_each(|pair| println!("TOO SELDOM: {pair}"));
     found.iter().for_each(|difference| println!("DIFFERS: {difference}"));
     let names: Vec<&str> = chosen(options.guard).iter().map(|subject| subject.name()).collect();
     println!(
-        "{} cases, {} of them loads, stores and arithmetic, {} two enabled flags and {} POPs without a frame by the model, {} calls on stores, seed {}, \
+        "{} cases, {} of them loads, stores and arithmetic, {} two enabled flags and {} POPs without a frame by the model, {} calls on stores, {} sets, seed {}, \
          Rust against {}, {:.1} s: {}",
         total.cases(),
         total.added(),
         total.two_enabled(),
         total.no_frame(),
         met.calls(),
+        put.calls(),
         options.seed,
         names.join(" and "),
         began.elapsed().as_secs_f64(),

@@ -16,7 +16,7 @@ use oracle::lent::{Lent, Shown, Windows};
 use oracle::model::points::STORE_LEN;
 use oracle::reference::Reference;
 use oracle::rounds::{ROUND, round};
-use oracle::state::State;
+use oracle::state::{RA, RG, RL, State};
 use oracle::subject::{Aim, Found, Parts, Subject, chosen};
 
 const STACK: usize = 64 * 1024;
@@ -129,6 +129,12 @@ impl Subject for Nothing {
     fn exceptions_parts(&self, _: u8, _: Instruction, _: u64, _: u64, _: Parts) -> u64 {
         0
     }
+    fn put_set(&self, _: &mut [u8], _: &[u8], _: &mut u64) -> u64 {
+        0
+    }
+    fn put_set_parts(&self, _: Parts, _: &[u64], _: &mut u64) -> u64 {
+        0
+    }
     fn decode(&self, _: &[u8], _: &mut State) -> u64 {
         0
     }
@@ -149,7 +155,7 @@ impl Subject for Nothing {
 type Entry = fn(&dyn Subject, &mut Buffers);
 
 /// The entries by name; each takes the cases that are its own.
-const ENTRIES: [(&str, Entry); 15] = [
+const ENTRIES: [(&str, Entry); 17] = [
     ("mmix_initialize", |subject, lent| {
         if let Call::Initialize = lent.case.call {
             subject.initialize(&mut lent.image);
@@ -197,6 +203,17 @@ const ENTRIES: [(&str, Entry); 15] = [
             subject.exceptions_parts(flags, of, y_val, z_val, (&mut lent.state).into());
         }
     }),
+    ("mmix_put_set", |subject, lent| {
+        if let Call::Step(i) = lent.case.call {
+            let pairs: Vec<u8> = pairs(i).iter().flat_map(|v| v.to_be_bytes()).collect();
+            subject.put_set(&mut lent.image, &pairs, &mut 0);
+        }
+    }),
+    ("mmix_put_set_parts", |subject, lent| {
+        if let Call::Step(i) = lent.case.call {
+            subject.put_set_parts((&mut lent.state).into(), &pairs(i), &mut 0);
+        }
+    }),
     ("mmix_decode", |subject, lent| {
         subject.decode(&lent.image, &mut lent.state);
     }),
@@ -217,6 +234,12 @@ const ENTRIES: [(&str, Entry); 15] = [
     ("mmix_branch_field", |subject, lent| field(subject, lent, Kind::Branch)),
     ("mmix_jump_field", |subject, lent| field(subject, lent, Kind::Jump)),
 ];
+
+/// A set of up to 32 pairs.
+fn pairs(i: Instruction) -> Vec<u64> {
+    let pair = |k: u8| [[RL as u64, RG as u64, RA as u64, i.x as u64][k as usize % 4], i.z as u64];
+    (0..i.y % 33).flat_map(pair).collect()
+}
 
 fn field(subject: &dyn Subject, lent: &Buffers, of: Kind) {
     if let Call::Field { kind, from, to } = lent.case.call

@@ -91,7 +91,7 @@ pub fn step(state: &State, i: Instruction, memory: &Memory) -> Outcome {
     }
 }
 
-fn put(state: &State, x: usize, value: u64) -> Outcome {
+pub fn put(state: &State, x: usize, value: u64) -> Outcome {
     let (rg, rl) = (state.special[RG], state.special[RL]);
     let mut after = state.clone();
     match x {

@@ -1,7 +1,7 @@
 //! Document 01 as a program, written from its sentences and not from the Rust. This file has the entries and
 //! what they judge; `memory` the two windows, `stack` frames and contexts, `loads` loads and stores and `arithmetic` whole-number
 //! arithmetic (Fascicle 1), `arms` the other steps; `runs` instructions that are fetched; `fields` which field reaches an address;
-//! `points` points to return to.
+//! `points` points to return to; `sets` sets of special registers.
 
 mod arithmetic;
 mod arms;
@@ -10,11 +10,12 @@ mod loads;
 mod memory;
 pub mod points;
 mod runs;
+pub mod sets;
 mod stack;
 
 use crate::case::{Instruction, Kind};
 use crate::lent::{Bases, Lent, Shown, Windows};
-use crate::state::{IMAGE_LEN, RG, RK, RL, RN, RO, RS, RT, RTT, RV, STACK_START, State};
+use crate::state::{IMAGE_LEN, RG, RK, RL, RN, RO, RS, RT, RTT, RV, STACK_START, State, octabyte};
 use crate::subject::{Aim, Found, Parts, Subject};
 use memory::Memory;
 pub use stack::{Popped, Registers};
@@ -226,6 +227,27 @@ impl Subject for Model {
         }
         let Outcome { reply, state, .. } = arms::exceptions(&state, flags, of, y_val, z_val);
         (*general, *special, *pc, *halt) = (state.general, state.special, state.pc, state.halt);
+        reply
+    }
+
+    fn put_set(&self, image: &mut [u8], pairs: &[u8], place: &mut u64) -> u64 {
+        *place = 0;
+        if image.len() != IMAGE_LEN {
+            return 1;
+        }
+        let octabytes: Vec<u64> = pairs.chunks_exact(8).map(octabyte).collect();
+        let mut state = State::of_image(image);
+        let reply = self.put_set_parts((&mut state).into(), &octabytes, place);
+        image.copy_from_slice(&state.image());
+        reply
+    }
+
+    fn put_set_parts(&self, parts: Parts, pairs: &[u64], place: &mut u64) -> u64 {
+        let Parts { general, special, pc, halt, marks } = parts;
+        let pairs: Vec<(u64, u64)> = pairs.chunks_exact(2).map(|pair| (pair[0], pair[1])).collect();
+        let state = State { general: *general, special: *special, pc: *pc, halt: *halt, marks };
+        let (reply, failing, state) = sets::put(&state, &pairs);
+        (*general, *special, *pc, *halt, *place) = (state.general, state.special, state.pc, state.halt, failing);
         reply
     }
 
