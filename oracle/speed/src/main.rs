@@ -9,7 +9,7 @@
 //! checked by the model, and set against a branch; a subject that has no such arm either has no times there. Arithmetic has
 //! in the Rust's column the operation alone, by Rust's own integers; a division there is one of 128 bits by 64, without
 //! the remainder. The window is lent as B; A is empty, or, where the name says so, the bench program's. Finding a field has a
-//! line of its own. Runs have a table of their own (runs.rs).
+//! line of its own, and so have sets of 4 and of 32 registers, on parts and on an image. Runs have a table of their own (runs.rs).
 
 mod points;
 mod report;
@@ -22,7 +22,7 @@ use oracle::case::{self, Instruction};
 use oracle::lent::{Lent, Window, Windows};
 use oracle::model::Model;
 use oracle::opcodes::{ADD, CMP, DIV, DIVU, MUL, MULU, PUT, PUTI, RESUME, SL, SRU, TRAP};
-use oracle::state::{RD, STACK_START, State};
+use oracle::state::{RA, RD, RG, RL, RM, STACK_START, State};
 use oracle::subject::{Aim, Subject, chosen};
 use points::{BRANCH, OPERATION, Point, Work, points};
 use report::Row;
@@ -250,19 +250,43 @@ fn found(subject: &impl Subject) -> [f64; 3] {
     })
 }
 
+/// The times of a set of 4 and one of 32 pairs, in place and on an image, measured once: rL, rG, rA and rM, again and again.
+fn put(subject: &impl Subject) -> [f64; 4] {
+    let mut state = State::zero();
+    state.special[RG] = 48;
+    let mut image = state.image();
+    let numbers = |count: usize| -> Vec<u64> {
+        let study = [[RL as u64, 0], [RG as u64, 48], [RA as u64, 0x4000], [RM as u64, 0xFF]];
+        study.iter().cycle().take(count).flatten().copied().collect()
+    };
+    let bytes = |count: usize| -> Vec<u8> { numbers(count).iter().flat_map(|v| v.to_be_bytes()).collect() };
+    let mut place = 0;
+    let mut parts = |count| {
+        let pairs = numbers(count);
+        least(|| assert_eq!(black_box(subject.put_set_parts((&mut state).into(), black_box(&pairs), &mut place)), 0))
+    };
+    let [four, most] = [parts(4), parts(32)];
+    let mut on_image = |count| {
+        let pairs = bytes(count);
+        least(|| assert_eq!(black_box(subject.put_set(&mut image, black_box(&pairs), &mut place)), 0))
+    };
+    [four, most, on_image(4), on_image(32)]
+}
+
 fn main() {
     let only = std::env::args().nth(1).unwrap_or_default();
     let subject = chosen();
     let points: Vec<Point> = points().into_iter().filter(|p| p.name.contains(&only) || p.name == BRANCH).collect();
     points.iter().for_each(|point| check(&subject, point));
 
-    let (mut copy, mut fields) = (f64::INFINITY, [f64::INFINITY; 3]);
+    let (mut copy, mut fields, mut sets) = (f64::INFINITY, [f64::INFINITY; 3], [f64::INFINITY; 4]);
     let mut rows = vec![Row::NONE; points.len()];
     let programs = runs::chosen(&subject, &only);
     let mut times = vec![runs::Times::NONE; programs.len()];
     for _ in 0..PASSES {
         copy = copy.min(copied());
         fields.iter_mut().zip(found(&subject)).for_each(|(least, time)| *least = least.min(time));
+        sets.iter_mut().zip(put(&subject)).for_each(|(least, time)| *least = least.min(time));
         for (row, point) in rows.iter_mut().zip(&points) {
             *row = row.least(&measured(&subject, point));
         }
@@ -276,6 +300,8 @@ fn main() {
     );
     let [ahead, behind, none] = fields;
     println!("a jump's field: ahead {ahead:.1}, behind {behind:.1}, out of reach {none:.1}");
+    let [four, most, four_image, most_image] = sets;
+    println!("a set of 4 pairs, of 32: {four:.1}, {most:.1}; on an image {four_image:.1}, {most_image:.1}");
     report::print(&points, &rows, copy);
     let branch = points.iter().position(|point| point.name == BRANCH).map_or(f64::NAN, |k| rows[k].arm);
     runs::print(&programs, &times, branch);

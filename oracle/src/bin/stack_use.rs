@@ -75,6 +75,9 @@ struct Buffers {
     image: Vec<u8>,
     state: State,
     windows: Windows,
+    /// A set of up to 32 pairs, and its bytes.
+    pairs: Vec<u64>,
+    pair_bytes: Vec<u8>,
     /// One for all: what a case takes, the next ones may go back to.
     store: Arc<Mutex<Vec<u8>>>,
 }
@@ -82,7 +85,9 @@ struct Buffers {
 impl Buffers {
     fn of(case: &Case, store: &Arc<Mutex<Vec<u8>>>) -> Self {
         let (state, windows, store) = (case.state.clone(), case.windows.clone(), store.clone());
-        Self { image: case.image(), state, windows, store, case: case.clone() }
+        let pairs = pairs(case);
+        let pair_bytes = pairs.iter().flat_map(|v| v.to_be_bytes()).collect();
+        Self { image: case.image(), state, windows, pairs, pair_bytes, store, case: case.clone() }
     }
 }
 
@@ -204,15 +209,10 @@ const ENTRIES: [(&str, Entry); 17] = [
         }
     }),
     ("mmix_put_set", |subject, lent| {
-        if let Call::Step(i) = lent.case.call {
-            let pairs: Vec<u8> = pairs(i).iter().flat_map(|v| v.to_be_bytes()).collect();
-            subject.put_set(&mut lent.image, &pairs, &mut 0);
-        }
+        subject.put_set(&mut lent.image, &lent.pair_bytes, &mut 0);
     }),
     ("mmix_put_set_parts", |subject, lent| {
-        if let Call::Step(i) = lent.case.call {
-            subject.put_set_parts((&mut lent.state).into(), &pairs(i), &mut 0);
-        }
+        subject.put_set_parts((&mut lent.state).into(), &lent.pairs, &mut 0);
     }),
     ("mmix_decode", |subject, lent| {
         subject.decode(&lent.image, &mut lent.state);
@@ -235,10 +235,11 @@ const ENTRIES: [(&str, Entry); 17] = [
     ("mmix_jump_field", |subject, lent| field(subject, lent, Kind::Jump)),
 ];
 
-/// A set of up to 32 pairs.
-fn pairs(i: Instruction) -> Vec<u64> {
-    let pair = |k: u8| [[RL as u64, RG as u64, RA as u64, i.x as u64][k as usize % 4], i.z as u64];
-    (0..i.y % 33).flat_map(pair).collect()
+/// Pairs of rL, rG, rA and any number with any value, as many as X says, of a step; none for another call.
+fn pairs(case: &Case) -> Vec<u64> {
+    let Call::Step(i) = case.call else { return Vec::new() };
+    let pair = |k: u8| [[RL as u64, RG as u64, RA as u64, i.y as u64][k as usize % 4], i.z as u64];
+    (0..i.x % 33).flat_map(pair).collect()
 }
 
 fn field(subject: &dyn Subject, lent: &Buffers, of: Kind) {
