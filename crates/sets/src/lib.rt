@@ -110,7 +110,7 @@ pub fn put_set(
     reply
 }
 
-// The same with the pairs read out of bytes, as many octabytes as `octas` has room for.
+/// The same with the pairs read out of bytes, as many octabytes as `octas` has room for.
 fn put_read(
     general: &mut [u64; 256],
     special: &mut [u64; 32],
