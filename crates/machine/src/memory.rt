@@ -111,7 +111,7 @@ fn next_piece(a: &[u8], b: &[u8], at: Bases, addr: u64) -> Piece
     }
 }
 
-/// The number that refuses the n octabytes from `addr` up, piece by piece: 0 where each lies in a window, else 6.
+/// The number that refuses the n octabytes from `addr` up, asked piece by piece.
 fn pieces_refusal(a: &[u8], b: &[u8], at: Bases, addr: u64, n: u64) -> u64
     ensures { λ r. ⌜ r ≡ worst (refusing (shapesOf (lent at (now (a .entry)) (now (b .entry))))) addr n ⌝ }
 {
@@ -131,7 +131,7 @@ fn pieces_refusal(a: &[u8], b: &[u8], at: Bases, addr: u64, n: u64) -> u64
     0
 }
 
-/// The same; where B has them all it is asked once.
+/// The number that refuses the n octabytes from `addr` up: 0 where each lies in a window, else 6. Where B has them all it is asked once.
 pub fn run_refusal(a: &[u8], b: &[u8], at: Bases, addr: u64, n: u64) -> u64
     ensures { λ r. ⌜ r ≡ worst (refusing (shapesOf (lent at (now (a .entry)) (now (b .entry))))) addr n ⌝ }
 {
