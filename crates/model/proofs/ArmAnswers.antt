@@ -12,7 +12,7 @@ use lib.ListN.{length, getD}
 use lib.Count.{leadingZeros, leading-le}
 use borrow.Author.Tests.{leb-true, ltb-false, eqb-true, eqb-false}
 use Rattle.model.specs.Fill.{tab}
-use Rattle.model.specs.Registers.{rG, rL, rA, rJ, sp, reg, admissible, goes, following, next, halted, withSpecial, setRegister, putLocals, putGlobals}
+use Rattle.model.specs.Registers.{rG, rL, rA, rJ, sp, reg, hides, admissible, goes, following, next, halted, withSpecial, setRegister, putLocals, putGlobals}
 use Rattle.model.specs.Memory.{Windows, Shapes, shapesOf, ruled, shares, inside, both}
 use Rattle.model.specs.Plan.{Plan, answer, read, Outcome, perform, worst, clear, looks, puts, named}
 use Rattle.model.specs.Opcodes.{Width, Sign, signed, unsigned, Arm, Way, forward, backward, Operand, register, immediate, branch, jump, getAddress, go, pushJump, pushGo, pop, put, get, save, unsave, sync, swym, trip, trap, load, store, arithmetic, none, armOf}
@@ -20,7 +20,7 @@ use Rattle.model.specs.NoMemory.{say, Said, tell}
 use Rattle.model.specs.Control.{branchFields, jumpFields, targetOf, near, far, yzOf, xyzOf, sumOf, operandOf, holds}
 use Rattle.model.specs.Frames.{hole, framed, pushed, pushFrame, popped, popTo, popRule, noFrame, misplaced, popFrame}
 use Rattle.model.specs.Contexts.{extent, saved, savedState, saveContext, unsaved, contextRest, contextCount, contextAt, unsaveContext}
-use Rattle.model.specs.System.{isPrivileged, isIllegal, putRefusal, putState, putSpecial, got, syncOf}
+use Rattle.model.specs.System.{isPrivileged, isIllegal, putRefusal, putState, putSpecial, got, getSpecial, syncOf}
 use Rattle.model.specs.Trips.{wordOf, tripped, trapped, isLoaded, tripRule, tripTo, trapOf, enabled, withAdded, raised}
 use Rattle.model.specs.LoadStore.{fits, loadFrom, flagV, storeSays, storeTo}
 use Rattle.model.specs.ArithmeticStep.{resultsIn, withResults, arithmeticSays}
@@ -161,8 +161,15 @@ module _ (s : State) (W : ℕ → Type 0) (Read : List ℕ → Type 0) (R : ℕ 
   put-meets : (x v : ℕ) → W v → Tells (λ r t. R r t []) (putSpecial s x v)
   unfolding putSpecial
   put-meets x v w =
-      on {A = Said} (Tells (λ r t. R r t [])) (eqb (putRefusal s x v) 0) (λ e. putState-meets x v w (eqb-true _ _ e))
-      (λ e. m .halts (putRefusal s x v) (put-range s x v e))
+      on {A = Said} (Tells (λ r t. R r t [])) (hides (s .mask) x) (λ e. m .halts 31 (inr (inr refl)))
+      (λ e. on {A = Said} (Tells (λ r t. R r t [])) (eqb (putRefusal s x v) 0) (λ f. putState-meets x v w (eqb-true _ _ f))
+      (λ f. m .halts (putRefusal s x v) (put-range s x v f)))
+
+  get-meets : (x z : ℕ) → Tells (λ r t. R r t []) (getSpecial s x z)
+  unfolding getSpecial got
+  get-meets x z =
+      on {A = Said} (Tells (λ r t. R r t [])) (hides (s .mask) z) (λ e. m .halts 31 (inr (inr refl)))
+      (λ e. m .writes x (sp s z) _ (m .special-is z) (onward (setRegister s x (sp s z))))
 
   sync-meets : (n : ℕ) → Tells (λ r t. R r t []) (syncOf s n)
   unfolding syncOf
@@ -173,7 +180,7 @@ module _ (s : State) (W : ℕ → Type 0) (Read : List ℕ → Type 0) (R : ℕ 
   pop-meets : (x t : ℕ) → W t → Answers Read R (popFrame s x t)
   unfolding popFrame popRule popTo tell Answers
   pop-meets x t w =
-      on (Answers Read R) (noFrame s) (λ e. m .halts 29 (inr refl))
+      on (Answers Read R) (noFrame s) (λ e. m .halts 29 (inr (inl refl)))
       (λ e. on (Answers Read R) (misplaced s) (λ e. m .halts 12 (inl (omega arith, omega arith))) (λ e. (refl, λ vs i. (refl, λ ls j. m .pops x t _ ls w j))))
 
   save-meets : (x : ℕ) → Answers Read R (saveContext s x)
@@ -228,7 +235,7 @@ module _ (s : State) (W : ℕ → Type 0) (Read : List ℕ → Type 0) (R : ℕ 
 
   -- the nineteen arms
   pub plan-meets : (a : Arm) (op x y z : ℕ) → W y → W z → MeetsInterrupt s W R a op x y z → Answers Read R (planOf s a op x y z)
-  unfolding planOf tell Answers pushFrame trapOf got unsaveContext
+  unfolding planOf tell Answers pushFrame trapOf unsaveContext
   plan-meets (branch c d) op x y z wy wz mi =
       on (λ (t : State). R 0 t []) (holds c (reg s x)) (λ e. m .moves (near s d y z) (m .word _ (target-small (s .pc) d branchFields (yzOf y z))))
       (λ e. m .moves (following s) (onward s W Read R m s))
@@ -240,7 +247,7 @@ module _ (s : State) (W : ℕ → Type 0) (Read : List ℕ → Type 0) (R : ℕ 
   plan-meets (pushGo o) op x y z wy wz mi = m .pushes x (sumOf s o y z) (m .word _ (small (reg s y + operandOf s o z)))
   plan-meets pop op x y z wy wz mi = pop-meets s W Read R m x _ (m .word _ (small (sp s rJ + 4 * yzOf y z)))
   plan-meets (put o) op x y z wy wz mi = put-meets s W Read R m x (operandOf s o z) (operand-is s W Read R m o z wz)
-  plan-meets get op x y z wy wz mi = m .writes x (sp s z) _ (m .special-is z) (onward s W Read R m (setRegister s x (sp s z)))
+  plan-meets get op x y z wy wz mi = get-meets s W Read R m x z
   plan-meets save op x y z wy wz mi = save-meets s W Read R m x
   plan-meets unsave op x y z wy wz mi =
       context-meets (halted s) _ (reg s z) Read R (λ n a b. m .halts n (inl (omega arith, omega arith))) (λ o g a l vs c. m .unsaves o g a l vs _ (onward s W Read R m (unsaved s o g a l vs)) (m .word o c))

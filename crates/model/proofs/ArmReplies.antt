@@ -1,4 +1,4 @@
--- A property of the replies alone, of every answer that an arm may give: 0, 3 to 5, 7 to 18, 29, 19, and 20 of TRAP.
+-- A property of the replies alone, of every answer that an arm may give: 0, 3 to 5, 7 to 18, 29, 31, 19, and 20 of TRAP.
 use mathlib.Core.Path.{_≡_, refl}
 use mathlib.Core.Logic.{_≢_}
 use mathlib.Core.Bool.{_&&_}

@@ -156,9 +156,9 @@ hole-alike : (s t : State) (x : ℕ) → s .special ≡ t .special → hole s x 
 unfolding hole
 hole-alike s t x e = rw e
 
-pub admissible-alike : (s t : State) → s .special ≡ t .special → s .marks ≡ t .marks → admissible s ≡ admissible t
+pub admissible-alike : (s t : State) → s .special ≡ t .special → s .marks ≡ t .marks → s .mask ≡ t .mask → admissible s ≡ admissible t
 unfolding admissible
-admissible-alike s t e f = rw (e, f)
+admissible-alike s t e f g = rw (e, f, g)
 
 pair-core : (w : Windows) (s t : State) (h u : ℕ) (is : List Item) → Words s → Words t → Good s → Good t → unruledBy (shapesOf w) ≡ 0 → h ≤ sp s rG → Alike h s t
     → worst (refusing (shapesOf w)) (sp s rO) (h + 1) ≡ 0
@@ -206,7 +206,7 @@ demand3 w s t c x y z is ns nt ws wt alike done pcs =
     let os : sp s rO ≡ sp t rO = ap (λ (l : List ℕ). getD l rO 0) (alike .special-same) in
     let hs : hole t x ≡ hole s x = sym (hole-alike s t x (alike .special-same)) in
     let gs : Good s = record { size = ns; admits = adm s (cs .good) } in
-    let at : admissible t ≡ true = sym (admissible-alike s t (alike .special-same) (alike .marks-same)) ∙ cs .good in
+    let at : admissible t ≡ true = sym (admissible-alike s t (alike .special-same) (alike .marks-same) (alike .mask-same)) ∙ cs .good in
     let gt : Good t = record { size = nt; admits = adm t at } in
     let fits-t : worst (refusing (shapesOf w)) (sp t rO) (hole s x + 1) ≡ 0 = rw (← os) (cs .fits) in
     let la : stepOf w s (opcodeOf c) x y z ≡ pushedOn w s (hole s x) (targetOfCall c s y z)

@@ -78,6 +78,7 @@ claim-alike s t h x ns nt a = go (isMarginal s x) refl
       pc-same = a .pc-same;
       halt-same = a .halt-same;
       marks-same = a .marks-same;
+      mask-same = a .mask-same;
       rest-same = λ i b. rw (← l) (zero-alike (sp s rL) (x + 1) i (s .general) (t .general) (ns .generals ∙ sym (nt .generals)) (a .rest-same i b));
     }))
     go false e = unfold claimLocal in (rw (e, sym m ∙ e) a)
@@ -125,7 +126,7 @@ demand3-fetched w s t c is ns nt ws wt op alike done pcs off =
     let f : WasFetched w s = done-fetched w s done in
     let u : ℕ = tetraOf w s in
     let x : ℕ = xIn u in
-    let at : admissible t ≡ true = sym (admissible-alike s t (alike .special-same) (alike .marks-same)) ∙ f .admitted in
+    let at : admissible t ≡ true = sym (admissible-alike s t (alike .special-same) (alike .marks-same) (alike .mask-same)) ∙ f .admitted in
     let it : inside (shapesOf w) (t .pc) ≡ true = ap (λ (p : ℕ). inside (shapesOf w) p) (sym (alike .pc-same)) ∙ f .there in
     let cs : State = claimLocal s x in
     let ct : State = claimLocal t x in

@@ -99,7 +99,7 @@ departures = record {
   spill = λ s n e. spilled-same s e;
   spill-general = λ s. unfold spilled withSpecial in refl;
   spill-special = spilled-special;
-  spill-rest = λ s. unfold spilled withSpecial in (refl, refl, refl);
+  spill-rest = λ s. unfold spilled withSpecial in (refl, refl, refl, refl);
   pop-frame = pop-framed;
   unsave-taken = unsave-same;
   get-local = got-same;
@@ -110,5 +110,5 @@ departures = record {
   count-none = λ s n h. count-none s h;
   count-general = λ s c u i. unfold counted withSpecial in refl;
   count-special = count-special;
-  count-rest = λ s c u i. unfold counted withSpecial in (refl, refl, refl);
+  count-rest = λ s c u i. unfold counted withSpecial in (refl, refl, refl, refl);
 }

@@ -190,7 +190,7 @@ module _ (leaves : (w : Windows) (s : State) → Sized s → FetchedLeaves w s (
       }
 
   Most : ℕ → Type 0
-  Most n = (n ≤ 20) ⊎ ((n ≡ 22) ⊎ ((n ≡ 24) ⊎ ((n ≡ 25) ⊎ (n ≡ 29))))
+  Most n = (n ≤ 20) ⊎ ((n ≡ 22) ⊎ ((n ≡ 24) ⊎ ((n ≡ 25) ⊎ ((n ≡ 29) ⊎ (n ≡ 31)))))
 
   unruled-most : (w : Windows) → Most (unruledBy (shapesOf w))
   unfolding Most
@@ -201,7 +201,7 @@ module _ (leaves : (w : Windows) (s : State) → Sized s → FetchedLeaves w s (
   running-most : (g : ℕ) (w : Windows) (s : State) → Ready w s → Most (running g s w .reply)
   unfolding Most
   running-most g w s q =
-      run-by both mmix fetched (λ t m. Ready m t) (λ r. (r .reply ≤ 20) ⊎ ((r .reply ≡ 22) ⊎ ((r .reply ≡ 24) ⊎ ((r .reply ≡ 25) ⊎ (r .reply ≡ 29))))) (λ n r k. k) (λ t m k. inl (omega arith))
+      run-by both mmix fetched (λ t m. Ready m t) (λ r. (r .reply ≤ 20) ⊎ ((r .reply ≡ 22) ⊎ ((r .reply ≡ 24) ⊎ ((r .reply ≡ 25) ⊎ ((r .reply ≡ 29) ⊎ (r .reply ≡ 31)))))) (λ n r k. k) (λ t m k. inl (omega arith))
       (λ t m k n. rw (fetched-on m t) (⊎-elim (λ l. inl l) (⊎-elim (λ e. inr (inl e)) (⊎-elim (λ e. inr (inr (inl e))) (λ e. inr (inr (inr (inr e)))))) (leaves m t (k .sized) .most)))
       (λ t m k d. rw (fetched-on m t) (fetched-ready m t k)) g s w q
 

@@ -3,10 +3,12 @@ use mathlib.Core.Path.{_≡_, refl}
 use mathlib.Core.Bool.{true}
 use Prim.Native.Nat.{ℕ}
 use Rattle.model.specs.Registers.{Sized, admissible, MarginalZero, goes, halted, withSpecial, stored, cleared, isMarginal, claimLocal, setRegister, putLocals, putGlobals, spilled}
-use Rattle.model.specs.Memory.{both}
+use Rattle.model.specs.Memory.{Windows, both}
+use Rattle.model.specs.Lists.{stepOn}
 use Rattle.model.specs.Frames.{slide, pushedRule, pushed, unslide, popped}
 use Rattle.model.specs.Contexts.{savedUnspilled, savedState, unsavedUnspilled, unsaved}
 use Rattle.model.specs.Trips.{interrupted, withAdded}
+use Rattle.model.specs.Step.{Item, mmix}
 use Rattle.model.specs.Invariants.{ItemsKeep}
 use Rattle.model.specs.declared.State.{State}
 use Rattle.model.proofs.Bools.{on}
@@ -35,15 +37,15 @@ good-keeps = record {
   adds = added-good;
 }
 
--- no builder touches the marks
-marks-keep : (m : ℕ) → Keeps (λ t. t .marks ≡ m)
+-- no builder touches the marks, nor the mask: what is said of them alone stays
+rest-keep : (P : ℕ → ℕ → Type 0) → Keeps (λ t. P (t .marks) (t .mask))
 unfolding goes halted setRegister stored claimLocal putLocals putGlobals withSpecial cleared pushed pushedRule slide popped unslide savedState savedUnspilled unsaved unsavedUnspilled spilled interrupted withAdded
-marks-keep m = record {
+rest-keep P = record {
   at-pc = λ s a e. e;
   at-halt = λ s e. e;
-  claim = λ s x e. on (λ (t : State). t .marks ≡ m) (isMarginal s x) (λ f. e) (λ f. e);
+  claim = λ s x e. on (λ (t : State). P (t .marks) (t .mask)) (isMarginal s x) (λ f. e) (λ f. e);
   back = λ s t e f. f;
-  write = λ s x v e. on (λ (t : State). t .marks ≡ m) (isMarginal s x) (λ f. e) (λ f. e);
+  write = λ s x v e. on (λ (t : State). P (t .marks) (t .mask)) (isMarginal s x) (λ f. e) (λ f. e);
   locals = λ s v e. e;
   globals = λ s v a b c e. e;
   status = λ s v a e. e;
@@ -57,6 +59,12 @@ marks-keep m = record {
   adds = λ s f e. e;
 }
 
+rest-same : (P : ℕ → ℕ → Type 0) (w : Windows) (s : State) (i : Item) → P (s .marks) (s .mask)
+    → P (stepOn both mmix s w i .state .marks) (stepOn both mmix s w i .state .mask)
+rest-same P w s i h =
+    item-always (λ t. P (t .marks) (t .mask)) w s i h
+    (item-keeps (λ t. P (t .marks) (t .mask)) (λ t. P (t .marks) (t .mask)) (rest-keep P) (λ t e. e) s (both .shape w) i (λ e. h) h)
+
 good : (s : State) → Sized s → admissible s ≡ true → Good s
 good s n e = record { size = n; admits = adm s e }
 
@@ -66,8 +74,8 @@ items-keep = record {
   admitted = λ w s i n e. item-always (λ t. admissible t ≡ true) w s i e (item-keeps (λ t. admissible t ≡ true) Good good-keeps (λ t g. adm-of t (g .admits)) s (both .shape w) i (good s n) e);
   marginal = λ w s i n m. item-always MarginalZero w s i m
       (item-keeps MarginalZero Calm calm-keeps (λ t c. record { zero-at = c .zero-at }) s (both .shape w) i (λ e. record { good = good s n e; zero-at = m .zero-at }) m);
-  marks = λ w s i. item-always (λ t. t .marks ≡ s .marks) w s i refl
-      (item-keeps (λ t. t .marks ≡ s .marks) (λ t. t .marks ≡ s .marks) (marks-keep (s .marks)) (λ t e. e) s (both .shape w) i (λ e. refl) refl);
+  marks = λ w s i. rest-same (λ m k. m ≡ s .marks) w s i refl;
+  mask = λ w s i. rest-same (λ m k. k ≡ s .mask) w s i refl;
   words = item-words;
   bytes = item-bytes;
 }

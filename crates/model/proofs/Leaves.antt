@@ -71,6 +71,7 @@ interrupts s b w x y z word u v n bw wx xy yz zl =
       pc-unmoved = refl;
       halt-one = refl;
       marks-same = refl;
+      mask-same = refl;
     }
 
 trips : (s : State) (word u v : ℕ) → Sized s → Tripped s (halted (tripped s word u v)) word u v
@@ -104,7 +105,7 @@ Nineteen s op x y z t vs =
     ((armOf op ≡ trip) × Tripped s t (wordOf op x y z) (reg s y) (reg s z) × (vs ≡ [])) ⊎ (IsStore (armOf op) ⊎ Computed s op x y z t vs)
 
 record Answered (s : State) (op x y z : ℕ) (r : ℕ) (t : State) (vs : List ℕ) : Type 0 where
-  most : (r ≤ 20) ⊎ ((r ≡ 22) ⊎ (r ≡ 29))
+  most : (r ≤ 20) ⊎ ((r ≡ 22) ⊎ ((r ≡ 29) ⊎ (r ≡ 31)))
   early : Early r → (t ≡ s) × (vs ≡ [])
   lost : Lost r → (t ≡ s) × (vs ≡ [])
   halting : Halting r → (t ≡ halted s) × (vs ≡ [])
@@ -121,8 +122,10 @@ late n (inr k) (inr f) = omega arith
 
 halting-late : (n : ℕ) → Halting n → Early n → ⊥
 halting-late n (inl h) p = late n (inr (omega arith, omega arith)) p
-halting-late n (inr h) (inl l) = let e : n ≡ 29 = h in omega arith
-halting-late n (inr h) (inr f) = let e : n ≡ 29 = h in let g : n ≡ 22 = f in omega arith
+halting-late n (inr (inl h)) (inl l) = let e : n ≡ 29 = h in omega arith
+halting-late n (inr (inl h)) (inr f) = let e : n ≡ 29 = h in let g : n ≡ 22 = f in omega arith
+halting-late n (inr (inr h)) (inl l) = let e : n ≡ 31 = h in omega arith
+halting-late n (inr (inr h)) (inr f) = let e : n ≡ 31 = h in let g : n ≡ 22 = f in omega arith
 
 module _ (s : State) (op x y z : ℕ) where
   as-done : (t : State) (vs : List ℕ) → t .halt ≡ s .halt → Answered s op x y z 0 t vs

@@ -12,6 +12,7 @@ pub mod Lists
 pub mod RunLaws
 pub mod Numbers
 pub mod AdmissibleKept
+pub mod Mask
 pub mod LoadStore
 pub mod Whole
 pub mod Arithmetic

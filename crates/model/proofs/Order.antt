@@ -1,4 +1,4 @@
--- Theorem 9: the order of judging. A run that is there or not; then SAVE, POP, UNSAVE and the exception.
+-- Theorem 9: the order of judging. A run that is there or not; then GET and PUT, SAVE, POP, UNSAVE and the exception.
 use mathlib.Core.Path.{_≡_, refl, ap, _∙_}
 use mathlib.Core.Logic.{_≢_}
 use mathlib.Core.Bool.{Bool, true, false}
@@ -9,14 +9,15 @@ use lib.Count.{leadingZeros}
 use lib.ListN.{length, getD}
 use borrow.Author.Tests.{le-ltb, lt-ltb, le-leb, lt-leb, ne-eqb}
 use Rattle.model.specs.Fill.{tab}
-use Rattle.model.specs.Registers.{rJ, rO, rG, sp, reg, admissible, goes, next, halted, withSpecial}
+use Rattle.model.specs.Registers.{rJ, rO, rG, sp, reg, hides, admissible, goes, next, halted, withSpecial}
 use Rattle.model.specs.Memory.{Windows, shapesOf, ruled, shares, inside, both}
 use Rattle.model.specs.Plan.{Plan, answer, read, clear, named, looks, perform}
-use Rattle.model.specs.Opcodes.{armOf}
-use Rattle.model.specs.NoMemory.{say, tell}
+use Rattle.model.specs.Opcodes.{Operand, put, armOf}
+use Rattle.model.specs.NoMemory.{say, refuse, tell}
 use Rattle.model.specs.Control.{yzOf}
 use Rattle.model.specs.Frames.{noFrame, misplaced, popRule, popFrame}
 use Rattle.model.specs.Contexts.{extent, saved, savedState, saveContext, below, unsaved, contextRest, contextCount, contextAt, unsaveContext}
+use Rattle.model.specs.System.{putSpecial, getSpecial}
 use Rattle.model.specs.Trips.{enabled, isLoaded, withAdded, tripTo, raised}
 use Rattle.model.specs.Step.{refusalOf, unruledBy, refusing, planOf, stepOf, exceptionOf}
 use Rattle.model.specs.Order.{refusedBy, haltedBy, Passes, Packed, Counted, StepsInOrder}
@@ -24,8 +25,9 @@ use Rattle.model.specs.declared.State.{State}
 use Rattle.model.proofs.Runs.{length-tab}
 use Rattle.model.proofs.ArmAnswers.{worst-six}
 use Rattle.model.proofs.Entry.{performOn, said, step-open, unruled-two, unruled-shared}
-use Rattle.model.proofs.StepByArm.{passing, step-refused, step-inadmissible, step-unruled}
+use Rattle.model.proofs.StepByArm.{passing, step-told, step-refused, step-inadmissible, step-unruled}
 use Rattle.model.proofs.Rules.{has-clear}
+use Rattle.model.proofs.Mask.{hidden-special}
 
 -- ---- 1 to 5, and 22
 
@@ -61,6 +63,15 @@ missed-store w s t a vs e = rw (e, worst-six (shapesOf w) (length vs) a e)
 
 one-there : (w : Windows) (a : ℕ) (b : Bool) → inside (shapesOf w) a ≡ b → clear (refusing (shapesOf w)) a 1 ≡ b
 one-there w a b e = has-clear (shapesOf w) a ∙ e
+
+-- ---- GET and PUT
+
+get-thirty-one : (w : Windows) (s : State) (x y z : ℕ) → Passes w s → hides (s .mask) z ≡ true → stepOf w s 0xFE x y z ≡ haltedBy 31 w s
+get-thirty-one w s x y z h e = step-told w s (h .admitted) (passing w s h) 0xFE x y z (refuse 31 s)
+    (unfold refusalOf armOf in (rw (le-ltb 31 z (hidden-special (s .mask) z e)))) (unfold planOf armOf getSpecial in (rw e))
+
+put-thirty-one : (w : Windows) (s : State) (op x y z : ℕ) (o : Operand) → armOf op ≡ put o → Passes w s → hides (s .mask) x ≡ true → stepOf w s op x y z ≡ haltedBy 31 w s
+put-thirty-one w s op x y z o a h e = step-told w s (h .admitted) (passing w s h) op x y z (refuse 31 s) (unfold refusalOf in (rw a)) (unfold planOf putSpecial in (rw (a, e)))
 
 -- ---- SAVE
 
@@ -169,6 +180,8 @@ steps-in-order = record {
   two-next = two-next;
   twenty-two = twenty-two;
   three-to-five = three-to-five;
+  get-thirty-one = get-thirty-one;
+  put-thirty-one = put-thirty-one;
   save-thirteen = save-thirteen;
   save-six = save-six;
   pop-twenty-nine = pop-twenty-nine;

@@ -26,7 +26,7 @@ use Rattle.model.proofs.Bools.{on-both}
 slide-alike : (s t : State) (h n : ℕ) → Sized s → Sized t → h ≤ n → h ≤ sp s rG → Alike h s t → slide s n ≡ slide t n
 unfolding slide
 slide-alike s t h n ns nt l b a =
-    λ i. record { general = generals i; special = specials i; pc = a .pc-same i; halt = a .halt-same i; marks = a .marks-same i }
+    λ i. record { general = generals i; special = specials i; pc = a .pc-same i; halt = a .halt-same i; marks = a .marks-same i; mask = a .mask-same i }
   where
     gs : sp s rG ≡ sp t rG
     gs = ap (λ (l : List ℕ). getD l rG 0) (a .special-same)

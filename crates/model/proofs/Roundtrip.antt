@@ -133,15 +133,15 @@ module _ (s : State) (x : ℕ) (good : Good s) (vs : List ℕ) (are : (i : ℕ) 
       let n : length (back .special) ≡ 32 = unsaved-good (parked s x) (sp s rO) (sp s rG) (sp s rA) (sp s rL) vs (b .g-low) (b .g-high) (b .a-high) (b .l-g) (parked-good s x good) .size .specials in
       ext-getD 0 (back .special) (set (s .special) rS (sp s rO)) (n ∙ sym (length-set (s .special) rS (sp s rO) ∙ good .size .specials)) (λ k l. back-special k (omega arith) (ℕ-discrete k rS))
 
-  back-rest : (back .pc ≡ following s) × (back .halt ≡ s .halt) × (back .marks ≡ s .marks)
+  back-rest : (back .pc ≡ following s) × (back .halt ≡ s .halt) × (back .marks ≡ s .marks) × (back .mask ≡ s .mask)
   unfolding unsaved spilled withSpecial unsavedUnspilled savedState savedUnspilled stored goes
-  back-rest = (refl, refl, refl)
+  back-rest = (refl, refl, refl, refl)
 
   -- two steps on
   back-is : next back ≡ unparked s
   unfolding unparked goes
   back-is =
-      let r : (back .pc ≡ following s) × (back .halt ≡ s .halt) × (back .marks ≡ s .marks) = back-rest in
+      let r : (back .pc ≡ following s) × (back .halt ≡ s .halt) × (back .marks ≡ s .marks) × (back .mask ≡ s .mask) = back-rest in
       let p : back .pc ≡ following s = r .0 in
       let on-two : (back .pc + 4) % 2 ^ 64 ≡ (s .pc + 8) % 2 ^ 64 = rw p (omega arith) in
       λ i. record {
@@ -150,6 +150,7 @@ module _ (s : State) (x : ℕ) (good : Good s) (vs : List ℕ) (are : (i : ℕ) 
         pc = on-two i;
         halt = r .1 i;
         marks = r .2 i;
+        mask = r .3 i;
       }
 
 -- SAVE puts the address in $X: X is a byte

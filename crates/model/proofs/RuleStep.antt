@@ -12,7 +12,7 @@ use lib.Seq.{set-getD}
 use borrow.Author.Tests.{leb-true, le-ltb, lt-leb}
 use Rattle.model.specs.Fill.{tab}
 use Rattle.model.specs.Octa.{octa}
-use Rattle.model.specs.Registers.{withParts, rJ, rO, rS, rG, sp, reg, admissible, next, withSpecial, spilled}
+use Rattle.model.specs.Registers.{withParts, rJ, rO, rS, rG, sp, reg, hides, admissible, next, withSpecial, spilled}
 use Rattle.model.specs.Memory.{Windows, shapesOf, both}
 use Rattle.model.specs.Plan.{Plan, answer, read, Outcome, perform, mapPlan, mapOutcome}
 use Rattle.model.specs.Opcodes.{Width, Sign, Operand, register, immediate, Arm, branch, jump, getAddress, go, pushJump, pushGo, pop, put, get, save, unsave, sync, swym, trip, trap, load, store, arithmetic, none, armOf}
@@ -20,7 +20,7 @@ use Rattle.model.specs.NoMemory.{Said, say, tell}
 use Rattle.model.specs.Control.{near, yzOf, xyzOf, sumOf, operandOf, isNegative}
 use Rattle.model.specs.Frames.{popRule, noFrame, misplaced, popFrame}
 use Rattle.model.specs.Contexts.{extent, saved, savedState, saveContext}
-use Rattle.model.specs.System.{putRefusal, putState, putSpecial, syncOf}
+use Rattle.model.specs.System.{putRefusal, putState, putSpecial, got, getSpecial, syncOf}
 use Rattle.model.specs.Trips.{wordOf, isLoaded, enabled}
 use Rattle.model.specs.LoadStore.{merged, fits, loadFrom, flagV, storeSays, storeTo}
 use Rattle.model.specs.ArithmeticStep.{operandsOf, resultsIn, withResults, arithmeticSays}
@@ -72,9 +72,13 @@ last-same s f register register x y z h = h .1
 last-same s f immediate register x y z h = h
 last-same s f p immediate x y z h = refl
 
-put-done : (s : State) (x v : ℕ) → putRefusal s x v ≡ 0 → putSpecial s x v ≡ say 0 (next (putState s x v))
+put-done : (s : State) (x v : ℕ) → hides (s .mask) x ≡ false → putRefusal s x v ≡ 0 → putSpecial s x v ≡ say 0 (next (putState s x v))
 unfolding putSpecial
-put-done s x v e = rw e
+put-done s x v f e = rw (f, e)
+
+get-done : (s : State) (x z : ℕ) → hides (s .mask) z ≡ false → getSpecial s x z ≡ say 0 (next (got s x z))
+unfolding getSpecial
+get-done s x z e = rw e
 
 save-done : (s : State) (x : ℕ) → leb (sp s rG) x ≡ true → saveContext s x ≡ answer 0 (next (savedState s x)) (sp s rO) (tab 0 (extent s) (saved s))
 unfolding saveContext
@@ -123,8 +127,8 @@ arm-same w s (pushJump d) op x y z h = by-plans w s (pushJump d) op x y z (push-
 arm-same w s (pushGo register) op x y z h = by-plans w s (pushGo register) op x y z (rw (sum-same s register y z (h .reads .0) (h .reads .1)) (push-plans s x (sumOf s register y z) (h .reads .2)))
 arm-same w s (pushGo immediate) op x y z h = by-plans w s (pushGo immediate) op x y z (rw (sum-same s immediate y z (h .reads .0) refl) (push-plans s x (sumOf s immediate y z) (h .reads .1)))
 arm-same w s pop op x y z h = by-plans w s pop op x y z (rw (pop-framed s x ((sp s rJ + 4 * yzOf y z) % 2 ^ 64) (h .pop-frame refl) (h .pop-placed refl)) (pop-plans s x ((sp s rJ + 4 * yzOf y z) % 2 ^ 64) (h .pop-frame refl) (h .pop-placed refl)))
-arm-same w s (put o) op x y z h = by-plans w s (put o) op x y z (rw (operand-same s o x y z (h .reads), h .put-y o refl, put-done s x (operandOf s o z) (h .put-legal o refl), h .put-legal o refl))
-arm-same w s get op x y z h = by-plans w s get op x y z (rw (h .get-y refl, h .get-known refl, le-ltb 31 z (leb-true z 31 (h .get-known refl)), got-same s x z (h .get-local refl)))
+arm-same w s (put o) op x y z h = by-plans w s (put o) op x y z (rw (operand-same s o x y z (h .reads), h .put-y o refl, put-done s x (operandOf s o z) (h .put-seen o refl) (h .put-legal o refl), h .put-legal o refl))
+arm-same w s get op x y z h = by-plans w s get op x y z (rw (h .get-y refl, h .get-known refl, le-ltb 31 z (leb-true z 31 (h .get-known refl)), get-done s x z (h .get-seen refl), got-same s x z (h .get-local refl)))
 arm-same w s save op x y z h = by-plans w s save op x y z (rw (h .save-yz refl .0, h .save-yz refl .1, save-done s x (h .save-global refl), h .save-global refl))
 arm-same w s unsave op x y z h = unsave-arm w s op x y z (h .unsave-xy refl .0) (h .unsave-xy refl .1) (h .reads) (h .unsave-low refl) (h .unsave-taken refl)
 arm-same w s sync op x y z h = by-plans w s sync op x y z (rw (sync-done s (xyzOf x y z) (h .sync-legal refl), h .sync-legal refl))

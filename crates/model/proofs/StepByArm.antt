@@ -106,7 +106,7 @@ unfolding Onward
 onward-sent s o e = go (eqb (o .reply) 0) refl
   where
     at : (a : ℕ) → o .state .pc ≡ a → o .state ≡ goes (o .state) a
-    at a q = unfold goes in (λ i. record { general = o .state .general; special = o .state .special; pc = q i; halt = o .state .halt; marks = o .state .marks })
+    at a q = unfold goes in (λ i. record { general = o .state .general; special = o .state .special; pc = q i; halt = o .state .halt; marks = o .state .marks; mask = o .state .mask })
 
     state : (b : Bool) → o .state .pc ≡ cond b (following s) (s .pc) → o .state ≡ cond b (goes (goes (o .state) (s .pc)) (following s)) (goes (o .state) (s .pc))
     state true q = at (following s) q ∙ (unfold goes in refl)

@@ -79,8 +79,8 @@ tail-below b x xs h = record { at = λ k. h .at (suc k) }
 abbrev Word : ℕ → Type 0
 Word n = n < 2 ^ 64
 
-pub words-by : (t : State) → Below (2 ^ 64) (t .general) → Below (2 ^ 64) (t .special) → Word (t .pc) → Word (t .halt) → Word (t .marks) → Words t
-words-by t g s p h m = record { general-word = g .at; special-word = s .at; pc-word = p; halt-word = h; marks-word = m }
+pub words-by : (t : State) → Below (2 ^ 64) (t .general) → Below (2 ^ 64) (t .special) → Word (t .pc) → Word (t .halt) → Word (t .marks) → Word (t .mask) → Words t
+words-by t g s p h m k = record { general-word = g .at; special-word = s .at; pc-word = p; halt-word = h; marks-word = m; mask-word = k }
 
 generals : (s : State) → Words s → Below (2 ^ 64) (s .general)
 generals s h = record { at = h .general-word }
@@ -90,15 +90,15 @@ specials s h = record { at = h .special-word }
 
 goes-words : (s : State) (a : ℕ) → Word a → Words s → Words (goes s a)
 unfolding goes
-goes-words s a b h = words-by (goes s a) (generals s h) (specials s h) b (h .halt-word) (h .marks-word)
+goes-words s a b h = words-by (goes s a) (generals s h) (specials s h) b (h .halt-word) (h .marks-word) (h .mask-word)
 
 pub halted-words : (s : State) → Words s → Words (halted s)
 unfolding halted
-halted-words s h = words-by (halted s) (generals s h) (specials s h) (h .pc-word) (omega arith) (h .marks-word)
+halted-words s h = words-by (halted s) (generals s h) (specials s h) (h .pc-word) (omega arith) (h .marks-word) (h .mask-word)
 
 pub special-words : (s : State) (k v : ℕ) → Word v → Words s → Words (withSpecial s k v)
 unfolding withSpecial
-special-words s k v b h = words-by (withSpecial s k v) (generals s h) (set-below (2 ^ 64) (s .special) k v (specials s h) b) (h .pc-word) (h .halt-word) (h .marks-word)
+special-words s k v b h = words-by (withSpecial s k v) (generals s h) (set-below (2 ^ 64) (s .special) k v (specials s h) b) (h .pc-word) (h .halt-word) (h .marks-word) (h .mask-word)
 
 spilled-words : (s : State) → Words s → Words (spilled s)
 unfolding spilled
@@ -106,12 +106,12 @@ spilled-words s h = special-words s rS (sp s rO) (h .special-word rO) h
 
 stored-words : (s : State) (x v : ℕ) → Word v → Words s → Words (stored s x v)
 unfolding stored
-stored-words s x v b h = words-by (stored s x v) (set-below (2 ^ 64) (s .general) x v (generals s h) b) (specials s h) (h .pc-word) (h .halt-word) (h .marks-word)
+stored-words s x v b h = words-by (stored s x v) (set-below (2 ^ 64) (s .general) x v (generals s h) b) (specials s h) (h .pc-word) (h .halt-word) (h .marks-word) (h .mask-word)
 
 cleared-words : (s : State) (a b : ℕ) → Words s → Words (cleared s a b)
 unfolding cleared
 cleared-words s a b h =
-    words-by (cleared s a b) (over-bound (2 ^ 64) (λ k. 0) a b (s .general) (omega arith) (generals s h) (λ k. omega arith)) (specials s h) (h .pc-word) (h .halt-word) (h .marks-word)
+    words-by (cleared s a b) (over-bound (2 ^ 64) (λ k. 0) a b (s .general) (omega arith) (generals s h) (λ k. omega arith)) (specials s h) (h .pc-word) (h .halt-word) (h .marks-word) (h .mask-word)
 
 -- rL after a claim is at most rG
 pub claim-words : (s : State) (x : ℕ) → Words s → Words (claimLocal s x)
@@ -143,7 +143,7 @@ slide-words s n h = let l : sp s rL < 2 ^ 64 = h .special-word rL in
     (over-bound (2 ^ 64) (slid s n) 0 (sp s rG) (s .general) (omega arith) (generals s h)
     (λ k. unfold slid in (on Word (ltb k (sp s rL - n)) (λ e. let g : reg s (n + k) < 2 ^ 64 = h .general-word (n + k) in omega arith) (λ e. omega arith))))
     (set-below (2 ^ 64) _ rO ((sp s rO + 8 * n) % 2 ^ 64) (set-below (2 ^ 64) (s .special) rL (sp s rL - n) (specials s h) (omega arith)) (omega arith))
-    (h .pc-word) (h .halt-word) (h .marks-word)
+    (h .pc-word) (h .halt-word) (h .marks-word) (h .mask-word)
 
 pushed-words : (s : State) (h : ℕ) → Words s → Words (pushed s h)
 unfolding pushed pushedRule
@@ -167,14 +167,14 @@ popped-words s x h ls ws w = spilled-words _ moved
         words-by (unslide s x h ls)
         (over-bound (2 ^ 64) (restored s x h ls) 0 (sp s rG) (s .general) (omega arith) (generals s w) (λ i. restored-word s x h ls i ws w))
         (set-below (2 ^ 64) _ rO (sp s rO - 8 * (h + 1)) (set-below (2 ^ 64) (s .special) rL (min (h + countOf s x) (sp s rG)) (specials s w) (omega arith)) (omega arith))
-        (w .pc-word) (w .halt-word) (w .marks-word))
+        (w .pc-word) (w .halt-word) (w .marks-word) (w .mask-word))
 
 saved-words : (s : State) (x : ℕ) → Words s → Words (savedState s x)
 unfolding savedState savedUnspilled stored
 saved-words s x w = spilled-words _ (words-by _
     (set-below (2 ^ 64) _ x (contextAddress s) (over-bound (2 ^ 64) (λ i. 0) 0 (sp s rG) (s .general) (omega arith) (generals s w) (λ i. omega arith)) (omega arith))
     (set-below (2 ^ 64) _ rO ((sp s rO + 8 * extent s) % 2 ^ 64) (set-below (2 ^ 64) (s .special) rL 0 (specials s w) (omega arith)) (omega arith))
-    (w .pc-word) (w .halt-word) (w .marks-word))
+    (w .pc-word) (w .halt-word) (w .marks-word) (w .mask-word))
 
 unsaved-word : (s : State) (o g a l : ℕ) (vs : List ℕ) (k : ℕ) → Word o → g ≤ 255 → a ≤ 0x3FFFF → l ≤ g → Below (2 ^ 64) vs → Words s → Word (unsavedSpecial s o g a l vs k)
 unfolding unsavedSpecial
@@ -188,7 +188,7 @@ unsaved-words s o g a l vs wo b c d ws w = spilled-words _ (words-by _
     (over-bound (2 ^ 64) (unsavedGeneral g l vs) 0 256 (s .general) (omega arith) (generals s w)
     (λ i. unfold unsavedGeneral in (on Word (ltb i l) (λ e. ws .at _) (λ e. on Word (ltb i g) (λ e. omega arith) (λ e. ws .at _)))))
     (over-bound (2 ^ 64) (unsavedSpecial s o g a l vs) 0 32 (s .special) (omega arith) (specials s w) (λ k. unsaved-word s o g a l vs k wo b c d ws w))
-    (w .pc-word) (w .halt-word) (w .marks-word))
+    (w .pc-word) (w .halt-word) (w .marks-word) (w .mask-word))
 
 interrupted-words : (s : State) (b w x y z word u v : ℕ) → Word word → Word u → Word v → Words s → Words (interrupted s b w x y z word u v)
 unfolding interrupted
@@ -196,7 +196,7 @@ interrupted-words s b w x y z word u v p q r h = words-by _
     (set-below (2 ^ 64) (s .general) 255 (sp s rJ) (generals s h) (h .special-word rJ))
     (set-below (2 ^ 64) _ z v (set-below (2 ^ 64) _ y u (set-below (2 ^ 64) _ x word (set-below (2 ^ 64) _ w (following s)
     (set-below (2 ^ 64) (s .special) b (reg s 255) (specials s h) (h .general-word 255)) (omega arith)) p) q) r)
-    (h .pc-word) (h .halt-word) (h .marks-word)
+    (h .pc-word) (h .halt-word) (h .marks-word) (h .mask-word)
 
 added-words : (s : State) (f : ℕ) → Words s → Words (withAdded s f)
 unfolding withAdded
@@ -340,7 +340,7 @@ instruction-words w s op x y z f b h = go (claims op) refl
     back : (r : ℕ) (t : State) → Words t → Words (settledBy s r t)
     back r t k = unfold settledBy in
         (on Words (keepsClaim r) (λ e. k)
-        (λ e. record { general-word = h .general-word; special-word = h .special-word; pc-word = k .pc-word; halt-word = k .halt-word; marks-word = k .marks-word }))
+        (λ e. record { general-word = h .general-word; special-word = h .special-word; pc-word = k .pc-word; halt-word = k .halt-word; marks-word = k .marks-word; mask-word = k .mask-word }))
 
     go : (c : Bool) → claims op ≡ c → Words (performOn w s (instructionPlan s op x y z) .state)
     go true e = rw (instruction-claims w s op x y z e) (back _ _ (three-words w (claimLocal s x) op x y z f b (claim-words s x h)))

@@ -53,7 +53,7 @@ abbrev enabling : ℕ → State → State
 enabling a s = withSpecial (calling s) rA a
 
 abbrev unloaded : State → State
-unloaded s = record { general = s .general; special = s .special; pc = s .pc; halt = s .halt; marks = 0 }
+unloaded s = record { general = s .general; special = s .special; pc = s .pc; halt = s .halt; marks = 0; mask = s .mask }
 
 -- $255 = rJ, rB, rW, rX, rY, rZ of an instruction op x 2 3
 abbrev taken : State → ℕ → ℕ → ℕ → ℕ → ℕ → State

@@ -31,7 +31,7 @@ sameList (x ∷ xs) (y ∷ ys) = eqb x y && sameList xs ys
 abbrev pub sameState : State → State → Bool
 sameState s t =
     sameList (s .general) (t .general)
-    && (sameList (s .special) (t .special) && (eqb (s .pc) (t .pc) && (eqb (s .halt) (t .halt) && eqb (s .marks) (t .marks))))
+    && (sameList (s .special) (t .special) && (eqb (s .pc) (t .pc) && (eqb (s .halt) (t .halt) && (eqb (s .marks) (t .marks) && eqb (s .mask) (t .mask)))))
 
 abbrev sameOne : Window → Window → Bool
 sameOne v w = eqb (v .base) (w .base) && sameList (v .bytes) (w .bytes)
@@ -53,7 +53,7 @@ allMet (c ∷ cs) = met c && allMet cs
 
 -- "Start: fresh state, all vectors loaded, the program's window, unless told"
 unfoldable pub start : State
-start = record { general = fresh .general; special = fresh .special; pc = 0; halt = 0; marks = 0x1FF }
+start = record { general = fresh .general; special = fresh .special; pc = 0; halt = 0; marks = 0x1FF; mask = 0 }
 
 -- B alone: A is empty
 abbrev pub stackAlone : Window → Windows
@@ -89,7 +89,7 @@ point s w is rs t v = record { begin = s; window = w; items = is; replies = rs; 
 abbrev does : State → Item → State → Point
 does s i t = point s program (i ∷ []) (0 ∷ []) t program
 
--- one item that is refused by a number from 7 to 18, or by 29
+-- one item that is refused by a number from 7 to 18, or by 29 or 31
 abbrev refuses : State → Item → ℕ → Point
 refuses s i n = point s program (i ∷ []) (n ∷ []) (halted s) program
 

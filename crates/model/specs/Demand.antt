@@ -40,6 +40,7 @@ pub record Alike (h : ℕ) (s t : State) : Type 0 where
   pub pc-same : s .pc ≡ t .pc
   pub halt-same : s .halt ≡ t .halt
   pub marks-same : s .marks ≡ t .marks
+  pub mask-same : s .mask ≡ t .mask
   pub rest-same : (i : ℕ) → h ≤ i → reg s i ≡ reg t i
 
 -- equal byte by byte outside the octabytes of F

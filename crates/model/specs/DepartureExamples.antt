@@ -5,7 +5,7 @@ use mathlib.Core.Bool.{Bool, true, false, _&&_}
 use mathlib.Core.List.{List, [], _∷_, _++_}
 use lib.Dec.{eqb}
 use lib.ListN.{replicate}
-use Rattle.model.specs.Registers.{rB, rJ, rR, rO, rS, rT, rK, rG, rL, rA, rY, rZ, rWW, rXX, stackStart, sp, fresh, goes, halted, withSpecial, stored, rC, rI, rU}
+use Rattle.model.specs.Registers.{rB, rJ, rR, rBB, rO, rS, rT, rK, rG, rL, rA, rY, rZ, rWW, rXX, stackStart, sp, fresh, masked, goes, halted, withSpecial, stored, rC, rI, rU}
 use Rattle.model.specs.Memory.{Windows, putOcta}
 use Rattle.model.specs.Plan.{Outcome}
 use Rattle.model.specs.Step.{stepOf}
@@ -175,6 +175,12 @@ interruptExamples =
     ∷ interrupted start 0xFC 0 0 8 18
     ∷ plain start nowhere 0xFE 255 0 32 5 start interrupts ∷ []
 
+-- GET $255,rN with rN hidden; PUT rBB,1 with rBB hidden
+abbrev hiddenExamples : List Example
+hiddenExamples =
+    plain (masked start 0x200) nowhere 0xFE 255 0 9 31 (halted (masked start 0x200)) (goesOn (goes (stored (masked start 0x200) 255 2009) 4))
+    ∷ plain (masked start 0x80) nowhere 0xF7 7 0 1 31 (halted (masked start 0x80)) (goesOn (goes (withSpecial (masked start 0x80) rBB 1) 4)) ∷ []
+
 -- TRIP 0,0,0 with no vector loaded; TRAP 1,0,0 and the named TRAP 0,0,0
 abbrev trapRegisters : State → ℕ → State
 trapRegisters s word = withSpecial (withSpecial s rWW 4) rXX (2 ^ 63 + word)
@@ -221,7 +227,7 @@ arithmeticExample = plain (dividing 5) nowhere 0x1D 254 254 0 19 (halted checked
 unfoldable pub examples : List Example
 examples =
     spillExample ∷ getExample ∷ thresholdExample ∷ arithmeticExample
-    ∷ (popExamples ++ (marginalExamples ++ (unsaveExamples ++ (byteExamples ++ (interruptExamples ++ (tripExamples ++ loadStoreExamples))))))
+    ∷ (popExamples ++ (marginalExamples ++ (unsaveExamples ++ (byteExamples ++ (interruptExamples ++ (hiddenExamples ++ (tripExamples ++ loadStoreExamples)))))))
 
 -- Knuth's UNSAVE with more locals than rG, two where rG is 1, and with fewer: rL is cut to rG, and globals follow all that was saved
 abbrev saves : List ℕ

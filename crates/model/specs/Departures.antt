@@ -8,7 +8,7 @@ use mathlib.Core.Bool.{Bool, true, false, cond, _&&_}
 use lib.Dec.{leb, ltb, eqb}
 use lib.Count.{leadingZeros}
 use Rattle.model.specs.Octa.{octa}
-use Rattle.model.specs.Registers.{rC, rO, rS, rI, rU, rG, rL, rK, sp, reg, Sized, Words, MarginalZero, isMarginal, spilled}
+use Rattle.model.specs.Registers.{rC, rO, rS, rI, rU, rG, rL, rK, sp, reg, hides, Sized, Words, MarginalZero, isMarginal, spilled}
 use Rattle.model.specs.Memory.{Windows, shapesOf, inside, both}
 use Rattle.model.specs.Plan.{look, mapOutcome, perform}
 use Rattle.model.specs.Opcodes.{Operand, register, immediate, Width, Sign, Arm, branch, jump, getAddress, go, pushJump, pushGo, pop, put, get, save, unsave, sync, swym, trip, trap, load, store, arithmetic, none, armOf}
@@ -93,6 +93,9 @@ pub record Outside (w : Windows) (s : State) (a : Arm) (x y z : ℕ) : Type 0 wh
   pub get-known : a ≡ get → leb z 31 ≡ true
   pub save-global : a ≡ save → leb (sp s rG) x ≡ true
   pub sync-legal : a ≡ sync → leb (xyzOf x y z) 3 ≡ true
+  -- no hidden register is named: 31
+  pub put-seen : (o : Operand) → a ≡ put o → hides (s .mask) x ≡ false
+  pub get-seen : a ≡ get → hides (s .mask) z ≡ false
   -- GET does not read rL into a marginal register
   pub get-local : a ≡ get → (eqb z rL && isMarginal s x) ≡ false
   -- POP has a frame, at a place for one
@@ -147,7 +150,7 @@ pub record Departures : Type 0 where
   pub spill : (s : State) → Sized s → sp s rS ≡ sp s rO → spilled s ≡ s
   pub spill-general : (s : State) → spilled s .general ≡ s .general
   pub spill-special : (s : State) (k : ℕ) → k ≢ rS → sp (spilled s) k ≡ sp s k
-  pub spill-rest : (s : State) → (spilled s .pc ≡ s .pc) × (spilled s .halt ≡ s .halt) × (spilled s .marks ≡ s .marks)
+  pub spill-rest : (s : State) → (spilled s .pc ≡ s .pc) × (spilled s .halt ≡ s .halt) × (spilled s .marks ≡ s .marks) × (spilled s .mask ≡ s .mask)
   -- POP without a frame, and with a misplaced rO
   pub pop-frame : (s : State) (x t : ℕ) → noFrame s ≡ false → misplaced s ≡ false → popFrame s x t ≡ popRule s x t
   -- UNSAVE: 14, 15 and 16, and the low bits of the address
@@ -166,4 +169,5 @@ pub record Departures : Type 0 where
   pub count-none : (s : State) → Sized s → Words s → counted 0 0 0 s ≡ s
   pub count-general : (s : State) (c u i : ℕ) → counted c u i s .general ≡ s .general
   pub count-special : (s : State) (c u i k : ℕ) → k ≢ rC → k ≢ rU → k ≢ rI → sp (counted c u i s) k ≡ sp s k
-  pub count-rest : (s : State) (c u i : ℕ) → (counted c u i s .pc ≡ s .pc) × (counted c u i s .halt ≡ s .halt) × (counted c u i s .marks ≡ s .marks)
+  pub count-rest : (s : State) (c u i : ℕ)
+      → (counted c u i s .pc ≡ s .pc) × (counted c u i s .halt ≡ s .halt) × (counted c u i s .marks ≡ s .marks) × (counted c u i s .mask ≡ s .mask)

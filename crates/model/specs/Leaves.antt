@@ -35,6 +35,7 @@ pub record Interrupted (s t : State) (b w x y z word u v : ℕ) : Type 0 where
   pub pc-unmoved : t .pc ≡ s .pc
   pub halt-one : t .halt ≡ 1
   pub marks-same : t .marks ≡ s .marks
+  pub mask-same : t .mask ≡ s .mask
 
 abbrev pub Tripped : State → State → ℕ → ℕ → ℕ → Type 0
 Tripped s t word u v = Interrupted s t rB rW rX rY rZ word u v
@@ -79,11 +80,11 @@ Sharing w = (ruled w ≡ true) × (shares w ≡ true)
 
 -- what a step leaves
 pub record StepLeaves (w : Windows) (s : State) (op x y z : ℕ) (o : Outcome State Windows) : Type 0 where
-  pub most : (o .reply ≤ 20) ⊎ ((o .reply ≡ 22) ⊎ (o .reply ≡ 29))
+  pub most : (o .reply ≤ 20) ⊎ ((o .reply ≡ 22) ⊎ ((o .reply ≡ 29) ⊎ (o .reply ≡ 31)))
   -- 1 to 6 and 22
   pub early : Early (o .reply) → (o .state ≡ s) × (o .memory ≡ w)
   pub lost : Lost (o .reply) → (o .state ≡ s) × (o .memory ≡ w)
-  -- 7 to 18 and 29
+  -- 7 to 18, 29 and 31
   pub halting : Halting (o .reply) → (o .state ≡ halted s) × (o .memory ≡ w)
   pub nineteen : o .reply ≡ 19 → TripLeaves w s op x y z o ⊎ (StoreLeaves w s op x y z o ⊎ ArithmeticLeaves w s op x y z o)
   pub twenty : o .reply ≡ 20 → Trapped s (o .state) (wordOf op x y z) (reg s y) (reg s z) × (o .memory ≡ w)
@@ -99,11 +100,11 @@ pub record ExceptionLeaves (s : State) (f op x y z u v : ℕ) (d : Said) : Type 
 
 -- what a fetched instruction leaves, t its tetra and c the state that its arm works on
 pub record TetraLeaves (w : Windows) (s c : State) (t : ℕ) (o : Outcome State Windows) : Type 0 where
-  pub most : (o .reply ≤ 20) ⊎ ((o .reply ≡ 22) ⊎ ((o .reply ≡ 24) ⊎ (o .reply ≡ 29)))
+  pub most : (o .reply ≤ 20) ⊎ ((o .reply ≡ 22) ⊎ ((o .reply ≡ 24) ⊎ ((o .reply ≡ 29) ⊎ (o .reply ≡ 31))))
   -- 1 to 5 and 22; 6 and 24: the halt code too
   pub early : Early (o .reply) → (o .state ≡ s) × (o .memory ≡ w)
   pub missed : Missed (o .reply) → (o .state ≡ s) × (o .memory ≡ w)
-  -- 7 to 18 and 29: "An instruction refused by any number but 19 takes its claim back"
+  -- 7 to 18, 29 and 31: "An instruction refused by any number but 19 takes its claim back"
   pub halting : Halting (o .reply) → (o .state ≡ halted s) × (o .memory ≡ w)
   -- 19: as the step leaves it, of the claimed state
   pub nineteen : o .reply ≡ 19
@@ -129,7 +130,7 @@ pub record LastLeaves (w : Windows) (s : State) (r : Stopped State Windows) : Ty
   pub halt-kept : reached .halt ≡ s .halt
 
 pub record RunLeaves (w : Windows) (s : State) (grant : ℕ) (r : Stopped State Windows) : Type 0 where
-  pub most : (r .reply ≤ 20) ⊎ ((r .reply ≡ 22) ⊎ ((r .reply ≡ 24) ⊎ ((r .reply ≡ 25) ⊎ (r .reply ≡ 29))))
+  pub most : (r .reply ≤ 20) ⊎ ((r .reply ≡ 22) ⊎ ((r .reply ≡ 24) ⊎ ((r .reply ≡ 25) ⊎ ((r .reply ≡ 29) ⊎ (r .reply ≡ 31)))))
   pub refused : CallPasses w s grant → r .reply ≢ 0 → LastLeaves w s r
   pub spent : r .reply ≡ 0 → r .state .halt ≡ s .halt
 

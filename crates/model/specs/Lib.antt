@@ -50,4 +50,5 @@ pub mod Fetched
 pub mod RunMeant
 pub mod Reaches
 pub mod PopOrder
+pub mod Unseen
 pub mod FieldPoints

@@ -76,7 +76,7 @@ abbrev enabling : State → State
 enabling s = withSpecial (withSpecial (stored s 255 7) rJ 9) rA 0x4000
 
 abbrev unloaded : State → State
-unloaded s = record { general = s .general; special = s .special; pc = s .pc; halt = s .halt; marks = 0x1FB }
+unloaded s = record { general = s .general; special = s .special; pc = s .pc; halt = s .halt; marks = 0x1FB; mask = s .mask }
 
 -- rB, $255, rW, rX, rY and rZ of a store of the value u in $x
 abbrev taken : State → ℕ → ℕ → ℕ → State

@@ -12,7 +12,7 @@ pub record Said : Type 0 where
 abbrev pub say : ℕ → State → Said
 say r s = record { reply = r; state = s }
 
--- 7 to 18 and 29: "halt code 1 only"
+-- 7 to 18, 29 and 31: "halt code 1 only"
 abbrev pub refuse : ℕ → State → Said
 refuse r s = say r (halted s)
 

@@ -5,7 +5,7 @@ use mathlib.Core.Logic.{_⊎_}
 use mathlib.Core.List.{[], _∷_}
 use lib.ListN.{getD}
 use Rattle.model.specs.declared.Reply.{Reply}
-use Rattle.model.specs.declared.Reply.the-variants.{Done, NotAdmissible, WindowRule, NoArm, NamedTrap, NoSpecial, Missing, PutUnknown, PutPrivileged, PutIllegal, PutThreshold, PutStatus, Misplaced, SaveLocal, SavedThreshold, SavedStatus, SavedCount, SyncPrivileged, SyncIllegal, NotLoaded, Trapped, OutOfReach, Shared, Across, NotFetched, GrantTooLarge, StoreTooShort, NoPoint, OtherPoint, NoFrame, TooManyPairs}
+use Rattle.model.specs.declared.Reply.the-variants.{Done, NotAdmissible, WindowRule, NoArm, NamedTrap, NoSpecial, Missing, PutUnknown, PutPrivileged, PutIllegal, PutThreshold, PutStatus, Misplaced, SaveLocal, SavedThreshold, SavedStatus, SavedCount, SyncPrivileged, SyncIllegal, NotLoaded, Trapped, OutOfReach, Shared, Across, NotFetched, GrantTooLarge, StoreTooShort, NoPoint, OtherPoint, NoFrame, TooManyPairs, Hidden}
 
 -- what the numbers leave, by kind: judged before an octabyte is asked for, nothing changes; a needed octabyte that is not there, nothing
 -- changes; "halt code 1 only". 19 and 20 have kinds of their own; 21 and 23 are no step's, and there is no state that they could change;
@@ -21,7 +21,7 @@ abbrev pub Missed : ℕ → Type 0
 Missed n = Lost n ⊎ (n ≡ 24)
 
 abbrev pub Halting : ℕ → Type 0
-Halting n = ((7 ≤ n) × (n ≤ 18)) ⊎ (n ≡ 29)
+Halting n = ((7 ≤ n) × (n ≤ 18)) ⊎ ((n ≡ 29) ⊎ (n ≡ 31))
 
 unfoldable pub numberOf : Reply → ℕ
 numberOf Done = 0
@@ -55,15 +55,16 @@ numberOf NoPoint = 27
 numberOf OtherPoint = 28
 numberOf NoFrame = 29
 numberOf TooManyPairs = 30
+numberOf Hidden = 31
 
 unfoldable pub replyOf : ℕ → Reply
 replyOf n = getD (Done ∷ NotAdmissible ∷ WindowRule ∷ NoArm ∷ NamedTrap ∷ NoSpecial ∷ Missing
     ∷ PutUnknown ∷ PutPrivileged ∷ PutIllegal ∷ PutThreshold ∷ PutStatus ∷ Misplaced
     ∷ SaveLocal ∷ SavedThreshold ∷ SavedStatus ∷ SavedCount ∷ SyncPrivileged ∷ SyncIllegal ∷ NotLoaded ∷ Trapped
     ∷ OutOfReach ∷ Shared ∷ Across ∷ NotFetched ∷ GrantTooLarge ∷ StoreTooShort ∷ NoPoint ∷ OtherPoint ∷ NoFrame
-    ∷ TooManyPairs ∷ []) n Done
+    ∷ TooManyPairs ∷ Hidden ∷ []) n Done
 
--- the two are inverse on 0 to 30
+-- the two are inverse on 0 to 31
 pub record Numbered : Type 0 where
   pub reply-number : (r : Reply) → replyOf (numberOf r) ≡ r
-  pub number-reply : (n : ℕ) → n ≤ 30 → numberOf (replyOf n) ≡ n
+  pub number-reply : (n : ℕ) → n ≤ 31 → numberOf (replyOf n) ≡ n

@@ -37,7 +37,7 @@ refused s i n = gives s i n s
 -- ---- "Bit k of the marks": of nine vectors only number k is loaded, or all but number k
 
 abbrev marked : State → ℕ → State
-marked s m = record { general = s .general; special = s .special; pc = s .pc; halt = s .halt; marks = m }
+marked s m = record { general = s .general; special = s .special; pc = s .pc; halt = s .halt; marks = m; mask = s .mask }
 
 -- the trip registers of an instruction 0 at @ = 0
 abbrev tripRegisters : State → State
@@ -273,6 +273,7 @@ freshIs = sameState fresh (record {
   pc = 0;
   halt = 0;
   marks = 0;
+  mask = 0;
 })
 
 -- ---- the reader: a context of 15 octabytes, rG 255, in a window of 17; none in an empty window, and in one that breaks its rule

@@ -1,10 +1,11 @@
 -- 01, 'State and window': the state, its registers by name, what is admissible, the fresh state; and the writes that steps are made of.
 -- Each write leaves what it does not name as it was.
-use Prim.Native.Nat.{ℕ, _+_, _%_, _^_, min, max, _<_, _≤_}
+use Prim.Native.Nat.{ℕ, _+_, _/_, _%_, _^_, min, max, _<_, _≤_}
 use mathlib.Core.Path.{_≡_}
-use mathlib.Core.Bool.{Bool, cond, _&&_}
-use mathlib.Core.List.{List}
-use lib.Dec.{leb, ltb}
+use mathlib.Core.Bool.{Bool, false, cond, _&&_, _||_}
+use mathlib.Core.List.{List, [], _∷_}
+use lib.Dec.{leb, ltb, eqb}
+use lib.Bits.{bitAnd}
 use lib.ListN.{length, getD, set, replicate}
 use Rattle.model.specs.Fill.{over}
 use Rattle.model.specs.declared.State.{State}
@@ -107,6 +108,10 @@ rYY = 30
 abbrev pub rZZ : ℕ
 rZZ = 31
 
+abbrev pub isOneOf : List ℕ → ℕ → Bool
+isOneOf [] k = false
+isOneOf (x ∷ xs) k = eqb k x || isOneOf xs k
+
 -- where the register stack starts
 abbrev pub stackStart : ℕ
 stackStart = 0x6000000000000000
@@ -125,6 +130,20 @@ reg s k = getD (s .general) k 0
 abbrev pub following : State → ℕ
 following s = (s .pc + 4) % 2 ^ 64
 
+-- ---- the mask of hidden registers, "bit k for special k"
+
+-- "Only rBB, rC, rN, rI, rT, rTT, rK, rQ, rU, rV, rF, rWW, rXX, rYY and rZZ may be in it"
+unfoldable pub hideable : ℕ → Bool
+hideable k = isOneOf (rBB ∷ rC ∷ rN ∷ rI ∷ rT ∷ rTT ∷ rK ∷ rQ ∷ rU ∷ rV ∷ rF ∷ rWW ∷ rXX ∷ rYY ∷ rZZ ∷ []) k
+
+-- their bits: those of 7 to 9, 12 to 18, 22 and 28 to 31
+abbrev pub hideableBits : ℕ
+hideableBits = 0xF047F380
+
+-- special k is hidden by the mask m
+unfoldable pub hides : ℕ → ℕ → Bool
+hides m k = hideable k && eqb (m / 2 ^ k % 2) 1
+
 -- ---- what a state is
 
 -- "A state has 256 general registers, 32 special ones"
@@ -132,17 +151,21 @@ pub record Sized (s : State) : Type 0 where
   pub generals : length (s .general) ≡ 256
   pub specials : length (s .special) ≡ 32
 
--- each register, PC, halt code and marks is an octabyte
+-- each register, PC, halt code, marks and mask is an octabyte
 pub record Words (s : State) : Type 0 where
   pub general-word : (k : ℕ) → reg s k < 2 ^ 64
   pub special-word : (k : ℕ) → sp s k < 2 ^ 64
   pub pc-word : s .pc < 2 ^ 64
   pub halt-word : s .halt < 2 ^ 64
   pub marks-word : s .marks < 2 ^ 64
+  pub mask-word : s .mask < 2 ^ 64
 
--- "It is admissible when 32 ≤ rG ≤ 255, rL ≤ rG, rA ≤ 0x3FFFF and no mark bit above 8 is set"
+-- "It is admissible when 32 ≤ rG ≤ 255, rL ≤ rG, rA ≤ 0x3FFFF and no mark bit above 8 is set"; "any other bit of the mask's octabyte makes a state not
+-- admissible"
 unfoldable pub admissible : State → Bool
-admissible s = leb 32 (sp s rG) && (leb (sp s rG) 255 && (leb (sp s rL) (sp s rG) && (leb (sp s rA) 0x3FFFF && ltb (s .marks) (2 ^ 9))))
+admissible s =
+    leb 32 (sp s rG) && (leb (sp s rG) 255 && (leb (sp s rL) (sp s rG) && (leb (sp s rA) 0x3FFFF
+    && (ltb (s .marks) (2 ^ 9) && eqb (bitAnd (s .mask) hideableBits) (s .mask)))))
 
 -- "Registers from rL to rG − 1 are marginal": the state in which they are all zero
 pub record MarginalZero (s : State) : Type 0 where
@@ -158,17 +181,22 @@ fresh = record {
   pc = 0;
   halt = 0;
   marks = 0;
+  mask = 0;
 }
 
 -- ---- writes
 
 -- s with other registers, PC and halt code
 abbrev pub built : State → List ℕ → List ℕ → ℕ → ℕ → State
-built s general special pc halt = record { general = general; special = special; pc = pc; halt = halt; marks = s .marks }
+built s general special pc halt = record { general = general; special = special; pc = pc; halt = halt; marks = s .marks; mask = s .mask }
 
 -- s with other registers
 abbrev pub withParts : State → List ℕ → List ℕ → State
 withParts s general special = built s general special (s .pc) (s .halt)
+
+-- s under the mask m, which no step makes
+abbrev pub masked : State → ℕ → State
+masked s m = record { general = s .general; special = s .special; pc = s .pc; halt = s .halt; marks = s .marks; mask = m }
 
 -- PC becomes a
 unfoldable pub goes : State → ℕ → State

@@ -112,13 +112,14 @@ stopPoints =
     ∷ ends (withSpecial held rO (stackStart + 1)) 0xF8050000 0 0 12 (halted (withSpecial held rO (stackStart + 1)))
     ∷ ends held 0x00010003 0 0 20 (halted (withSpecial (withSpecial (withSpecial held rWW 4) rXX (2 ^ 63 + 0x00010003)) rZZ 7))
     -- 19 keeps it: DIV $5,$32,0 with D enabled and no vector
-    ∷ ends (record { general = held .general; special = withSpecial held rA 0x8000 .special; pc = 0; halt = 0; marks = 0 }) 0x1D052000 0 0 19
+    ∷ ends (record { general = held .general; special = withSpecial held rA 0x8000 .special; pc = 0; halt = 0; marks = 0; mask = 0 }) 0x1D052000 0 0 19
     (record {
       general = start .general;
       special = withSpecial (withSpecial (withSpecial (withSpecial start rA 0x8000) rL 6) rW 4) rX (2 ^ 63 + 0x1D052000) .special;
       pc = 0;
       halt = 1;
       marks = 0;
+      mask = 0;
     })
     -- 25, before anything is done; 1, 2 and 22 come before it
     ∷ point held (loaded (0xFD000000 ∷ 0 ∷ []) []) 1000001 0 25 held (loaded (0xFD000000 ∷ 0 ∷ []) [])

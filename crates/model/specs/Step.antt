@@ -13,7 +13,7 @@ use Rattle.model.specs.NoMemory.{Said, say, tell}
 use Rattle.model.specs.Control.{near, far, yzOf, xyzOf, sumOf, operandOf, holds}
 use Rattle.model.specs.Frames.{hole, pushFrame, popFrame}
 use Rattle.model.specs.Contexts.{saveContext, unsaveContext}
-use Rattle.model.specs.System.{putSpecial, got, syncOf}
+use Rattle.model.specs.System.{putSpecial, getSpecial, syncOf}
 use Rattle.model.specs.Trips.{wordOf, tripTo, trapOf, raised}
 use Rattle.model.specs.LoadStore.{operandIn, loadFrom, storeTo}
 use Rattle.model.specs.ArithmeticStep.{arithmeticSays}
@@ -76,7 +76,7 @@ planOf s (pushGo o) op x y z = pushFrame s (hole s x) (sumOf s o y z)
 planOf s pop op x y z = popFrame s x ((sp s rJ + 4 * yzOf y z) % 2 ^ 64)
 -- "PUT's value is $Z, PUTI's Z"
 planOf s (put o) op x y z = tell (putSpecial s x (operandOf s o z))
-planOf s get op x y z = tell (say 0 (next (got s x z)))
+planOf s get op x y z = tell (getSpecial s x z)
 planOf s save op x y z = saveContext s x
 planOf s unsave op x y z = unsaveContext s (reg s z)
 planOf s sync op x y z = tell (syncOf s (xyzOf x y z))

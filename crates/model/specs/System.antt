@@ -1,15 +1,11 @@
 -- 01, 'Steps', PUT, GET and SYNC (registers.rs, `put_special`; system.rs).
 use Prim.Native.Nat.{ℕ}
-use mathlib.Core.Bool.{Bool, false, cond, _||_}
-use mathlib.Core.List.{List, [], _∷_}
+use mathlib.Core.Bool.{Bool, cond, _||_}
+use mathlib.Core.List.{[], _∷_}
 use lib.Dec.{leb, ltb, eqb}
 use Rattle.model.specs.NoMemory.{Said, say, refuse}
-use Rattle.model.specs.Registers.{rC, rN, rO, rS, rI, rT, rTT, rK, rQ, rU, rV, rG, rL, rA, sp, next, withSpecial, claimLocal, setRegister, putLocals, putGlobals}
+use Rattle.model.specs.Registers.{rC, rN, rO, rS, rI, rT, rTT, rK, rQ, rU, rV, rG, rL, rA, isOneOf, sp, hides, next, withSpecial, claimLocal, setRegister, putLocals, putGlobals}
 use Rattle.model.specs.declared.State.{State}
-
-abbrev isOneOf : List ℕ → ℕ → Bool
-isOneOf [] k = false
-isOneOf (x ∷ xs) k = eqb k x || isOneOf xs k
 
 -- 8: "PUT rC, rI, rK, rQ, rT, rU, rV, rTT"
 abbrev pub isPrivileged : ℕ → Bool
@@ -32,12 +28,19 @@ putRefusal s x v =
 unfoldable pub putState : State → ℕ → ℕ → State
 putState s x v = cond (eqb x rL) (putLocals s v) (cond (eqb x rG) (putGlobals s v) (withSpecial s x v))
 
+-- 31: "GET and PUT by a program refuse a hidden register and set only the halt code, to 1"; "before 7 for PUT"
 unfoldable pub putSpecial : State → ℕ → ℕ → Said
-putSpecial s x v = cond (eqb (putRefusal s x v) 0) (say 0 (next (putState s x v))) (refuse (putRefusal s x v) s)
+putSpecial s x v =
+    cond (hides (s .mask) x) (refuse 31 s)
+    (cond (eqb (putRefusal s x v) 0) (say 0 (next (putState s x v))) (refuse (putRefusal s x v) s))
 
 -- "GET puts special Z in $X"
 unfoldable pub got : State → ℕ → ℕ → State
 got s x z = setRegister s x (sp s z)
+
+-- 31: "after 5 for GET"
+unfoldable pub getSpecial : State → ℕ → ℕ → Said
+getSpecial s x z = cond (hides (s .mask) z) (refuse 31 s) (say 0 (next (got s x z)))
 
 -- Knuth's GET: mmix-sim makes $X a local before it reads special Z.
 -- Departure: `got` reads first; they differ only for Z = rL and a marginal X.

@@ -10,8 +10,8 @@ pub struct Bases {
     pub b: u64,
 }
 
-/// 256 general registers, 32 special ones, PC, halt code (the Rust's `exit_code`) and vector marks:
-/// bit k of the marks says that all four bytes at 16 × k were loaded.
+/// 256 general registers, 32 special ones, PC, halt code (the Rust's `exit_code`), vector marks and the mask of hidden registers:
+/// bit k of the marks says that all four bytes at 16 × k were loaded, bit k of the mask that special k is hidden from programs.
 #[repr(C)]
 pub struct State {
     pub general: [u64; 256],
@@ -19,6 +19,7 @@ pub struct State {
     pub pc: u64,
     pub halt: u64,
     pub marks: u64,
+    pub mask: u64,
 }
 
 /// The reply of a call: done, or one of the refusals in the order of their numbers.
@@ -31,7 +32,7 @@ pub enum Reply {
     NamedTrap,
     NoSpecial,
     Missing,
-    // 7 to 18 set the halt code to 1, and so does 29.
+    // 7 to 18 set the halt code to 1, and so do 29 and 31.
     PutUnknown,
     PutPrivileged,
     PutIllegal,
@@ -66,6 +67,8 @@ pub enum Reply {
     NoFrame,
     // A set of more than 32 pairs of register and value: judged after 1, and leaves everything as it was.
     TooManyPairs,
+    // GET or PUT of a hidden register: judged after 5 for GET and before 7 for PUT, and sets the halt code to 1.
+    Hidden,
 }
 
 /// An octabyte that was read, and which window holds it: 0 for A, 1 for B, 2 for neither.
@@ -212,6 +215,7 @@ impl State {
             pc: 0,
             halt: 0,
             marks: 0,
+            mask: 0,
         }
     }
 }
