@@ -24,7 +24,7 @@ use Rattle.model.proofs.AdmissibleKept.{adm, claim-good}
 use Rattle.model.proofs.ItemInvariant.{Any}
 use Rattle.model.proofs.ArmAnswers.{perform-meets}
 use Rattle.model.proofs.ArmReplies.{three-replies}
-use Rattle.model.proofs.Numbers.{unhalting}
+use Rattle.model.proofs.Numbers.{unhalting, step-fetched}
 use Rattle.model.proofs.Entry.{unruled-none, unruled-is, shared-only}
 use Rattle.model.proofs.Fetched.{tetra-fits, claim-back, claim-halted, settled-refused, settled-done, settled-nineteen, step-three, claim-admissible, fetched-by, fetched-claims, fetched-free}
 use Rattle.model.proofs.RunLaws.{run-by, run-stops, Last, run-last}
@@ -90,12 +90,12 @@ module _ (w : Windows) (s : State) (t : ℕ) (a : admissible s ≡ true) (b : In
       early = λ e. (back (late _ 0 (inl refl) e) (late _ 19 (inr refl) e) c (l .early e .0) ∙ claim-back s (xIn t), l .early e .1);
       missed = ⊎-elim
           (λ e. (back (λ q. omega arith) (λ q. omega arith) c (l .lost e .0) ∙ claim-back s (xIn t), l .lost e .1))
-          (λ e. absurd (⊎-elim (λ m. let f : o .reply ≡ 24 = e in omega arith) (⊎-elim (λ m. let f : o .reply ≡ 24 = e in omega arith) (λ m. let f : o .reply ≡ 24 = e in omega arith)) (l .most)));
+          (λ e. absurd (step-fetched (o .reply) (l .most) e));
       halting = λ e. (back (λ q. unhalting _ (inl (omega arith)) e) (λ q. unhalting _ (inr (omega arith, omega arith)) e) (halted c) (l .halting e .0) ∙ claim-halted s (xIn t), l .halting e .1);
       nineteen = λ e. rw (settled-nineteen s o e) (l .nineteen e);
       twenty = λ e. absurd (no-twenty e);
       shared = λ e. (a, l .shared e .1);
-      unfetched = λ e. absurd (⊎-elim (λ m. omega arith) (⊎-elim (λ m. omega arith) (λ m. omega arith)) (l .most));
+      unfetched = λ e. absurd (step-fetched (o .reply) (l .most) e);
       done = λ e. ap (λ (o : Outcome State Windows). o .state .halt) (settled-done s o e) ∙ l .done e ∙ claim-halt s (xIn t);
     }
 
@@ -105,12 +105,12 @@ module _ (w : Windows) (s : State) (t : ℕ) (a : admissible s ≡ true) (b : In
       record {
         most = ⊎-elim (λ m. inl m) (⊎-elim (λ m. inr (inl m)) (λ m. inr (inr (inr m)))) (l .most);
         early = l .early;
-        missed = ⊎-elim (l .lost) (λ e. absurd (⊎-elim (λ m. let f : stepSaid w t s .reply ≡ 24 = e in omega arith) (⊎-elim (λ m. let f : stepSaid w t s .reply ≡ 24 = e in omega arith) (λ m. let f : stepSaid w t s .reply ≡ 24 = e in omega arith)) (l .most)));
+        missed = ⊎-elim (l .lost) (λ e. absurd (step-fetched (stepSaid w t s .reply) (l .most) e));
         halting = l .halting;
         nineteen = l .nineteen;
         twenty = l .twenty;
         shared = l .shared;
-        unfetched = λ e. absurd (⊎-elim (λ m. omega arith) (⊎-elim (λ m. omega arith) (λ m. omega arith)) (l .most));
+        unfetched = λ e. absurd (step-fetched (stepSaid w t s .reply) (l .most) e);
         done = l .done;
       }
 

@@ -51,3 +51,5 @@ pub mod Reader
 pub mod Roundtrip
 pub mod Reaches
 pub mod PopOrder
+pub mod Related
+pub mod SeenStates

@@ -73,6 +73,13 @@ among n k l e = omega arith
 pub step-number : (n : ℕ) → (n ≤ 20) ⊎ ((n ≡ 22) ⊎ ((n ≡ 29) ⊎ (n ≡ 31))) → numberOf (replyOf n) ≡ n
 step-number n h = numbered .number-reply n (⊎-elim (λ l. omega arith) (⊎-elim (among n 22 (omega arith)) (⊎-elim (among n 29 (omega arith)) (among n 31 (omega arith)))) h)
 
+-- it is not 24
+pub step-fetched : (n : ℕ) → (n ≤ 20) ⊎ ((n ≡ 22) ⊎ ((n ≡ 29) ⊎ (n ≡ 31))) → n ≡ 24 → ⊥
+step-fetched n (inl l) e = omega arith
+step-fetched n (inr (inl f)) e = omega arith
+step-fetched n (inr (inr (inl f))) e = omega arith
+step-fetched n (inr (inr (inr f))) e = omega arith
+
 -- a run's is one of these, 24 or 25
 pub run-number : (n : ℕ) → (n ≤ 20) ⊎ ((n ≡ 22) ⊎ ((n ≡ 24) ⊎ ((n ≡ 25) ⊎ ((n ≡ 29) ⊎ (n ≡ 31))))) → numberOf (replyOf n) ≡ n
 run-number n h = numbered .number-reply n

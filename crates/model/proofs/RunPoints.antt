@@ -3,7 +3,7 @@ use mathlib.Core.Path.{refl}
 use lib.Count.{leadingZeros}
 use Rattle.model.specs.Fill.{over, indexed, within, tab}
 use Rattle.model.specs.Octa.{octa, part, written, valueOf, bytesOf}
-use Rattle.model.specs.Registers.{admissible, fresh, goes, halted, withSpecial, cleared, claimLocal, stored, setRegister, putLocals, putGlobals, spilled}
+use Rattle.model.specs.Registers.{hideable, hides, admissible, fresh, goes, halted, withSpecial, cleared, claimLocal, stored, setRegister, putLocals, putGlobals, spilled}
 use Rattle.model.specs.Memory.{shapeOf, ruledOne, offset, has, octaBytes, writeOcta, shapesOf, inside, octaAt, putOcta, both, ruled, shares}
 use Rattle.model.specs.Plan.{worst, named, look, looks, puts, perform}
 use Rattle.model.specs.Opcodes.{operationOf, firstOf, widthOf, signOf, conditionOf, armOf}
@@ -11,7 +11,7 @@ use Rattle.model.specs.NoMemory.{tell}
 use Rattle.model.specs.Control.{targetOf, holds}
 use Rattle.model.specs.Frames.{hole, framed, slid, slide, pushedRule, pushed, pushFrame, countOf, lastOutput, restored, unslide, popped, popTo, popRule, noFrame, misplaced, popFrame}
 use Rattle.model.specs.Contexts.{saveContext}
-use Rattle.model.specs.System.{got}
+use Rattle.model.specs.System.{got, getSpecial}
 use Rattle.model.specs.Trips.{interrupted, tripRule, tripTo, trapOf, leftmost, added, withAdded, raised}
 use Rattle.model.specs.LoadStore.{bytesIn, unitAt, operandIn, extended, loadFrom}
 use Rattle.model.specs.Whole.{signedOf, octaOf, isSigned, floorBy, floorQuotient, floorRemainder}
@@ -24,5 +24,5 @@ use Rattle.model.specs.Bench.{start, shows, met, allMet}
 use Rattle.model.specs.RunPoints.{stops, allStop, runPoints, unclaimedPoints, claimEnds, RunPointsMet}
 
 pub run-points-met : RunPointsMet
-unfolding leadingZeros over indexed within tab octa part written valueOf bytesOf admissible fresh goes halted withSpecial cleared claimLocal stored setRegister putLocals putGlobals spilled shapeOf ruledOne offset has octaBytes writeOcta shapesOf inside octaAt putOcta both ruled shares worst named look looks puts perform operationOf firstOf widthOf signOf conditionOf armOf tell targetOf holds hole framed slid slide pushedRule pushed pushFrame countOf lastOutput restored unslide popped popTo popRule noFrame misplaced popFrame saveContext got interrupted tripRule tripTo trapOf leftmost added withAdded raised bytesIn unitAt operandIn extended loadFrom signedOf octaOf isSigned floorBy floorQuotient floorRemainder divided resultsOf withResults arithmeticSays stepOn runs refusalOf unruledBy refusing planOf guarded fromThree stepPlan claims tetraAt keepsClaim settledBy takenBack instructionPlan tetraPlan fetchedPlan itemPlan mmix runFor runOf start shows met allMet stops allStop runPoints unclaimedPoints claimEnds
+unfolding leadingZeros over indexed within tab octa part written valueOf bytesOf hideable hides admissible fresh goes halted withSpecial cleared claimLocal stored setRegister putLocals putGlobals spilled shapeOf ruledOne offset has octaBytes writeOcta shapesOf inside octaAt putOcta both ruled shares worst named look looks puts perform operationOf firstOf widthOf signOf conditionOf armOf tell targetOf holds hole framed slid slide pushedRule pushed pushFrame countOf lastOutput restored unslide popped popTo popRule noFrame misplaced popFrame saveContext got getSpecial interrupted tripRule tripTo trapOf leftmost added withAdded raised bytesIn unitAt operandIn extended loadFrom signedOf octaOf isSigned floorBy floorQuotient floorRemainder divided resultsOf withResults arithmeticSays stepOn runs refusalOf unruledBy refusing planOf guarded fromThree stepPlan claims tetraAt keepsClaim settledBy takenBack instructionPlan tetraPlan fetchedPlan itemPlan mmix runFor runOf start shows met allMet stops allStop runPoints unclaimedPoints claimEnds
 run-points-met = (refl, refl, refl)
