@@ -53,3 +53,4 @@ pub mod Reaches
 pub mod PopOrder
 pub mod Related
 pub mod SeenStates
+pub mod Unseen
