@@ -53,4 +53,5 @@ pub mod Reaches
 pub mod PopOrder
 pub mod Related
 pub mod SeenStates
+pub mod SeenArms
 pub mod Unseen
