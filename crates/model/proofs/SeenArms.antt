@@ -153,11 +153,16 @@ module _ (m : ℕ) where
       → ((o g a l : ℕ) (vs : List ℕ) → R (found o g a l vs) (found' o g a l vs)) → Related R (contextAt bad found p) (contextAt bad' found' q)
   unfolding contextAt contextCount contextRest Related
   context-seen bad bad' found found' p q e b f =
-      rw e (refl, refl, refl, λ vs. on-both (Related R) (leb 32 (getD vs 0 0 / 2 ^ 56) && leb (getD vs 0 0 / 2 ^ 56) 255)
-      (λ x. on-both (Related R) (leb (getD vs 0 0 % 2 ^ 56) 0x3FFFF)
-      (λ y. (refl, refl, refl, λ c. on-both (Related R) (leb (getD c 0 0) (getD vs 0 0 / 2 ^ 56)) (λ z. (refl, refl, refl, λ ls. (refl, f _ _ _ _ ls, refl, refl))) (λ z. (refl, b, refl, refl))))
-      (λ y. (refl, b, refl, refl)))
-      (λ x. (refl, b, refl, refl)))
+      rw e (
+        refl,
+        refl,
+        refl,
+        λ vs. on-both (Related R) (leb 32 (getD vs 0 0 / 2 ^ 56) && leb (getD vs 0 0 / 2 ^ 56) 255)
+            (λ x. on-both (Related R) (leb (getD vs 0 0 % 2 ^ 56) 0x3FFFF)
+            (λ y. (refl, refl, refl, λ c. on-both (Related R) (leb (getD c 0 0) (getD vs 0 0 / 2 ^ 56)) (λ z. (refl, refl, refl, λ ls. (refl, f _ _ _ _ ls, refl, refl))) (λ z. (refl, b, refl, refl))))
+            (λ y. (refl, b, refl, refl)))
+            (λ x. (refl, b, refl, refl)),
+      )
 
   load-seen : (s t : State) (d : Width) (g : Sign) (x a b : ℕ) → a ≡ b → R s t → Related R (loadFrom s d g x a) (loadFrom t d g x b)
   unfolding loadFrom Related

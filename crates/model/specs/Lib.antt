@@ -51,4 +51,5 @@ pub mod RunMeant
 pub mod Reaches
 pub mod PopOrder
 pub mod Unseen
+pub mod HiddenPoints
 pub mod FieldPoints

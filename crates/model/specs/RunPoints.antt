@@ -168,7 +168,7 @@ unclaimedPoints =
 
 -- ---- the opcodes that claim: the ends of each range, and what lies next to them
 
-abbrev alls : (ℕ → Bool) → List ℕ → Bool
+abbrev pub alls : (ℕ → Bool) → List ℕ → Bool
 alls f [] = true
 alls f (x ∷ xs) = f x && alls f xs
 
