@@ -20,7 +20,7 @@ use Rattle.model.specs.NoMemory.{say, Said, tell}
 use Rattle.model.specs.Control.{branchFields, jumpFields, targetOf, near, far, yzOf, xyzOf, sumOf, operandOf, holds}
 use Rattle.model.specs.Frames.{hole, framed, pushed, pushFrame, popped, popTo, popRule, noFrame, misplaced, popFrame}
 use Rattle.model.specs.Contexts.{extent, saved, savedState, saveContext, unsaved, contextRest, contextCount, contextAt, unsaveContext}
-use Rattle.model.specs.System.{isPrivileged, isIllegal, putRefusal, putState, putSpecial, got, getSpecial, syncOf}
+use Rattle.model.specs.System.{isPrivileged, isIllegal, putRefusal, putState, unlessHidden, putSpecial, got, getSpecial, syncOf}
 use Rattle.model.specs.Trips.{wordOf, tripped, trapped, isLoaded, tripRule, tripTo, trapOf, enabled, withAdded, raised}
 use Rattle.model.specs.LoadStore.{fits, loadFrom, flagV, storeSays, storeTo}
 use Rattle.model.specs.ArithmeticStep.{resultsIn, withResults, arithmeticSays}
@@ -158,18 +158,20 @@ module _ (s : State) (W : ℕ → Type 0) (Read : List ℕ → Type 0) (R : ℕ 
       last el eg true ea = rw (eqb-true x rA ea) (m .status v _ (put-status s v (rw (eqb-true x rA ea) at p)) (onward (withSpecial s rA v)))
       last el eg false ea = m .other x v _ (eqb-swap x rG eg) (eqb-swap x rL el) (eqb-swap x rA ea) w (onward (withSpecial s x v))
 
+  unless-meets : (k : ℕ) (d : Said) → Tells (λ r t. R r t []) d → Tells (λ r t. R r t []) (unlessHidden s k d)
+  unfolding unlessHidden
+  unless-meets k d h = on {A = Said} (Tells (λ r t. R r t [])) (hides (s .mask) k) (λ e. m .halts 31 (inr (inr refl))) (λ e. h)
+
   put-meets : (x v : ℕ) → W v → Tells (λ r t. R r t []) (putSpecial s x v)
   unfolding putSpecial
   put-meets x v w =
-      on {A = Said} (Tells (λ r t. R r t [])) (hides (s .mask) x) (λ e. m .halts 31 (inr (inr refl)))
-      (λ e. on {A = Said} (Tells (λ r t. R r t [])) (eqb (putRefusal s x v) 0) (λ f. putState-meets x v w (eqb-true _ _ f))
-      (λ f. m .halts (putRefusal s x v) (put-range s x v f)))
+      unless-meets _ _
+      (on {A = Said} (Tells (λ r t. R r t [])) (eqb (putRefusal s x v) 0) (λ e. putState-meets x v w (eqb-true _ _ e))
+      (λ e. m .halts (putRefusal s x v) (put-range s x v e)))
 
   get-meets : (x z : ℕ) → Tells (λ r t. R r t []) (getSpecial s x z)
   unfolding getSpecial got
-  get-meets x z =
-      on {A = Said} (Tells (λ r t. R r t [])) (hides (s .mask) z) (λ e. m .halts 31 (inr (inr refl)))
-      (λ e. m .writes x (sp s z) _ (m .special-is z) (onward (setRegister s x (sp s z))))
+  get-meets x z = unless-meets _ _ (m .writes x (sp s z) _ (m .special-is z) (onward (setRegister s x (sp s z))))
 
   sync-meets : (n : ℕ) → Tells (λ r t. R r t []) (syncOf s n)
   unfolding syncOf

@@ -12,7 +12,7 @@ use Rattle.model.specs.NoMemory.{tell}
 use Rattle.model.specs.Control.{targetOf, holds}
 use Rattle.model.specs.Frames.{hole, framed, slid, slide, pushedRule, pushed, pushFrame, countOf, lastOutput, restored, unslide, popped, popTo, popRule, framedRule, noFrame, misplaced, popFrame}
 use Rattle.model.specs.Contexts.{savedSpecial, saved, savedUnspilled, savedState, saveContext, unsavedGeneral, unsavedSpecial, unsavedUnspilled, unsaved, contextRest, contextCount, contextAt, unsaveContext}
-use Rattle.model.specs.System.{putRefusal, putState, putSpecial, got, getSpecial, gotRule, syncOf}
+use Rattle.model.specs.System.{putRefusal, putState, unlessHidden, putSpecial, got, getSpecial, gotRule, syncOf}
 use Rattle.model.specs.Trips.{interrupted, tripRule, tripTo, trapRule, trapOf, leftmost, added, exactUnderflow, addedRule, withAdded, raised}
 use Rattle.model.specs.LoadStore.{bytesIn, unitAt, operandIn, merged, extended, fits, loadFrom, storeSays, storeTo}
 use Rattle.model.specs.Whole.{signedOf, octaOf, isSigned, productHigh, productLow, floorBy, floorQuotient, floorRemainder, compared, powerOf}
@@ -35,7 +35,7 @@ use Rattle.model.specs.ArithmeticStepPoints.{arithmeticStepPoints, Arith
 use Rattle.model.specs.ArithmeticPoints.{allSame, arithmeticPoints, ArithmeticPointsMet}
 
 computed : PointsMet × MorePointsMet × ExamplesShown × LoadStorePointsMet × FieldPointsMet × ArithmeticPointsMet × ArithmeticStepPointsMet × WindowPointsMet
-unfolding leadingZeros over indexed within tab octa part written valueOf bytesOf hideable hides admissible fresh goes halted withSpecial cleared claimLocal stored setRegister putLocals putGlobals spilled shapeOf ruledOne offset has octaBytes writeOcta shapesOf holder inside octaAt putOcta both ruled shares worst named look looks puts perform conditionOf armOf tell targetOf holds hole framed slid slide pushedRule pushed pushFrame countOf lastOutput restored unslide popped popTo popRule noFrame misplaced popFrame savedSpecial saved savedUnspilled savedState saveContext unsavedGeneral unsavedSpecial unsavedUnspilled unsaved contextRest contextCount contextAt unsaveContext putRefusal putState putSpecial got getSpecial syncOf interrupted tripRule tripTo trapOf added withAdded raised stepOn runs refusalOf unruledBy judged refusing planOf guarded fromThree stepPlan exceptionOf itemPlan mmix start shows met allMet points framedRule gotRule trapRule leftmost exactUnderflow addedRule mapPlan stepOf readRule pushRule belowTop poppedRule popHoleRule popAnyRule unsavedGeneralRule unsavedSpecialRule unsavedRule unsaveRestRule unsaveCountRule unsaveRule ruleOf stepRule withAddedRule raisedRule exceptionRule ruledShapes numbered freshIs readerPoints spanOf heldBy across partAt handed readContext morePoints shown allShown shownException allShownExceptions examples exceptionExamples cutExamples countExample counted widthOf signOf bytesIn unitAt operandIn merged extended fits loadFrom storeSays storeTo loadRule storeState storeRule loadStorePoints numberOf fieldAt fieldOf answerOf fieldPoints allFound signedOf octaOf isSigned productHigh productLow floorBy floorQuotient floorRemainder compared powerOf divided dividedWide resultsOf allSame arithmeticPoints operationOf firstOf withResults arithmeticSays arithmeticRule arithmeticStepPoints windowReads windowPoints
+unfolding leadingZeros over indexed within tab octa part written valueOf bytesOf hideable hides admissible fresh goes halted withSpecial cleared claimLocal stored setRegister putLocals putGlobals spilled shapeOf ruledOne offset has octaBytes writeOcta shapesOf holder inside octaAt putOcta both ruled shares worst named look looks puts perform conditionOf armOf tell targetOf holds hole framed slid slide pushedRule pushed pushFrame countOf lastOutput restored unslide popped popTo popRule noFrame misplaced popFrame savedSpecial saved savedUnspilled savedState saveContext unsavedGeneral unsavedSpecial unsavedUnspilled unsaved contextRest contextCount contextAt unsaveContext putRefusal putState unlessHidden putSpecial got getSpecial syncOf interrupted tripRule tripTo trapOf added withAdded raised stepOn runs refusalOf unruledBy judged refusing planOf guarded fromThree stepPlan exceptionOf itemPlan mmix start shows met allMet points framedRule gotRule trapRule leftmost exactUnderflow addedRule mapPlan stepOf readRule pushRule belowTop poppedRule popHoleRule popAnyRule unsavedGeneralRule unsavedSpecialRule unsavedRule unsaveRestRule unsaveCountRule unsaveRule ruleOf stepRule withAddedRule raisedRule exceptionRule ruledShapes numbered freshIs readerPoints spanOf heldBy across partAt handed readContext morePoints shown allShown shownException allShownExceptions examples exceptionExamples cutExamples countExample counted widthOf signOf bytesIn unitAt operandIn merged extended fits loadFrom storeSays storeTo loadRule storeState storeRule loadStorePoints numberOf fieldAt fieldOf answerOf fieldPoints allFound signedOf octaOf isSigned productHigh productLow floorBy floorQuotient floorRemainder compared powerOf divided dividedWide resultsOf allSame arithmeticPoints operationOf firstOf withResults arithmeticSays arithmeticRule arithmeticStepPoints windowReads windowPoints
 computed = (refl, (refl, refl, refl, refl, refl), (refl, refl, refl, refl), refl, refl, refl, refl, (refl, refl))
 
 pub points-met : PointsMet

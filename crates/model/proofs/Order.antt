@@ -17,7 +17,7 @@ use Rattle.model.specs.NoMemory.{say, refuse, tell}
 use Rattle.model.specs.Control.{yzOf}
 use Rattle.model.specs.Frames.{noFrame, misplaced, popRule, popFrame}
 use Rattle.model.specs.Contexts.{extent, saved, savedState, saveContext, below, unsaved, contextRest, contextCount, contextAt, unsaveContext}
-use Rattle.model.specs.System.{putSpecial, getSpecial}
+use Rattle.model.specs.System.{unlessHidden, putSpecial, getSpecial}
 use Rattle.model.specs.Trips.{enabled, isLoaded, withAdded, tripTo, raised}
 use Rattle.model.specs.Step.{refusalOf, unruledBy, refusing, planOf, stepOf, exceptionOf}
 use Rattle.model.specs.Order.{refusedBy, haltedBy, Passes, Packed, Counted, StepsInOrder}
@@ -68,10 +68,10 @@ one-there w a b e = has-clear (shapesOf w) a ∙ e
 
 get-thirty-one : (w : Windows) (s : State) (x y z : ℕ) → Passes w s → hides (s .mask) z ≡ true → stepOf w s 0xFE x y z ≡ haltedBy 31 w s
 get-thirty-one w s x y z h e = step-told w s (h .admitted) (passing w s h) 0xFE x y z (refuse 31 s)
-    (unfold refusalOf armOf in (rw (le-ltb 31 z (hidden-special (s .mask) z e)))) (unfold planOf armOf getSpecial in (rw e))
+    (unfold refusalOf armOf in (rw (le-ltb 31 z (hidden-special (s .mask) z e)))) (unfold planOf armOf getSpecial unlessHidden in (rw e))
 
 put-thirty-one : (w : Windows) (s : State) (op x y z : ℕ) (o : Operand) → armOf op ≡ put o → Passes w s → hides (s .mask) x ≡ true → stepOf w s op x y z ≡ haltedBy 31 w s
-put-thirty-one w s op x y z o a h e = step-told w s (h .admitted) (passing w s h) op x y z (refuse 31 s) (unfold refusalOf in (rw a)) (unfold planOf putSpecial in (rw (a, e)))
+put-thirty-one w s op x y z o a h e = step-told w s (h .admitted) (passing w s h) op x y z (refuse 31 s) (unfold refusalOf in (rw a)) (unfold planOf putSpecial unlessHidden in (rw (a, e)))
 
 -- ---- SAVE
 

@@ -20,7 +20,7 @@ use Rattle.model.specs.NoMemory.{Said, say, tell}
 use Rattle.model.specs.Control.{near, yzOf, xyzOf, sumOf, operandOf, isNegative}
 use Rattle.model.specs.Frames.{popRule, noFrame, misplaced, popFrame}
 use Rattle.model.specs.Contexts.{extent, saved, savedState, saveContext}
-use Rattle.model.specs.System.{putRefusal, putState, putSpecial, got, getSpecial, syncOf}
+use Rattle.model.specs.System.{putRefusal, putState, unlessHidden, putSpecial, got, getSpecial, syncOf}
 use Rattle.model.specs.Trips.{wordOf, isLoaded, enabled}
 use Rattle.model.specs.LoadStore.{merged, fits, loadFrom, flagV, storeSays, storeTo}
 use Rattle.model.specs.ArithmeticStep.{operandsOf, resultsIn, withResults, arithmeticSays}
@@ -73,11 +73,11 @@ last-same s f immediate register x y z h = h
 last-same s f p immediate x y z h = refl
 
 put-done : (s : State) (x v : ℕ) → hides (s .mask) x ≡ false → putRefusal s x v ≡ 0 → putSpecial s x v ≡ say 0 (next (putState s x v))
-unfolding putSpecial
+unfolding putSpecial unlessHidden
 put-done s x v f e = rw (f, e)
 
 get-done : (s : State) (x z : ℕ) → hides (s .mask) z ≡ false → getSpecial s x z ≡ say 0 (next (got s x z))
-unfolding getSpecial
+unfolding getSpecial unlessHidden
 get-done s x z e = rw e
 
 save-done : (s : State) (x : ℕ) → leb (sp s rG) x ≡ true → saveContext s x ≡ answer 0 (next (savedState s x)) (sp s rO) (tab 0 (extent s) (saved s))

@@ -16,7 +16,7 @@ use Rattle.model.specs.NoMemory.{Said, say, refuse, tell}
 use Rattle.model.specs.Control.{targetOf, branchFields, jumpFields, yzOf, xyzOf, sumOf, operandOf, holds}
 use Rattle.model.specs.Frames.{hole, framed, pushFrame, popTo, popRule, noFrame, misplaced, popFrame}
 use Rattle.model.specs.Contexts.{savedSpecial, saved, saveContext, contextRest, contextCount, contextAt, unsaveContext}
-use Rattle.model.specs.System.{putRefusal, putSpecial, got, getSpecial, syncOf}
+use Rattle.model.specs.System.{putRefusal, unlessHidden, putSpecial, got, getSpecial, syncOf}
 use Rattle.model.specs.Trips.{wordOf, tripped, isLoaded, tripRule, tripTo, trapOf, enabled, vectorOf, withAdded, raised}
 use Rattle.model.specs.LoadStore.{merged, fits, loadFrom, flagV, storeSays, storeTo}
 use Rattle.model.specs.ArithmeticStep.{resultsIn, withResults, arithmeticSays}
@@ -76,18 +76,21 @@ module _ (m : ℕ) where
   exception-seen s t f op x y z u v h =
       (by-test Says (admissible s) (admissible t) (admissible-same m s t h) (λ e. raised-seen s t f _ u v h) (λ e. record { reply-same = refl; states = h }))
 
+  unless-seen : (s t : State) (k : ℕ) (d e : Said) → R s t → (hides m k ≡ false → Says d e) → Says (unlessHidden s k d) (unlessHidden t k e)
+  unfolding unlessHidden
+  unless-seen s t k d e h f =
+      by-test Says (hides (s .mask) k) (hides (t .mask) k) (hides-same m s t k h) (λ g. refused 31 s t h) (λ g. f (rw (h .first-mask) at g))
+
   put-seen : (s t : State) (x v : ℕ) → R s t → Says (putSpecial s x v) (putSpecial t x v)
   unfolding putSpecial
   put-seen s t x v h =
       let e : putRefusal s x v ≡ putRefusal t x v = putRefusal-same s t x v (l-same m s t h) in
-      rw e (by-test Says (hides (s .mask) x) (hides (t .mask) x) (hides-same m s t x h) (λ f. refused 31 s t h)
+      rw e (unless-seen s t x _ _ h
       (λ f. on-both Says (eqb (putRefusal t x v) 0) (λ f. done _ _ (next-seen m _ _ (putState-seen m s t x v h))) (λ f. refused _ s t h)))
 
   get-seen : (s t : State) (x z : ℕ) → R s t → Says (getSpecial s x z) (getSpecial t x z)
   unfolding getSpecial got
-  get-seen s t x z h =
-      by-test Says (hides (s .mask) z) (hides (t .mask) z) (hides-same m s t z h) (λ e. refused 31 s t h)
-      (λ e. done _ _ (next-seen m _ _ (write-seen m s t x _ _ (h .special-same .seen-same z (rw (h .first-mask) at e)) h)))
+  get-seen s t x z h = unless-seen s t z _ _ h (λ e. done _ _ (next-seen m _ _ (write-seen m s t x _ _ (h .special-same .seen-same z e) h)))
 
   sync-seen : (s t : State) (n : ℕ) → R s t → Says (syncOf s n) (syncOf t n)
   unfolding syncOf

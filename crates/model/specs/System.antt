@@ -28,19 +28,21 @@ putRefusal s x v =
 unfoldable pub putState : State → ℕ → ℕ → State
 putState s x v = cond (eqb x rL) (putLocals s v) (cond (eqb x rG) (putGlobals s v) (withSpecial s x v))
 
--- 31: "GET and PUT by a program refuse a hidden register and set only the halt code, to 1"; "before 7 for PUT"
+-- 31: "GET and PUT by a program refuse a hidden register and set only the halt code, to 1"; d where special k is not hidden
+unfoldable pub unlessHidden : State → ℕ → Said → Said
+unlessHidden s k d = cond (hides (s .mask) k) (refuse 31 s) d
+
+-- 31 "before 7 for PUT"
 unfoldable pub putSpecial : State → ℕ → ℕ → Said
-putSpecial s x v =
-    cond (hides (s .mask) x) (refuse 31 s)
-    (cond (eqb (putRefusal s x v) 0) (say 0 (next (putState s x v))) (refuse (putRefusal s x v) s))
+putSpecial s x v = unlessHidden s x (cond (eqb (putRefusal s x v) 0) (say 0 (next (putState s x v))) (refuse (putRefusal s x v) s))
 
 -- "GET puts special Z in $X"
 unfoldable pub got : State → ℕ → ℕ → State
 got s x z = setRegister s x (sp s z)
 
--- 31: "after 5 for GET"
+-- 31 "after 5 for GET"
 unfoldable pub getSpecial : State → ℕ → ℕ → Said
-getSpecial s x z = cond (hides (s .mask) z) (refuse 31 s) (say 0 (next (got s x z)))
+getSpecial s x z = unlessHidden s z (say 0 (next (got s x z)))
 
 -- Knuth's GET: mmix-sim makes $X a local before it reads special Z.
 -- Departure: `got` reads first; they differ only for Z = rL and a marginal X.
