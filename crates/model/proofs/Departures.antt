@@ -14,7 +14,7 @@ use Rattle.model.specs.Departures.{ReadsAlike, Departures}
 use Rattle.model.specs.declared.State.{State}
 use Rattle.model.proofs.Rules.{read-zero, frame-reads, frame-same, got-same, unsave-same}
 use Rattle.model.proofs.RaisedRule.{added-same, trip-same, exception-same}
-use Rattle.model.proofs.RuleStep.{pop-framed, step-same, spilled-same, rule-settled}
+use Rattle.model.proofs.RuleStep.{pop-framed, unhidden, step-same, spilled-same, rule-settled}
 
 -- ---- rS moves with rO
 
@@ -102,6 +102,7 @@ departures = record {
   spill-rest = λ s. unfold spilled withSpecial in (refl, refl, refl, refl);
   pop-frame = pop-framed;
   unsave-taken = unsave-same;
+  unhidden = unhidden;
   get-local = got-same;
   added-inexact = added-same;
   trip-loaded = trip-same;

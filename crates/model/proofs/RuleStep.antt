@@ -72,13 +72,17 @@ last-same s f register register x y z h = h .1
 last-same s f immediate register x y z h = h
 last-same s f p immediate x y z h = refl
 
+pub unhidden : (s : State) (k : ℕ) (d : Said) → hides (s .mask) k ≡ false → unlessHidden s k d ≡ d
+unfolding unlessHidden
+unhidden s k d e = rw e
+
 put-done : (s : State) (x v : ℕ) → hides (s .mask) x ≡ false → putRefusal s x v ≡ 0 → putSpecial s x v ≡ say 0 (next (putState s x v))
-unfolding putSpecial unlessHidden
-put-done s x v f e = rw (f, e)
+unfolding putSpecial
+put-done s x v f e = unhidden s x _ f ∙ rw e
 
 get-done : (s : State) (x z : ℕ) → hides (s .mask) z ≡ false → getSpecial s x z ≡ say 0 (next (got s x z))
-unfolding getSpecial unlessHidden
-get-done s x z e = rw e
+unfolding getSpecial
+get-done s x z e = unhidden s z _ e
 
 save-done : (s : State) (x : ℕ) → leb (sp s rG) x ≡ true → saveContext s x ≡ answer 0 (next (savedState s x)) (sp s rO) (tab 0 (extent s) (saved s))
 unfolding saveContext

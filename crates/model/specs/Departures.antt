@@ -12,11 +12,11 @@ use Rattle.model.specs.Registers.{rC, rO, rS, rI, rU, rG, rL, rK, sp, re
 use Rattle.model.specs.Memory.{Windows, shapesOf, inside, both}
 use Rattle.model.specs.Plan.{look, mapOutcome, perform}
 use Rattle.model.specs.Opcodes.{Operand, register, immediate, Width, Sign, Arm, branch, jump, getAddress, go, pushJump, pushGo, pop, put, get, save, unsave, sync, swym, trip, trap, load, store, arithmetic, none, armOf}
-use Rattle.model.specs.NoMemory.{say}
+use Rattle.model.specs.NoMemory.{Said, say}
 use Rattle.model.specs.Control.{xyzOf, sumOf, operandOf, isNegative}
 use Rattle.model.specs.Frames.{hole, framed, framedRule, noFrame, misplaced, popRule, popFrame}
 use Rattle.model.specs.Contexts.{below, unsaveContext, countBelow}
-use Rattle.model.specs.System.{putRefusal, got, gotRule}
+use Rattle.model.specs.System.{putRefusal, unlessHidden, got, gotRule}
 use Rattle.model.specs.Trips.{isLoaded, tripRule, tripTo, trapRule, trapOf, enabled, added, exactUnderflow, addedRule}
 use Rattle.model.specs.LoadStore.{fits, flagV}
 use Rattle.model.specs.ArithmeticStep.{resultsIn, withResults}
@@ -156,6 +156,8 @@ pub record Departures : Type 0 where
   -- UNSAVE: 14, 15 and 16, and the low bits of the address
   pub unsave-taken : (w : Windows) (s : State) (p : ℕ) → octa p ≡ p → contextTaken w p ≡ true
       → perform both (refusing (shapesOf w)) s (unsaveContext s p) w ≡ perform both (refusing (shapesOf w)) s (unsaveRule s p) w
+  -- GET and PUT of a hidden register
+  pub unhidden : (s : State) (k : ℕ) (d : Said) → hides (s .mask) k ≡ false → unlessHidden s k d ≡ d
   -- GET of rL into a marginal register
   pub get-local : (s : State) (x z : ℕ) → (eqb z rL && isMarginal s x) ≡ false → got s x z ≡ gotRule s x z
   -- U without X: only where it is raised so

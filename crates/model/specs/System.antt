@@ -28,7 +28,7 @@ putRefusal s x v =
 unfoldable pub putState : State → ℕ → ℕ → State
 putState s x v = cond (eqb x rL) (putLocals s v) (cond (eqb x rG) (putGlobals s v) (withSpecial s x v))
 
--- 31: "GET and PUT by a program refuse a hidden register and set only the halt code, to 1"; d where special k is not hidden
+-- Departure, 31: "GET and PUT by a program refuse a hidden register and set only the halt code, to 1"; d where special k is not hidden
 unfoldable pub unlessHidden : State → ℕ → Said → Said
 unlessHidden s k d = cond (hides (s .mask) k) (refuse 31 s) d
 
