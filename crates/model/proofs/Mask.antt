@@ -45,14 +45,17 @@ above-special k l = go (hideable k) refl
     go true e = let h : k ≤ 31 = hideable-special k e in absurd (omega arith)
     go false e = refl
 
-pub hidden-special : (m k : ℕ) → hides m k ≡ true → k ≤ 31
-unfolding hides
-hidden-special m k e = hideable-special k (and-left (hideable k) _ e)
-
 -- what may not be hidden is not
 pub unhideable : (m k : ℕ) → hideable k ≡ false → hides m k ≡ false
 unfolding hides
 unhideable m k e = rw e
+
+pub hides-above : (m k : ℕ) → 32 ≤ k → hides m k ≡ false
+hides-above m k l = unhideable m k (above-special k l)
+
+pub hidden-special : (m k : ℕ) → hides m k ≡ true → k ≤ 31
+unfolding hides
+hidden-special m k e = hideable-special k (and-left (hideable k) _ e)
 
 -- ---- the bits of a mask
 
@@ -83,6 +86,15 @@ bits-are k = go (decLt k 32)
         let p : 2 ^ 32 ≤ 2 ^ k = pow-mono {i = 32} {j = k} (omega arith) in
         let z : hideableBits / 2 ^ k ≡ 0 = div-eq-of-lt (omega arith) in
         ap (λ (n : ℕ). n % 2) z ∙ rw (above-special k (omega arith))
+
+-- a mask hides k where its bit k is set once the other registers' bits are dropped: as code has it
+pub hides-by : (m k : ℕ) → eqb (bitAnd m hideableBits / 2 ^ k % 2) 1 ≡ hides m k
+unfolding hides
+hides-by m k = rw (and-bit m hideableBits k, bits-are k) (go (hideable k))
+  where
+    go : (h : Bool) → eqb (min (m / 2 ^ k % 2) (cond h 1 0)) 1 ≡ (h && eqb (m / 2 ^ k % 2) 1)
+    go true = ap (λ (n : ℕ). eqb n 1) (let e : min (m / 2 ^ k % 2) 1 ≡ m / 2 ^ k % 2 = omega arith in e)
+    go false = ap (λ (n : ℕ). eqb n 1) (let e : min (m / 2 ^ k % 2) 0 ≡ 0 = omega arith in e)
 
 -- each bit of a mask that passes is that of a register that may be hidden
 set-hideable : (m k : ℕ) → bitAnd m hideableBits ≡ m → isSet m k ≡ true → hideable k ≡ true
