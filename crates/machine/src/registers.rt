@@ -48,6 +48,9 @@ const RU: u64 = State::RU as u64;
 
 const RV: u64 = State::RV as u64;
 
+/// The bits that a mask may have: those of rBB, rC, rN, rI, rT, rTT, rK, rQ, rU, rV, rF, rWW, rXX, rYY and rZZ.
+const HIDEABLE: u64 = 0xF047_F380;
+
 const RG: u64 = State::RG as u64;
 
 const RL: u64 = State::RL as u64;
@@ -56,9 +59,9 @@ const RA: u64 = State::RA as u64;
 
 const RZZ: u64 = State::RZZ as u64;
 
-/// Whether the registers and marks are those of an admissible state.
-pub fn admissible(special: &[u64; 32], marks: u64) -> bool
-    ensures { λ r. ⌜ ((general : List ℕ) (pc halt : ℕ) → r ≡ admissible (made general (now (special .entry)) pc halt marks)) ⌝ }
+/// Whether the registers, marks and mask are those of an admissible state.
+pub fn admissible(special: &[u64; 32], marks: u64, mask: u64) -> bool
+    ensures { λ r. ⌜ ((general : List ℕ) (pc halt : ℕ) → r ≡ admissible (made general (now (special .entry)) pc halt marks mask)) ⌝ }
 {
     let rg = special[State::RG];
     let rl = special[State::RL];
@@ -75,7 +78,10 @@ pub fn admissible(special: &[u64; 32], marks: u64) -> bool
     if STATUS_MAX < ra {
         return false;
     }
-    if marks < MARKS_END {
+    if MARKS_END <= marks {
+        return false;
+    }
+    if mask & HIDEABLE == mask {
         return true;
     }
     false

@@ -16,7 +16,7 @@ pub fn admissible(state: State) -> bool
     ensures { λ r. ⌜ r ≡ admissible state ⌝ }
 {
     let special = state.special;
-    super::registers::admissible(&special, state.marks)
+    super::registers::admissible(&special, state.marks, state.mask)
 }
 
 pub fn claim_local(state: State, reg: u8) -> State
@@ -31,6 +31,7 @@ pub fn claim_local(state: State, reg: u8) -> State
         pc: state.pc,
         halt: state.halt,
         marks: state.marks,
+        mask: state.mask,
     }
 }
 
@@ -46,6 +47,7 @@ pub fn set_register(state: State, reg: u8, v: u64) -> State
         pc: state.pc,
         halt: state.halt,
         marks: state.marks,
+        mask: state.mask,
     }
 }
 
@@ -61,6 +63,7 @@ pub fn put_rl(state: State, value: u64) -> State
         pc: state.pc,
         halt: state.halt,
         marks: state.marks,
+        mask: state.mask,
     }
 }
 
@@ -76,6 +79,7 @@ pub fn put_rg(state: State, value: u64) -> State
         pc: state.pc,
         halt: state.halt,
         marks: state.marks,
+        mask: state.mask,
     }
 }
 
@@ -91,6 +95,7 @@ pub fn put_special(state: State, x: u8, value: u64) -> Put
         pc: state.pc,
         halt: state.halt,
         marks: state.marks,
+        mask: state.mask,
     };
     Put {
         reply: reply,

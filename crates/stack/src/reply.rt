@@ -40,6 +40,7 @@ pub fn number_of(reply: Reply) -> u64
         Reply::OtherPoint => 28,
         Reply::NoFrame => 29,
         Reply::TooManyPairs => 30,
+        Reply::Hidden => 31,
     }
 }
 

@@ -1,6 +1,6 @@
 -- `admissible` meets its contract: each answer is its tests'.
 use borrow.Author.Needs.{needs}
-use borrow.Author.Tests.{le-leb, lt-leb, lt-ltb, le-ltb}
+use borrow.Author.Tests.{le-leb, lt-leb, lt-ltb, le-ltb, eq-eqb, ne-eqb}
 use Rattle.model.specs.Registers.{admissible}
 use Rattle.machine.proofs.registers.admissible.Statement.{statement}
 use Rattle.machine.proofs.registers.admissible.Tie as tie
@@ -39,18 +39,31 @@ returns-5 c =
       le-leb _ _ (c .before .before .before .if2 .left),
       le-leb _ _ (c .before .before .if3 .left),
       le-leb _ _ (c .before .if4 .left),
-      lt-ltb _ _ (c .if5 .taken),
+      le-ltb _ _ (c .if5 .taken),
     )
 
 returns-6 : tie.Need-returns-6
 unfolding admissible
 returns-6 c =
     λ g pc halt. simp (
-      le-leb _ _ (c .before .before .before .before .if1 .left),
-      le-leb _ _ (c .before .before .before .if2 .left),
-      le-leb _ _ (c .before .before .if3 .left),
-      le-leb _ _ (c .before .if4 .left),
-      le-ltb _ _ (c .if5 .left),
+      le-leb _ _ (c .before .before .before .before .before .if1 .left),
+      le-leb _ _ (c .before .before .before .before .if2 .left),
+      le-leb _ _ (c .before .before .before .if3 .left),
+      le-leb _ _ (c .before .before .if4 .left),
+      lt-ltb _ _ (c .before .if5 .left),
+      eq-eqb _ _ (c .if6 .taken),
+    )
+
+returns-7 : tie.Need-returns-7
+unfolding admissible
+returns-7 c =
+    λ g pc halt. simp (
+      le-leb _ _ (c .before .before .before .before .before .if1 .left),
+      le-leb _ _ (c .before .before .before .before .if2 .left),
+      le-leb _ _ (c .before .before .before .if3 .left),
+      le-leb _ _ (c .before .before .if4 .left),
+      lt-ltb _ _ (c .before .if5 .left),
+      ne-eqb _ _ (c .if6 .left),
     )
 
 pub admissible-spec : {M : Type 1} → statement M
@@ -65,4 +78,5 @@ admissible-spec =
     returns-3
     returns-4
     returns-5
-    returns-6)
+    returns-6
+    returns-7)

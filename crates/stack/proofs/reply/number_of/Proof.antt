@@ -98,6 +98,9 @@ enum-told-30 c = search needs
 enum-told-31 : tie.Need-enum-told-31
 enum-told-31 c = search needs
 
+enum-told-32 : tie.Need-enum-told-32
+enum-told-32 c = search needs
+
 returns : tie.Need-returns
 unfolding numberOf
 returns c = sym (ap numberOf (c .enum-told .given .1))
@@ -222,6 +225,10 @@ returns-31 : tie.Need-returns-31
 unfolding numberOf
 returns-31 c = sym (ap numberOf (c .enum-told31 .given .1))
 
+returns-32 : tie.Need-returns-32
+unfolding numberOf
+returns-32 c = sym (ap numberOf (c .enum-told32 .given .1))
+
 pub number-of-spec : {M : Type 1} → statement M
 number-of-spec =
     tie.close
@@ -257,6 +264,7 @@ number-of-spec =
     enum-told-29
     enum-told-30
     enum-told-31
+    enum-told-32
     returns
     returns-2
     returns-3
@@ -287,4 +295,5 @@ number-of-spec =
     returns-28
     returns-29
     returns-30
-    returns-31)
+    returns-31
+    returns-32)
