@@ -5,7 +5,7 @@ ghost use mathlib.Core.List.{List};
 ghost use Prim.Native.Nat.{ℕ};
 ghost use lib.ListN.{length};
 ghost use Rattle.model.specs.Fill.{over};
-ghost use Rattle.model.specs.Registers.{withParts, rL, sp, admissible, claimLocal, setRegister, putLocals, putGlobals};
+ghost use Rattle.model.specs.Registers.{withParts, rL, sp, hides, admissible, claimLocal, setRegister, putLocals, putGlobals};
 ghost use Rattle.model.specs.System.{putRefusal, putState};
 ghost use Rattle.model.specs.Numbers.{replyOf};
 ghost use Rattle.model.specs.Parts.{made};
@@ -85,6 +85,16 @@ pub fn admissible(special: &[u64; 32], marks: u64, mask: u64) -> bool
         return true;
     }
     false
+}
+
+/// Whether the mask hides special register k from programs; above 31 there is none.
+pub fn is_hidden(mask: u64, k: u8) -> bool
+    ensures { λ r. ⌜ r ≡ hides mask k ⌝ }
+{
+    if RZZ < k as u64 {
+        return false;
+    }
+    ((mask & HIDEABLE) >> k) % 2 == 1
 }
 
 /// The general registers from `from` up to, not including, `to` become 0; there are 256, whatever `to` says.

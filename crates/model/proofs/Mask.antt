@@ -38,7 +38,7 @@ unfolding hideable
 hideable-special k e =
     leb-true k 31 (one-of (λ n. leb n 31) (rBB ∷ rC ∷ rN ∷ rI ∷ rT ∷ rTT ∷ rK ∷ rQ ∷ rU ∷ rV ∷ rF ∷ rWW ∷ rXX ∷ rYY ∷ rZZ ∷ []) k (unfold eachOf in refl) e)
 
-above-special : (k : ℕ) → 32 ≤ k → hideable k ≡ false
+pub above-special : (k : ℕ) → 32 ≤ k → hideable k ≡ false
 above-special k l = go (hideable k) refl
   where
     go : (b : Bool) → hideable k ≡ b → b ≡ false
@@ -111,6 +111,19 @@ set-hideable m k e b = go (hideable k) (bits-are k)
 -- and a mask of such bits passes
 hideable-mask : (m : ℕ) → ((k : ℕ) → isSet m k ≡ true → hideable k ≡ true) → bitAnd m hideableBits ≡ m
 hideable-mask m h = share-all m m hideableBits (omega arith) (λ k e. bits-are k ∙ rw (h k (eq-eqb _ _ e)))
+
+-- special k is hidden where its bit is one that the mask shares with those that it may have
+pub hides-bit : (m k : ℕ) → hides m k ≡ eqb (bitAnd m hideableBits / 2 ^ k % 2) 1
+unfolding hides
+hides-bit m k = go (hideable k) (bits-are k)
+  where
+    go : (h : Bool) → hideableBits / 2 ^ k % 2 ≡ cond h 1 0 → (h && eqb (m / 2 ^ k % 2) 1) ≡ eqb (bitAnd m hideableBits / 2 ^ k % 2) 1
+    go true q =
+        let t : min (m / 2 ^ k % 2) (hideableBits / 2 ^ k % 2) ≡ m / 2 ^ k % 2 = omega arith in
+        rw (and-bit m hideableBits k, t)
+    go false q =
+        let t : min (m / 2 ^ k % 2) (hideableBits / 2 ^ k % 2) ≡ 0 = omega arith in
+        rw (and-bit m hideableBits k, t)
 
 -- ---- the theorem
 
