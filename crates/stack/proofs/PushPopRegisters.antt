@@ -108,11 +108,11 @@ store-next w a n i at pass l e f v u z ez eu ev = ez ∙ rw eu (puts-tab w a n p
 -- what code has done is what PUSH does
 pub entered : (g g₁ g₂ l : List ℕ) (pc h n ro rj d b : ℕ) → Held l → n ≡ getD l rL 0 - (h + 1) → ro ≡ (getD l rO 0 + 8 * (h + 1)) % 2 ^ 64 → rj ≡ (pc + 4) % 2 ^ 64
     → g₁ ≡ over (λ (k : ℕ). getD g (d + k) 0) 0 n g → d ≡ h + 1 → g₂ ≡ over (λ (k : ℕ). 0) b (getD l rG 0) g₁ → b ≡ n
-    → (halt marks : ℕ) → made g₂ (set (set (set (set l rL n) rO ro) rJ rj) rS ro) pc halt marks ≡ pushed (made g l pc halt marks) h
+    → (halt marks mask : ℕ) → made g₂ (set (set (set (set l rL n) rO ro) rJ rj) rS ro) pc halt marks mask ≡ pushed (made g l pc halt marks mask) h
 unfolding pushed pushedRule slide spilled withSpecial
-entered g g₁ g₂ l pc h n ro rj d b held en eo ej e₁ ed e₂ eb halt marks =
+entered g g₁ g₂ l pc h n ro rj d b held en eo ej e₁ ed e₂ eb halt marks mask =
     let top : n ≤ getD l rG 0 = omega (arith, held .l-g) in
-    let gs : g₂ ≡ over (slid (made g l pc halt marks) (h + 1)) 0 (getD l rG 0) g = e₂ ∙ rw (eb, e₁, ed) (slid-clear (made g l pc halt marks) (h + 1) n en top) in
+    let gs : g₂ ≡ over (slid (made g l pc halt marks mask) (h + 1)) 0 (getD l rG 0) g = e₂ ∙ rw (eb, e₁, ed) (slid-clear (made g l pc halt marks mask) (h + 1) n en top) in
     let at : getD (set (set (set l rL n) rO ro) rJ rj) rO 0 ≡ ro = simp spec-other (getD-set-same (set l rL n) rO ro 0 (simp length-set (held .long))) in
     let top-is : set (set (set (set l rL n) rO ro) rJ rj) rS ro ≡ set (set (set (set l rL n) rO ro) rJ rj) rS (getD (set (set (set l rL n) rO ro) rJ rj) rO 0) = ap (set (set (set (set l rL n) rO ro) rJ rj) rS) (sym at) in
     rw (gs, top-is, en, eo, ej)
@@ -258,25 +258,25 @@ module _ (w : Windows) (l : List ℕ) (x h bottom count low : ℕ) (held : Held 
   at-bottom : bottom ≡ bottomOf l h
   at-bottom = eb ∙ below (getD l rO 0) (8 * (h + 1)) (placed .above) (placed .beneath) (omega arith)
 
-  pub low-is : (g : List ℕ) (pc halt marks : ℕ) → low ≡ lowered (made g l pc halt marks) x h
-  low-is g pc halt marks = ew ∙ ap (λ (n : ℕ). min (h + n) (getD l rG 0)) (ec (made g l pc halt marks) refl)
+  pub low-is : (g : List ℕ) (pc halt marks mask : ℕ) → low ≡ lowered (made g l pc halt marks mask) x h
+  low-is g pc halt marks mask = ew ∙ ap (λ (n : ℕ). min (h + n) (getD l rG 0)) (ec (made g l pc halt marks mask) refl)
 
   -- the frame is there
   pub frame-read : worst (refusing (shapesOf w)) (bottomOf l h) (min h (getD l rG 0)) ≡ 0 → worst (refusing (shapesOf w)) bottom (min h low) ≡ 0
   frame-read pass = let m : min h low ≡ min h (getD l rG 0) = omega arith in rw (at-bottom, m) pass
 
-  module _ (g g₁ g₂ : List ℕ) (pc halt marks : ℕ) (e₁ : made g₁ l pc halt marks ≡ betweenBy w bottom (made g l pc halt marks) x h) (e₂ : g₂ ≡ over (λ (k : ℕ). 0) low (getD l rG 0) g₁) where
+  module _ (g g₁ g₂ : List ℕ) (pc halt marks mask : ℕ) (e₁ : made g₁ l pc halt marks mask ≡ betweenBy w bottom (made g l pc halt marks mask) x h) (e₂ : g₂ ≡ over (λ (k : ℕ). 0) low (getD l rG 0) g₁) where
     abbrev s : State
-    s = made g l pc halt marks
+    s = made g l pc halt marks mask
 
     abbrev locals : List ℕ
     locals = looks both w (bottomOf l h) (min h (getD l rG 0))
 
-    pub left : made g₂ (set (set (set l rL low) rO bottom) rS bottom) pc halt marks ≡ popped s x h locals
+    pub left : made g₂ (set (set (set l rL low) rO bottom) rS bottom) pc halt marks mask ≡ popped s x h locals
     unfolding popped unslide spilled withSpecial cleared
     left =
         let first : g₁ ≡ between s x h locals .general = ap (λ (t : State). t .general) e₁ ∙ ap (λ (a : ℕ). betweenBy w a s x h .general) at-bottom in
-        let gs : g₂ ≡ popped s x h locals .general = e₂ ∙ rw (first, low-is g pc halt marks) (then-clears s x h locals) in
+        let gs : g₂ ≡ popped s x h locals .general = e₂ ∙ rw (first, low-is g pc halt marks mask) (then-clears s x h locals) in
         let at : getD (set (set l rL low) rO bottom) rO 0 ≡ bottom = getD-set-same (set l rL low) rO bottom 0 (simp length-set (held .long)) in
         let top : set (set (set l rL low) rO bottom) rS bottom ≡ set (set (set l rL low) rO bottom) rS (getD (set (set l rL low) rO bottom) rO 0) = ap (set (set (set l rL low) rO bottom) rS) (sym at) in
-        rw (gs, top, low-is g pc halt marks, at-bottom)
+        rw (gs, top, low-is g pc halt marks mask, at-bottom)

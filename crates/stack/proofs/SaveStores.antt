@@ -1,6 +1,6 @@
 -- Laws of SAVE: a run that goes on, stores one after another as the whole run of a context's octabytes, and the registers after it.
 -- What is answered is in SaveUnsaveAnswers.
-use mathlib.Core.Path.{_≡_, sym, ap, _∙_}
+use mathlib.Core.Path.{_≡_, refl, sym, ap, _∙_}
 use mathlib.Core.List.{List}
 use Prim.Native.Nat.{ℕ, _+_, _-_, _*_, _%_, _^_, _≤_, _<_, min}
 use native.Mathlib.Omega.{arith}
@@ -86,19 +86,20 @@ pub context-stored : (general special : List ℕ) → Ranged special → (w w1 w
     → packed ≡ (getD special rO 0 + 8 * (getD special rL 0 + 269 - getD special rG 0)) % 2 ^ 64
     → w5 ≡ writtenOcta w4 packed (getD special rG 0 * 2 ^ 56 + getD special rA 0)
     → StoresContext general special w w5
+unfolding saved
 context-stored general special r w w1 w2 w3 w4 w5 marker globals specials packed c1 em e2 eg c3 es c4 ep e5 =
     record {
-      stores = λ pc halt marks low pass. stored-all (made general special pc halt marks)
-          (record { g-low = r .g-low; g-high = r .g-high; l-g = r .l-g; a-high = r .a-high; marks-high = low })
+      stores = λ pc halt marks mask pass. stored-all (made general special pc halt 0 0)
+          (record { g-low = r .g-low; g-high = r .g-high; l-g = r .l-g; a-high = r .a-high; marks-high = omega arith; mask-in = refl })
           w w1 w2 w3 w4 w5 marker globals specials packed c1 em e2 eg c3 es c4 ep e5 pass;
     }
 
 -- ---- the registers after it
 
 pub departed : (general special general' special' : List ℕ) (x : ℕ) → length special ≡ 32 → general' ≡ leftGeneral general special x
-    → special' ≡ leftSpecial special → (pc halt marks : ℕ) → made general' special' pc halt marks ≡ savedState (made general special pc halt marks) x
+    → special' ≡ leftSpecial special → (pc halt marks mask : ℕ) → made general' special' pc halt marks mask ≡ savedState (made general special pc halt marks mask) x
 unfolding savedState savedUnspilled spilled withSpecial stored leftGeneral leftSpecial
-departed general special general' special' x len eg es pc halt marks =
+departed general special general' special' x len eg es pc halt marks mask =
     let new : ℕ = (getD special rO 0 + 8 * (getD special rL 0 + 270 - getD special rG 0)) % 2 ^ 64 in
     let same : getD (set (set special rL 0) rO new) rO 0 ≡ new = getD-set-same (set special rL 0) rO new 0 (omega (arith, length-set special rL 0)) in
     cc

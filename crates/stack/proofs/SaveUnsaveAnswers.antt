@@ -33,9 +33,9 @@ use Rattle.stack.proofs.Judged.{refused-guarded, judged-by, guarded-ope
 use Rattle.stack.proofs.LocateAnswers.{comes}
 
 -- the bounds of an admissible state
-pub ranged : (general special : List ℕ) (pc halt marks : ℕ) → admissible (made general special pc halt marks) ≡ true → Ranged special
-ranged general special pc halt marks e =
-    let b : Adm (made general special pc halt marks) = adm (made general special pc halt marks) e in
+pub ranged : (general special : List ℕ) (pc halt marks mask : ℕ) → admissible (made general special pc halt marks mask) ≡ true → Ranged special
+ranged general special pc halt marks mask e =
+    let b : Adm (made general special pc halt marks mask) = adm (made general special pc halt marks mask) e in
     record { g-low = b .g-low; g-high = b .g-high; l-g = b .l-g; a-high = b .a-high }
 
 -- ---- outcomes as what is given back
@@ -51,7 +51,7 @@ module _ (w : Windows) (s : State) (o : Outcome State Windows) (n : ℕ) (r : Re
 
   moves : (t u : State) → t ≡ u → u .pc ≡ s .pc → o ≡ record { reply = n; state = next u; memory = w } → Gives o s r t w
   unfolding goes
-  moves t u d f e = rw (e, d) (record { reply-is = q; state-is = ap (λ (a : ℕ). made (u .general) (u .special) a (u .halt) (u .marks)) f; window-is = refl })
+  moves t u d f e = rw (e, d) (record { reply-is = q; state-is = ap (λ (a : ℕ). made (u .general) (u .special) a (u .halt) (u .marks) (u .mask)) f; window-is = refl })
 
 -- ---- SAVE
 
@@ -92,7 +92,7 @@ module _ (w : Windows) (s : State) (x : ℕ) where
         → StoresContext (s .general) (s .special) w v → Gives (saveIn w s x) s Done t v
     unfolding saveIn replyOf
     save-done l f t v et c =
-        let ev : v ≡ puts both w (sp s rO) (tab 0 (extent s) (saved s)) = c .stores (s .pc) (s .halt) (s .marks) (adm s a .marks-high) f in
+        let ev : v ≡ puts both w (sp s rO) (tab 0 (extent s) (saved s)) = c .stores (s .pc) (s .halt) (s .marks) (s .mask) f in
         rw ev (moves (puts both w (sp s rO) (tab 0 (extent s) (saved s))) s _ 0 Done refl t (savedState s x) et same (only-open w s (admissible s) (saveContext s x) a ∙ plan))
       where
         same : savedState s x .pc ≡ s .pc

@@ -246,11 +246,11 @@ module _ (s : State) (w : Windows) (first g a l specials : ℕ) (n : length (s .
 
 pub arrived : (general special general' special' : List ℕ) (w : Windows) (first g a l specials : ℕ) → length special ≡ 32 → g ≤ 255 → l ≤ g
     → specials ≡ (first + 8 * (l + 257 - g)) % 2 ^ 64 → general' ≡ over (unsavedGeneral g l (octasFrom w first (l + 270 - g))) 0 256 general
-    → special' ≡ loaded (λ (i : ℕ). readOcta w ((specials + 8 * i) % 2 ^ 64)) 12 special → (pc halt marks : ℕ)
-    → made general' (set (set (set (set (set special' rO first) rA a) rL l) rG g) rS first) pc halt marks
-    ≡ unsaved (made general special pc halt marks) first g a l (octasFrom w first (l + 270 - g))
+    → special' ≡ loaded (λ (i : ℕ). readOcta w ((specials + 8 * i) % 2 ^ 64)) 12 special → (pc halt marks mask : ℕ)
+    → made general' (set (set (set (set (set special' rO first) rA a) rL l) rG g) rS first) pc halt marks mask
+    ≡ unsaved (made general special pc halt marks mask) first g a l (octasFrom w first (l + 270 - g))
 unfolding unsaved spilled withSpecial unsavedUnspilled
-arrived general special general' special' w first g a l specials n gh lg e eg es pc halt marks =
-    let all = by-rule (made general special pc halt marks) w first g a l specials n gh lg e in
-    let spill = by-spill (made general special pc halt marks) w first g a l specials n gh lg e in
+arrived general special general' special' w first g a l specials n gh lg e eg es pc halt marks mask =
+    let all = by-rule (made general special pc halt marks mask) w first g a l specials n gh lg e in
+    let spill = by-spill (made general special pc halt marks mask) w first g a l specials n gh lg e in
     rw (eg, es, all, spill)

@@ -24,8 +24,8 @@ pub record Ranged (special : List ℕ) : Type 0 where
 
 -- v is w with the context of these registers stored from rO up, where it lies inside
 pub record StoresContext (general special : List ℕ) (w v : Windows) : Type 0 where
-  pub stores : (pc halt marks : ℕ) → marks < 512 → worst (refusing (shapesOf w)) (getD special rO 0) (extent (made general special pc halt marks)) ≡ 0
-      → v ≡ puts both w (getD special rO 0) (tab 0 (extent (made general special pc halt marks)) (saved (made general special pc halt marks)))
+  pub stores : (pc halt marks mask : ℕ) → worst (refusing (shapesOf w)) (getD special rO 0) (extent (made general special pc halt marks mask)) ≡ 0
+      → v ≡ puts both w (getD special rO 0) (tab 0 (extent (made general special pc halt marks mask)) (saved (made general special pc halt marks mask)))
 
 -- the registers that SAVE $x leaves
 unfoldable pub leftGeneral : List ℕ → List ℕ → ℕ → List ℕ

@@ -130,17 +130,18 @@ pub fn save_context(
     special: &mut [u64; 32],
     halt: &mut u64,
     marks: u64,
+    mask: u64,
     a: &mut [u8],
     b: &mut [u8],
     at: Bases,
     x: u8,
 ) -> Reply
     ensures { λ r. ⌜ ((pc : ℕ) → Gives
-        (saveIn (lent at (now (a .entry)) (now (b .entry))) (made (now (general .entry)) (now (special .entry)) pc (now (halt .entry)) marks) x)
-        (made (now (general .entry)) (now (special .entry)) pc (now (halt .entry)) marks) r
-        (made (now (general .exit)) (now (special .exit)) pc (now (halt .exit)) marks) (lent at (now (a .exit)) (now (b .exit)))) ⌝ }
+        (saveIn (lent at (now (a .entry)) (now (b .entry))) (made (now (general .entry)) (now (special .entry)) pc (now (halt .entry)) marks mask) x)
+        (made (now (general .entry)) (now (special .entry)) pc (now (halt .entry)) marks mask) r
+        (made (now (general .exit)) (now (special .exit)) pc (now (halt .exit)) marks mask) (lent at (now (a .exit)) (now (b .exit)))) ⌝ }
 {
-    if !machine::registers::admissible(special, marks) {
+    if !machine::registers::admissible(special, marks, mask) {
         return Reply::NotAdmissible;
     }
     let rg = special[State::RG];
@@ -207,8 +208,8 @@ fn arrive(
     context: SavedContext,
 )
     requires { ⌜ (context .rg ≤ 255) × (context .count ≤ context .rg) ⌝ }
-    ensures { λ _. ⌜ ((pc halt marks : ℕ) → made (now (general .exit)) (now (special .exit)) pc halt marks
-        ≡ unsavedAs (lent at (now (a .entry)) (now (b .entry))) (made (now (general .entry)) (now (special .entry)) pc halt marks) context) ⌝ }
+    ensures { λ _. ⌜ ((pc halt marks mask : ℕ) → made (now (general .exit)) (now (special .exit)) pc halt marks mask
+        ≡ unsavedAs (lent at (now (a .entry)) (now (b .entry))) (made (now (general .entry)) (now (special .entry)) pc halt marks mask) context) ⌝ }
 {
     machine::registers::counted(general, special);
     let first = context.first;
@@ -234,10 +235,10 @@ pub fn unsave_context(
     at: Bases,
     address: u64,
 ) -> Reply
-    ensures { λ r. ⌜ ((pc marks : ℕ) → Gives
-        (unsaveIn (lent at (now (a .entry)) (now (b .entry))) (made (now (general .entry)) (now (special .entry)) pc (now (halt .entry)) marks) address)
-        (made (now (general .entry)) (now (special .entry)) pc (now (halt .entry)) marks) r
-        (made (now (general .exit)) (now (special .exit)) pc (now (halt .exit)) marks) (lent at (now (a .entry)) (now (b .entry)))) ⌝ }
+    ensures { λ r. ⌜ ((pc marks mask : ℕ) → Gives
+        (unsaveIn (lent at (now (a .entry)) (now (b .entry))) (made (now (general .entry)) (now (special .entry)) pc (now (halt .entry)) marks mask) address)
+        (made (now (general .entry)) (now (special .entry)) pc (now (halt .entry)) marks mask) r
+        (made (now (general .exit)) (now (special .exit)) pc (now (halt .exit)) marks mask) (lent at (now (a .entry)) (now (b .entry)))) ⌝ }
 {
     let located = super::layout::locate(a, b, at, address);
     match located {

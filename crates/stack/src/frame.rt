@@ -105,8 +105,8 @@ fn load_locals(general: &mut [u64; 256], a: &[u8], b: &[u8], at: Bases, addr: u6
 /// The frame with hole h, stored from address ro up.
 fn store_frame(general: &[u64; 256], a: &mut [u8], b: &mut [u8], at: Bases, ro: u64, h: u64)
     requires { ⌜ (h ≤ 255) × (worst (refusing (shapesOf (lent at (now a) (now b)))) ro (h + 1) ≡ 0) ⌝ }
-    ensures { λ _. ⌜ ((special : List ℕ) (pc halt marks : ℕ) → lent at (now (a .exit)) (now (b .exit))
-        ≡ puts both (lent at (now (a .entry)) (now (b .entry))) ro (tab 0 (h + 1) (framed (made (now (general .entry)) special pc halt marks) h))) ⌝ }
+    ensures { λ _. ⌜ ((special : List ℕ) (pc halt marks mask : ℕ) → lent at (now (a .exit)) (now (b .exit))
+        ≡ puts both (lent at (now (a .entry)) (now (b .entry))) ro (tab 0 (h + 1) (framed (made (now (general .entry)) special pc halt marks mask) h))) ⌝ }
 {
     store_locals(general, a, b, at, ro, h);
     let addr = machine::number::wrapping_add(ro, 8 * h);
@@ -116,8 +116,8 @@ fn store_frame(general: &[u64; 256], a: &mut [u8], b: &mut [u8], at: Bases, ro: 
 /// The registers after a push with hole h.
 fn enter(general: &mut [u64; 256], special: &mut [u64; 32], pc: u64, h: u64)
     requires { ⌜ (Held (now special)) × (h ≤ 255) ⌝ }
-    ensures { λ _. ⌜ ((halt marks : ℕ) → made (now (general .exit)) (now (special .exit)) pc halt marks
-        ≡ pushed (made (now (general .entry)) (now (special .entry)) pc halt marks) h) ⌝ }
+    ensures { λ _. ⌜ ((halt marks mask : ℕ) → made (now (general .exit)) (now (special .exit)) pc halt marks mask
+        ≡ pushed (made (now (general .entry)) (now (special .entry)) pc halt marks mask) h) ⌝ }
 {
     let ro = special[State::RO];
     let rl = special[State::RL];
@@ -143,10 +143,10 @@ pub fn push_frame(
     at: Bases,
     x: u8,
 ) -> Reply
-    ensures { λ r. ⌜ ((halt marks : ℕ) → Gives
-        (pushIn (lent at (now (a .entry)) (now (b .entry))) (made (now (general .entry)) (now (special .entry)) pc halt marks) x)
-        (made (now (general .entry)) (now (special .entry)) pc halt marks) r
-        (made (now (general .exit)) (now (special .exit)) pc halt marks) (lent at (now (a .exit)) (now (b .exit)))) ⌝ }
+    ensures { λ r. ⌜ ((halt marks mask : ℕ) → Gives
+        (pushIn (lent at (now (a .entry)) (now (b .entry))) (made (now (general .entry)) (now (special .entry)) pc halt marks mask) x)
+        (made (now (general .entry)) (now (special .entry)) pc halt marks mask) r
+        (made (now (general .exit)) (now (special .exit)) pc halt marks mask) (lent at (now (a .exit)) (now (b .exit)))) ⌝ }
 {
     machine::registers::counted(general, special);
     let rg = special[State::RG];
@@ -179,8 +179,8 @@ fn count_of(rl: u64, x: u8) -> u64
 
 /// The last output.
 fn last_output(general: &[u64; 256], rl: u64, x: u8) -> u64
-    ensures { λ r. ⌜ ((special : List ℕ) (pc halt marks : ℕ) → getD special rL 0 ≡ rl
-        → r ≡ lastOutput (made (now (general .entry)) special pc halt marks) x) ⌝ }
+    ensures { λ r. ⌜ ((special : List ℕ) (pc halt marks mask : ℕ) → getD special rL 0 ≡ rl
+        → r ≡ lastOutput (made (now (general .entry)) special pc halt marks mask) x) ⌝ }
 {
     if rl < x as u64 {
         return 0;
@@ -206,10 +206,10 @@ fn restore(
     low: u64,
 )
     requires { ⌜ (h ≤ 255) × (low ≤ 255) × (worst (refusing (shapesOf (lent at (now a) (now b)))) bottom (min h low) ≡ 0) ⌝ }
-    ensures { λ _. ⌜ ((special : List ℕ) (pc halt marks : ℕ) → getD special rL 0 ≡ rl
-        → low ≡ lowered (made (now (general .entry)) special pc halt marks) x h
-        → made (now (general .exit)) special pc halt marks
-        ≡ betweenBy (lent at (now (a .entry)) (now (b .entry))) bottom (made (now (general .entry)) special pc halt marks) x h) ⌝ }
+    ensures { λ _. ⌜ ((special : List ℕ) (pc halt marks mask : ℕ) → getD special rL 0 ≡ rl
+        → low ≡ lowered (made (now (general .entry)) special pc halt marks mask) x h
+        → made (now (general .exit)) special pc halt marks mask
+        ≡ betweenBy (lent at (now (a .entry)) (now (b .entry))) bottom (made (now (general .entry)) special pc halt marks mask) x h) ⌝ }
 {
     let last = last_output(general, rl, x);
     super::slide::slide_up(general, h + 1, low);
@@ -243,8 +243,8 @@ fn leave(
 )
     requires { ⌜ (Held (now special)) × (h ≤ 255) × (Placed (now special))
         × (worst (refusing (shapesOf (lent at (now a) (now b)))) (bottomOf (now special) h) (min h (getD (now special) rG 0)) ≡ 0) ⌝ }
-    ensures { λ _. ⌜ ((pc halt marks : ℕ) → made (now (general .exit)) (now (special .exit)) pc halt marks
-        ≡ poppedAs (lent at (now (a .entry)) (now (b .entry))) (made (now (general .entry)) (now (special .entry)) pc halt marks) x h) ⌝ }
+    ensures { λ _. ⌜ ((pc halt marks mask : ℕ) → made (now (general .exit)) (now (special .exit)) pc halt marks mask
+        ≡ poppedAs (lent at (now (a .entry)) (now (b .entry))) (made (now (general .entry)) (now (special .entry)) pc halt marks mask) x h) ⌝ }
 {
     let ro = special[State::RO];
     let rg = special[State::RG];
@@ -270,10 +270,10 @@ fn pop_at(
     yz: u16,
 ) -> PopFrame
     requires { ⌜ (Held (now special)) × (Placed (now special)) ⌝ }
-    ensures { λ r. ⌜ ((pc halt marks : ℕ) → misplaced (made (now (general .entry)) (now (special .entry)) pc halt marks) ≡ false → PopGives
-        (popIn (lent at (now (a .entry)) (now (b .entry))) (made (now (general .entry)) (now (special .entry)) pc halt marks) x)
-        (made (now (general .entry)) (now (special .entry)) pc halt marks) yz r
-        (made (now (general .exit)) (now (special .exit)) pc halt marks)) ⌝ }
+    ensures { λ r. ⌜ ((pc halt marks mask : ℕ) → misplaced (made (now (general .entry)) (now (special .entry)) pc halt marks mask) ≡ false → PopGives
+        (popIn (lent at (now (a .entry)) (now (b .entry))) (made (now (general .entry)) (now (special .entry)) pc halt marks mask) x)
+        (made (now (general .entry)) (now (special .entry)) pc halt marks mask) yz r
+        (made (now (general .exit)) (now (special .exit)) pc halt marks mask)) ⌝ }
 {
     let ro = special[State::RO];
     let rg = special[State::RG];
@@ -305,10 +305,10 @@ pub fn pop_frame(
     x: u8,
     yz: u16,
 ) -> PopFrame
-    ensures { λ r. ⌜ ((pc marks : ℕ) → PopGives
-        (popIn (lent at (now (a .entry)) (now (b .entry))) (made (now (general .entry)) (now (special .entry)) pc (now (halt .entry)) marks) x)
-        (made (now (general .entry)) (now (special .entry)) pc (now (halt .entry)) marks) yz r
-        (made (now (general .exit)) (now (special .exit)) pc (now (halt .exit)) marks)) ⌝ }
+    ensures { λ r. ⌜ ((pc marks mask : ℕ) → PopGives
+        (popIn (lent at (now (a .entry)) (now (b .entry))) (made (now (general .entry)) (now (special .entry)) pc (now (halt .entry)) marks mask) x)
+        (made (now (general .entry)) (now (special .entry)) pc (now (halt .entry)) marks mask) yz r
+        (made (now (general .exit)) (now (special .exit)) pc (now (halt .exit)) marks mask)) ⌝ }
 {
     machine::registers::counted(general, special);
     let rg = special[State::RG];

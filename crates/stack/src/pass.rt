@@ -6,7 +6,7 @@ ghost use lib.ListN.{length};
 ghost use Rattle.model.specs.Memory.{shapesOf, holder};
 ghost use Rattle.model.specs.Plan.{worst};
 ghost use Rattle.model.specs.Step.{refusing};
-ghost use Rattle.model.specs.Registers.{withParts, admissible, claimLocal, setRegister};
+ghost use Rattle.model.specs.Registers.{withParts, hides, admissible, claimLocal, setRegister};
 ghost use Rattle.model.specs.Control.{isNegative};
 ghost use Rattle.model.specs.Parts.{made, lent};
 ghost use Rattle.model.specs.declared.State.{State};
@@ -36,18 +36,24 @@ pub fn is_negative(v: u64) -> bool
     machine::number::is_negative(v)
 }
 
-pub fn admissible(special: &[u64; 32], marks: u64) -> bool
-    ensures { λ r. ⌜ ((general : List ℕ) (pc halt : ℕ) → r ≡ admissible (made general (now (special .entry)) pc halt marks)) ⌝ }
+pub fn is_hidden(mask: u64, k: u8) -> bool
+    ensures { λ r. ⌜ r ≡ hides mask k ⌝ }
 {
-    machine::registers::admissible(special, marks)
+    machine::registers::is_hidden(mask, k)
+}
+
+pub fn admissible(special: &[u64; 32], marks: u64, mask: u64) -> bool
+    ensures { λ r. ⌜ ((general : List ℕ) (pc halt : ℕ) → r ≡ admissible (made general (now (special .entry)) pc halt marks mask)) ⌝ }
+{
+    machine::registers::admissible(special, marks, mask)
 }
 
 /// The number by which state or windows are refused, 0 where both pass: 1, then 2 and 22.
-pub fn refusal(special: &[u64; 32], marks: u64, a: &[u8], b: &[u8], at: Bases) -> u64
+pub fn refusal(special: &[u64; 32], marks: u64, mask: u64, a: &[u8], b: &[u8], at: Bases) -> u64
     ensures { λ r. ⌜ ((general : List ℕ) (pc halt : ℕ) → r
-        ≡ refusalOn (lent at (now (a .entry)) (now (b .entry))) (made general (now (special .entry)) pc halt marks)) ⌝ }
+        ≡ refusalOn (lent at (now (a .entry)) (now (b .entry))) (made general (now (special .entry)) pc halt marks mask)) ⌝ }
 {
-    if machine::registers::admissible(special, marks) {
+    if machine::registers::admissible(special, marks, mask) {
         return machine::memory::windows_refusal(a, b, at);
     }
     1

@@ -28,7 +28,8 @@ pub fn push_frame(state: State, a: &mut [u8], b: &mut [u8], at: Bases, x: u8) ->
     let pc = state.pc;
     let halt = state.halt;
     let marks = state.marks;
-    let number = super::pass::refusal(&special, marks, &*a, &*b, at);
+    let mask = state.mask;
+    let number = super::pass::refusal(&special, marks, mask, &*a, &*b, at);
     if number != 0 {
         return Answer {
             reply: super::reply::refused(number),
@@ -42,6 +43,7 @@ pub fn push_frame(state: State, a: &mut [u8], b: &mut [u8], at: Bases, x: u8) ->
         pc: pc,
         halt: halt,
         marks: marks,
+        mask: mask,
     };
     Answer {
         reply: reply,
@@ -57,7 +59,8 @@ pub fn pop_frame(state: State, a: &[u8], b: &[u8], at: Bases, x: u8, yz: u16) ->
     let mut halt = state.halt;
     let pc = state.pc;
     let marks = state.marks;
-    let number = super::pass::refusal(&special, marks, a, b, at);
+    let mask = state.mask;
+    let number = super::pass::refusal(&special, marks, mask, a, b, at);
     if number != 0 {
         return Popped {
             answer: super::frame::refused(number),
@@ -71,6 +74,7 @@ pub fn pop_frame(state: State, a: &[u8], b: &[u8], at: Bases, x: u8, yz: u16) ->
         pc: pc,
         halt: halt,
         marks: marks,
+        mask: mask,
     };
     Popped {
         answer: answer,
@@ -86,7 +90,8 @@ pub fn save_context(state: State, a: &mut [u8], b: &mut [u8], at: Bases, x: u8) 
     let mut halt = state.halt;
     let pc = state.pc;
     let marks = state.marks;
-    let number = super::pass::refusal(&special, marks, &*a, &*b, at);
+    let mask = state.mask;
+    let number = super::pass::refusal(&special, marks, mask, &*a, &*b, at);
     if number != 0 {
         return Answer {
             reply: super::reply::refused(number),
@@ -98,6 +103,7 @@ pub fn save_context(state: State, a: &mut [u8], b: &mut [u8], at: Bases, x: u8) 
         &mut special,
         &mut halt,
         marks,
+        mask,
         a,
         b,
         at,
@@ -109,6 +115,7 @@ pub fn save_context(state: State, a: &mut [u8], b: &mut [u8], at: Bases, x: u8) 
         pc: pc,
         halt: halt,
         marks: marks,
+        mask: mask,
     };
     Answer {
         reply: reply,
@@ -124,7 +131,8 @@ pub fn unsave_context(state: State, a: &[u8], b: &[u8], at: Bases, address: u64)
     let mut halt = state.halt;
     let pc = state.pc;
     let marks = state.marks;
-    let number = super::pass::refusal(&special, marks, a, b, at);
+    let mask = state.mask;
+    let number = super::pass::refusal(&special, marks, mask, a, b, at);
     if number != 0 {
         return Answer {
             reply: super::reply::refused(number),
@@ -146,6 +154,7 @@ pub fn unsave_context(state: State, a: &[u8], b: &[u8], at: Bases, address: u64)
         pc: pc,
         halt: halt,
         marks: marks,
+        mask: mask,
     };
     Answer {
         reply: reply,

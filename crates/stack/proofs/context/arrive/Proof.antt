@@ -42,10 +42,10 @@ element-write-special-5 c = search needs
 
 returns : tie.Need-returns
 returns c =
-    λ pc halt marks.
+    λ pc halt marks mask.
     let start = c .before .before .before .before .before .before .before .before .before .before in
     arrived _ _ _ _ _ _ _ _ _ _ (c .before .before .before .before .before .counted .ensures .1) (start .pre .0) (start .pre .1) (c .before .before .before .before .wrapping-add .ensures)
-    (c .before .before .load-general .ensures) (c .load-specials .ensures) pc halt marks
+    (c .before .before .load-general .ensures) (c .load-specials .ensures) pc halt marks mask
 
 pub arrive-spec : {M : Type 1} → statement M
 arrive-spec =

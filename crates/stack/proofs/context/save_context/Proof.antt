@@ -15,11 +15,11 @@ use Rattle.stack.proofs.context.save_context.Statement.{statement}
 use Rattle.stack.proofs.context.save_context.Tie as tie
 
 -- 1 has passed
-judged : (c : tie.Else1) (pc halt : ℕ) → admissible (made (c .before .before .before .before .before .args .general .now) (c .before .before .before .before .before .args .special .now) pc halt (c .before .before .before .before .before .args .marks)) ≡ true
+judged : (c : tie.Else1) (pc halt : ℕ) → admissible (made (c .before .before .before .before .before .args .general .now) (c .before .before .before .before .before .args .special .now) pc halt (c .before .before .before .before .before .args .marks) (c .before .before .before .before .before .args .mask)) ≡ true
 judged c pc halt = granted _ _ (c .before .admissible .ensures (c .before .before .before .before .before .args .general .now) pc halt) (c .if1 .left)
 
 bounds : (c : tie.Else1) → Ranged (c .before .before .before .before .before .args .special .now)
-bounds c = ranged _ _ 0 0 _ (judged c 0 0)
+bounds c = ranged _ _ 0 0 _ _ (judged c 0 0)
 
 admissible-requires : tie.Need-admissible-requires
 admissible-requires c κs = search needs
@@ -84,7 +84,7 @@ returns-4 c =
     λ pc.
     let stored = c .before .before .before .before .before .before .put-away .ensures in
     save-done _ _ _ (judged (c .before .before .before .before .before .before .before .before .before .before .before .before .before .before .before .before .before .before .before .before .before .before) pc _) (c .before .before .before .before .before .before .before .before .before .before .before .before .before .before .before .before .before .before .if2 .left) (omega (arith, c .before .before .before .before .before .before .before .before .before .before .before .before .before .before .before .run-refusal .ensures, c .before .before .before .before .before .before .before .before .before .before .before .before .before .before .if3 .left)) _ _
-    (departed _ _ _ _ _ (c .before .before .before .before .before .before .before .before .before .before .before .counted .ensures .1) (stored .1) (c .depart .ensures) pc _ _) (stored .0)
+    (departed _ _ _ _ _ (c .before .before .before .before .before .before .before .before .before .before .before .counted .ensures .1) (stored .1) (c .depart .ensures) pc _ _ _) (stored .0)
 
 pub save-context-spec : {M : Type 1} → statement M
 save-context-spec =

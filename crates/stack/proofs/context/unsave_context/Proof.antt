@@ -22,14 +22,14 @@ enum-known-located-3 : tie.Need-enum-known-located-3
 enum-known-located-3 c = search needs
 
 returns : tie.Need-returns
-returns c = λ pc marks. unsave-done _ _ _ _ (c .before .before .before .before .before .before .locate .ensures) _ (c .before .before .before .before .located .given .1) _ (c .arrive .ensures pc _ _)
+returns c = λ pc marks mask. unsave-done _ _ _ _ (c .before .before .before .before .before .before .locate .ensures) _ (c .before .before .before .before .located .given .1) _ (c .arrive .ensures pc _ _ _)
 
 returns-2 : tie.Need-returns-2
 unfolding halted
-returns-2 c = λ pc marks. unsave-bad _ _ _ _ (c .before .before .before .locate .ensures) _ (c .before .located2 .given .1)
+returns-2 c = λ pc marks mask. unsave-bad _ _ _ _ (c .before .before .before .locate .ensures) _ (c .before .located2 .given .1)
 
 returns-3 : tie.Need-returns-3
-returns-3 c = λ pc marks. unsave-lost _ _ _ _ (c .before .before .before .locate .ensures) _ (c .before .located3 .given .1)
+returns-3 c = λ pc marks mask. unsave-lost _ _ _ _ (c .before .before .before .locate .ensures) _ (c .before .located3 .given .1)
 
 pub unsave-context-spec : {M : Type 1} → statement M
 unsave-context-spec =

@@ -59,17 +59,17 @@ element-write-special-3 c = search needs
 
 returns : tie.Need-returns
 returns c =
-    λ pc halt marks.
+    λ pc halt marks mask.
     let start = c .before .before .before .before .before .before .before .before .before .before .before .before in
     let a = start .args in
     let bottom = c .before .before .before .before .before .before .wrapping-sub in
     let count = c .before .before .before .before .before .count-of in
     let least = c .before .before .before .before .least in
     left (lent (a .at) (a .a .now) (a .b .now)) (a .special .now) (a .x) (a .h) _ _ _ (start .pre .0) (start .pre .2) (start .pre .1)
-    (bottom .ensures) (count .ensures .0) (least .ensures) (a .general .now) _ _ pc halt marks
-    (c .before .before .restore .ensures (a .special .now) pc halt marks refl
+    (bottom .ensures) (count .ensures .0) (least .ensures) (a .general .now) _ _ pc halt marks mask
+    (c .before .before .restore .ensures (a .special .now) pc halt marks mask refl
     (low-is (lent (a .at) (a .a .now) (a .b .now)) (a .special .now) (a .x) (a .h) _ _ _ (start .pre .0) (start .pre .2) (start .pre .1)
-    (bottom .ensures) (count .ensures .0) (least .ensures) (a .general .now) pc halt marks))
+    (bottom .ensures) (count .ensures .0) (least .ensures) (a .general .now) pc halt marks mask))
     (c .clear-range .ensures)
 
 pub leave-spec : {M : Type 1} → statement M

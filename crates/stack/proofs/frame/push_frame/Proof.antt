@@ -15,11 +15,11 @@ use Rattle.stack.proofs.frame.push_frame.Statement.{statement}
 use Rattle.stack.proofs.frame.push_frame.Tie as tie
 
 -- rG and rL are placed
-good : (c : tie.Else1) (pc halt marks : ℕ) → placed (made (c .before .before .before .before .before .before .before .before .before .before .args .general .now) (c .before .before .before .before .before .before .before .before .before .before .args .special .now) pc halt marks) ≡ true
-good c pc halt marks = granted _ _ (c .before .is-placed .ensures (made (c .before .before .before .before .before .before .before .before .before .before .args .general .now) (c .before .before .before .before .before .before .before .before .before .before .args .special .now) pc halt marks) refl refl) (c .if1 .left)
+good : (c : tie.Else1) (pc halt marks mask : ℕ) → placed (made (c .before .before .before .before .before .before .before .before .before .before .args .general .now) (c .before .before .before .before .before .before .before .before .before .before .args .special .now) pc halt marks mask) ≡ true
+good c pc halt marks mask = granted _ _ (c .before .is-placed .ensures (made (c .before .before .before .before .before .before .before .before .before .before .args .general .now) (c .before .before .before .before .before .before .before .before .before .before .args .special .now) pc halt marks mask) refl refl) (c .if1 .left)
 
 held : (c : tie.Else1) → Held (c .before .before .before .before .before .before .before .before .before .before .args .special .now)
-held c = held-by (made (c .before .before .before .before .before .before .before .before .before .before .args .general .now) (c .before .before .before .before .before .before .before .before .before .before .args .special .now) 0 0 0) (good c 0 0 0) (omega (arith, c .before .before .before .before .before .counted .ensures .1))
+held c = held-by (made (c .before .before .before .before .before .before .before .before .before .before .args .general .now) (c .before .before .before .before .before .before .before .before .before .before .args .special .now) 0 0 0 0) (good c 0 0 0 0) (omega (arith, c .before .before .before .before .before .counted .ensures .1))
 
 counted-requires : tie.Need-counted-requires
 counted-requires c κs = search needs
@@ -38,9 +38,9 @@ is-placed-requires c κs = search needs
 
 returns : tie.Need-returns
 returns c =
-    λ halt marks.
+    λ halt marks mask.
     let a = c .before .before .before .before .before .before .before .before .before .before .args in
-    let s = made (a .general .now) (a .special .now) (a .pc) halt marks in
+    let s = made (a .general .now) (a .special .now) (a .pc) halt marks mask in
     let w = lent (a .at) (a .a .now) (a .b .now) in
     push-one w s (a .x) (denied _ _ (c .before .is-placed .ensures s refl refl) (c .if1 .taken))
 
@@ -64,12 +64,12 @@ same-length-2 c = search needs
 
 returns-2 : tie.Need-returns-2
 returns-2 c =
-    λ halt marks.
+    λ halt marks mask.
     let run = c .before .before .run-refusal in
     let a = c .before .before .before .before .before .before .before .before .before .before .before .before .before .before .before .before .args in
-    let s = made (a .general .now) (a .special .now) (a .pc) halt marks in
+    let s = made (a .general .now) (a .special .now) (a .pc) halt marks mask in
     let w = lent (a .at) (a .a .now) (a .b .now) in
-    push-six w s (a .x) (good (c .before .before .before .before .before .before) (a .pc) halt marks) _ (c .before .before .before .before .before .hole-of .ensures .0 s refl refl)
+    push-six w s (a .x) (good (c .before .before .before .before .before .before) (a .pc) halt marks mask) _ (c .before .before .before .before .before .hole-of .ensures .0 s refl refl)
     (failed _ _ _ _ _ (run .ensures) (c .before .if2 .taken) (omega arith)) _ (missing-by _ _ _ _ (run .ensures) (c .before .if2 .taken) _ (c .lost .ensures))
 
 store-frame-requires : tie.Need-store-frame-requires
@@ -86,13 +86,13 @@ same-length-4 c = search needs
 
 returns-3 : tie.Need-returns-3
 returns-3 c =
-    λ halt marks.
+    λ halt marks mask.
     let a = c .before .before .before .before .before .before .before .before .before .before .before .before .before .before .before .before .before .before .before .before .before .before .before .before .before .before .args in
-    let s = made (a .general .now) (a .special .now) (a .pc) halt marks in
+    let s = made (a .general .now) (a .special .now) (a .pc) halt marks mask in
     let w = lent (a .at) (a .a .now) (a .b .now) in
-    push-done w s (a .x) (good (c .before .before .before .before .before .before .before .before .before .before .before .before .before .before .before .before) (a .pc) halt marks) _ (c .before .before .before .before .before .before .before .before .before .before .before .before .before .before .before .hole-of .ensures .0 s refl refl) _ _
+    push-done w s (a .x) (good (c .before .before .before .before .before .before .before .before .before .before .before .before .before .before .before .before) (a .pc) halt marks mask) _ (c .before .before .before .before .before .before .before .before .before .before .before .before .before .before .before .hole-of .ensures .0 s refl refl) _ _
     (passed w _ _ _ _ (c .before .before .before .before .before .before .before .before .before .before .before .before .run-refusal .ensures) (c .before .before .before .before .before .before .before .before .before .before .before .if2 .left) (omega arith))
-    (c .before .before .before .before .before .before .before .store-frame .ensures (a .special .now) (a .pc) halt marks) (c .enter .ensures halt marks)
+    (c .before .before .before .before .before .before .before .store-frame .ensures (a .special .now) (a .pc) halt marks mask) (c .enter .ensures halt marks mask)
 
 pub push-frame-spec : {M : Type 1} → statement M
 push-frame-spec =

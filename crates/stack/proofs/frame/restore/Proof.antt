@@ -26,21 +26,21 @@ load-locals-requires c κs = search needs
 
 returns : tie.Need-returns
 returns c =
-    λ special pc halt marks l low.
+    λ special pc halt marks mask l low.
     let start = c .before .before .before .before .before .before .before .before .before in
     let a = start .args in
-    written-hole (lent (a .at) (a .a .now) (a .b .now)) (a .bottom) (a .h) (a .low) (a .x) (made (a .general .now) special pc halt marks) low (start .pre .2) _ _ _ refl
-    (c .before .before .before .slide-up .ensures) _ (c .before .before .before .before .before .last-output .ensures special pc halt marks l) (c .before .before .if1 .taken) (c .load-locals .ensures)
+    written-hole (lent (a .at) (a .a .now) (a .b .now)) (a .bottom) (a .h) (a .low) (a .x) (made (a .general .now) special pc halt marks mask) low (start .pre .2) _ _ _ refl
+    (c .before .before .before .slide-up .ensures) _ (c .before .before .before .before .before .last-output .ensures special pc halt marks mask l) (c .before .before .if1 .taken) (c .load-locals .ensures)
 
 load-locals-requires-2 : tie.Need-load-locals-requires-2
 load-locals-requires-2 c κs = search needs
 
 returns-2 : tie.Need-returns-2
 returns-2 c =
-    λ special pc halt marks l low.
+    λ special pc halt marks mask l low.
     let start = c .before .before .before .before .before .before .before .before .before in
     let a = start .args in
-    written-all (lent (a .at) (a .a .now) (a .b .now)) (a .bottom) (a .h) (a .low) (a .x) (made (a .general .now) special pc halt marks) low (start .pre .2) _ _ _ refl
+    written-all (lent (a .at) (a .a .now) (a .b .now)) (a .bottom) (a .h) (a .low) (a .x) (made (a .general .now) special pc halt marks mask) low (start .pre .2) _ _ _ refl
     (c .before .before .before .slide-up .ensures) (c .before .before .if1 .left) (c .load-locals2 .ensures)
 
 pub restore-spec : {M : Type 1} → statement M

@@ -29,10 +29,10 @@ same-length-2 c = search needs
 
 returns : tie.Need-returns
 returns c =
-    λ special pc halt marks.
+    λ special pc halt marks mask.
     let start = c .before .before .before .before .before .before .before .before .before .before .before .before .before .before .before .before .before in
     let a = start .args in
-    let s = made (a .general .now) special pc halt marks in
+    let s = made (a .general .now) special pc halt marks mask in
     store-next (lent (a .at) (a .a .now) (a .b .now)) (a .ro) (a .h + 1) (a .h) _ (start .pre .1) (omega arith) (c .before .before .before .before .before .before .before .wrapping-add .ensures) (framed s (a .h)) _ _ _
     (c .before .before .before .before .write-octa .ensures .0) (locals-stored _ _ s (a .ro) (a .h) (start .pre .0) (start .pre .1) (c .before .before .before .before .before .before .before .before .before .before .before .before .store-locals .ensures))
     (sym (framed-hole s (a .h)))

@@ -23,7 +23,7 @@ returns-2 : tie.Need-returns-2
 returns-2 c =
     let a = c .before .before .before .before .before .before .before .before .before .before .before .args in
     let w = lent (a .at) (a .a .now) (a .b .now) in
-    rw (pop-judged w (a .state) (a .x) (a .yz) (sym (c .before .before .before .before .before .refusal .ensures (a .state .general) (a .state .pc) (a .state .halt)) ∙ c .before .before .before .before .if1 .left)) at (c .pop-frame .ensures (a .state .pc) (a .state .marks))
+    rw (pop-judged w (a .state) (a .x) (a .yz) (sym (c .before .before .before .before .before .refusal .ensures (a .state .general) (a .state .pc) (a .state .halt)) ∙ c .before .before .before .before .if1 .left)) at (c .pop-frame .ensures (a .state .pc) (a .state .marks) (a .state .mask))
 
 pub pop-frame-spec : {M : Type 1} → statement M
 pop-frame-spec =

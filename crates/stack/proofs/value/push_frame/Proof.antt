@@ -35,7 +35,7 @@ returns-2 : tie.Need-returns-2
 returns-2 c =
     let a = c .before .before .before .before .before .before .before .before .before .before .before .before .before .before .before .before .before .before .args in
     let w = lent (a .at) (a .a .now) (a .b .now) in
-    rw (push-judged w (a .state) (a .x) (sym (c .before .before .before .before .before .before .before .before .before .before .refusal .ensures (a .state .general) (a .state .pc) (a .state .halt)) ∙ c .before .before .before .before .before .before .before .before .before .if1 .left)) at (c .before .before .before .before .push-frame .ensures (a .state .halt) (a .state .marks))
+    rw (push-judged w (a .state) (a .x) (sym (c .before .before .before .before .before .before .before .before .before .before .refusal .ensures (a .state .general) (a .state .pc) (a .state .halt)) ∙ c .before .before .before .before .before .before .before .before .before .if1 .left)) at (c .before .before .before .before .push-frame .ensures (a .state .halt) (a .state .marks) (a .state .mask))
 
 pub push-frame-spec : {M : Type 1} → statement M
 push-frame-spec =

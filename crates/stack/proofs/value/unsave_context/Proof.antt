@@ -23,7 +23,7 @@ returns-2 : tie.Need-returns-2
 returns-2 c =
     let a = c .before .before .before .before .before .before .before .before .before .before .before .args in
     let w = lent (a .at) (a .a .now) (a .b .now) in
-    rw (unsave-judged w (a .state) (a .address) (sym (c .before .before .before .before .before .refusal .ensures (a .state .general) (a .state .pc) (a .state .halt)) ∙ c .before .before .before .before .if1 .left)) at (c .unsave-context .ensures (a .state .pc) (a .state .marks))
+    rw (unsave-judged w (a .state) (a .address) (sym (c .before .before .before .before .before .refusal .ensures (a .state .general) (a .state .pc) (a .state .halt)) ∙ c .before .before .before .before .if1 .left)) at (c .unsave-context .ensures (a .state .pc) (a .state .marks) (a .state .mask))
 
 pub unsave-context-spec : {M : Type 1} → statement M
 unsave-context-spec =
