@@ -28,19 +28,19 @@ use Rattle.exceptions.proofs.PcAndHalt.{goes-is, next-is, halted-is}
 -- ---- trips and traps
 
 -- the stores of a trip or a trap, in their order
-pub interrupted-is : (g l : List ℕ) (pc halt marks b w x y z word u v n : ℕ) → n ≡ (pc + 4) % 2 ^ 64
-    → made (set g 255 (getD l 4 0)) (set (set (set (set (set l b (getD g 255 0)) w n) x word) y u) z v) pc halt marks
-    ≡ interrupted (made g l pc halt marks) b w x y z word u v
+pub interrupted-is : (g l : List ℕ) (pc halt marks mask b w x y z word u v n : ℕ) → n ≡ (pc + 4) % 2 ^ 64
+    → made (set g 255 (getD l 4 0)) (set (set (set (set (set l b (getD g 255 0)) w n) x word) y u) z v) pc halt marks mask
+    ≡ interrupted (made g l pc halt marks mask) b w x y z word u v
 unfolding interrupted
-interrupted-is g l pc halt marks b w x y z word u v n e =
-    ap (λ (k : ℕ). made (set g 255 (getD l 4 0)) (set (set (set (set (set l b (getD g 255 0)) w k) x word) y u) z v) pc halt marks) e
+interrupted-is g l pc halt marks mask b w x y z word u v n e =
+    ap (λ (k : ℕ). made (set g 255 (getD l 4 0)) (set (set (set (set (set l b (getD g 255 0)) w k) x word) y u) z v) pc halt marks mask) e
 
 module _ (s : State) (k word u v : ℕ) (g l : List ℕ) (e : withParts s g l ≡ tripped s word u v) where
-  pub trip-loaded : isLoaded s k ≡ true → Told (tripTo s k word u v) Done (made g l (16 * k) (s .halt) (s .marks))
+  pub trip-loaded : isLoaded s k ≡ true → Told (tripTo s k word u v) Done (made g l (16 * k) (s .halt) (s .marks) (s .mask))
   unfolding tripTo tripRule replyOf
   trip-loaded h = rw h (record { reply-is = refl; state-is = goes-is s _ g l e (16 * k) })
 
-  pub trip-not-loaded : isLoaded s k ≡ false → Told (tripTo s k word u v) NotLoaded (made g l (s .pc) 1 (s .marks))
+  pub trip-not-loaded : isLoaded s k ≡ false → Told (tripTo s k word u v) NotLoaded (made g l (s .pc) 1 (s .marks) (s .mask))
   unfolding tripTo replyOf
   trip-not-loaded h = rw h (record { reply-is = refl; state-is = halted-is s _ g l e })
 
@@ -54,7 +54,7 @@ module _ (s : State) (op x y z : ℕ) where
   trap-named h = rw h (record { reply-is = refl; state-is = refl })
 
   pub trap-done : (word : ℕ) (g l : List ℕ) → (eqb x 0 && isNamed y) ≡ false → word ≡ wordOf op x y z → withParts s g l ≡ trapped s word (reg s y) (reg s z)
-      → Told (trapStep s op x y z) Trapped (made g l (s .pc) 1 (s .marks))
+      → Told (trapStep s op x y z) Trapped (made g l (s .pc) 1 (s .marks) (s .mask))
   unfolding trapStep trapOf replyOf
   trap-done word g l h q e =
       let f : withParts s g l ≡ trapped s (wordOf op x y z) (reg s y) (reg s z) = e ∙ ap (λ (n : ℕ). trapped s n (reg s y) (reg s z)) q in
@@ -67,14 +67,14 @@ pub added-fits : (f e : ℕ) → f < 256 → Fits w64 (bitAnd f e)
 added-fits f e h = let b : bitAnd f e ≤ f = and-le-l f e in record { fits = omega arith }
 
 -- what is added, of a byte of flags
-pub added-is : (g l : List ℕ) (pc halt marks f t : ℕ) → f < 256 → t ≡ leftmost (bitAnd f (getD l rA 0 / 256 % 256))
-    → made g (set l rA (bitOr (getD l rA 0) (bitAnd f (255 - t)))) pc halt marks ≡ withAdded (made g l pc halt marks) f
+pub added-is : (g l : List ℕ) (pc halt marks mask f t : ℕ) → f < 256 → t ≡ leftmost (bitAnd f (getD l rA 0 / 256 % 256))
+    → made g (set l rA (bitOr (getD l rA 0) (bitAnd f (255 - t)))) pc halt marks mask ≡ withAdded (made g l pc halt marks mask) f
 unfolding withAdded withSpecial added
-added-is g l pc halt marks f t h q =
+added-is g l pc halt marks mask f t h q =
     let b : f ≡ f % 256 = omega arith in
     let r = getD l rA 0 in
-    ap (λ (n : ℕ). made g (set l rA (bitOr r (bitAnd f (255 - n)))) pc halt marks) q
-    ∙ ap (λ (n : ℕ). made g (set l rA (bitOr r (bitAnd n (255 - leftmost (bitAnd n (r / 256 % 256)))))) pc halt marks) b
+    ap (λ (n : ℕ). made g (set l rA (bitOr r (bitAnd f (255 - n)))) pc halt marks mask) q
+    ∙ ap (λ (n : ℕ). made g (set l rA (bitOr r (bitAnd n (255 - leftmost (bitAnd n (r / 256 % 256)))))) pc halt marks mask) b
 
 -- the zeros of a byte, counted from either end
 pub zeros-small : (n : ℕ) → (leadingZeros 8 n ≤ 8) × (trailingZeros 8 n ≤ 8)
@@ -108,7 +108,7 @@ module _ (s : State) (f word u v : ℕ) (b : f < 256) (l : List ℕ) (same : wit
 
   -- e are the flags raised and enabled
   pub none-taken : (n e : ℕ) → e ≡ bitAnd f (enables s) → e ≡ 0 → n ≡ (s .pc + 4) % 2 ^ 64
-      → Told (raised s f word u v) Done (made (s .general) l n (s .halt) (s .marks))
+      → Told (raised s f word u v) Done (made (s .general) l n (s .halt) (s .marks) (s .mask))
   unfolding raised replyOf
   none-taken n e w q h = rw (byte, ← w, q) (record { reply-is = refl; state-is = next-is s _ (s .general) l same n h })
 

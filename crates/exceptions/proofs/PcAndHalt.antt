@@ -7,14 +7,14 @@ use Rattle.model.specs.Parts.{made}
 use Rattle.model.specs.declared.State.{State}
 
 module _ (s t : State) (g l : List ℕ) (e : withParts s g l ≡ t) where
-  pub goes-is : (n : ℕ) → made g l n (s .halt) (s .marks) ≡ goes t n
+  pub goes-is : (n : ℕ) → made g l n (s .halt) (s .marks) (s .mask) ≡ goes t n
   unfolding goes
   goes-is n = ap (λ (u : State). goes u n) e
 
-  pub next-is : (n : ℕ) → n ≡ (s .pc + 4) % 2 ^ 64 → made g l n (s .halt) (s .marks) ≡ next t
+  pub next-is : (n : ℕ) → n ≡ (s .pc + 4) % 2 ^ 64 → made g l n (s .halt) (s .marks) (s .mask) ≡ next t
   unfolding goes
-  next-is n h = ap (λ (k : ℕ). made g l k (s .halt) (s .marks)) h ∙ ap next e
+  next-is n h = ap (λ (k : ℕ). made g l k (s .halt) (s .marks) (s .mask)) h ∙ ap next e
 
-  pub halted-is : made g l (s .pc) 1 (s .marks) ≡ halted t
+  pub halted-is : made g l (s .pc) 1 (s .marks) (s .mask) ≡ halted t
   unfolding halted
   halted-is = ap halted e

@@ -36,8 +36,8 @@ fn set_interrupt(
     v: u64,
 )
     requires { ⌜ (b < 32) × (w < 32) × (x < 32) × (y < 32) × (z < 32) ⌝ }
-    ensures { λ _. ⌜ ((halt marks : ℕ) → made (now (general .exit)) (now (special .exit)) pc halt marks
-        ≡ interrupted (made (now (general .entry)) (now (special .entry)) pc halt marks) b w x y z word u v) ⌝ }
+    ensures { λ _. ⌜ ((halt marks mask : ℕ) → made (now (general .exit)) (now (special .exit)) pc halt marks mask
+        ≡ interrupted (made (now (general .entry)) (now (special .entry)) pc halt marks mask) b w x y z word u v) ⌝ }
 {
     let rj = special[State::RJ];
     let last = general[255];
@@ -63,9 +63,9 @@ fn trip(
     v: u64,
 ) -> Reply
     requires { ⌜ k ≤ 8 ⌝ }
-    ensures { λ r. ⌜ Told
-        (tripTo (made (now (general .entry)) (now (special .entry)) (now (pc .entry)) (now (halt .entry)) marks) k word u v)
-        r (made (now (general .exit)) (now (special .exit)) (now (pc .exit)) (now (halt .exit)) marks) ⌝ }
+    ensures { λ r. ⌜ ((mask : ℕ) → Told
+        (tripTo (made (now (general .entry)) (now (special .entry)) (now (pc .entry)) (now (halt .entry)) marks mask) k word u v)
+        r (made (now (general .exit)) (now (special .exit)) (now (pc .exit)) (now (halt .exit)) marks mask)) ⌝ }
 {
     let at = *pc;
     set_interrupt(
@@ -101,9 +101,9 @@ pub fn trip_arm(
     y: u8,
     z: u8,
 ) -> Reply
-    ensures { λ r. ⌜ Told
-        (tripOf (made (now (general .entry)) (now (special .entry)) (now (pc .entry)) (now (halt .entry)) marks) op x y z)
-        r (made (now (general .exit)) (now (special .exit)) (now (pc .exit)) (now (halt .exit)) marks) ⌝ }
+    ensures { λ r. ⌜ ((mask : ℕ) → Told
+        (tripOf (made (now (general .entry)) (now (special .entry)) (now (pc .entry)) (now (halt .entry)) marks mask) op x y z)
+        r (made (now (general .exit)) (now (special .exit)) (now (pc .exit)) (now (halt .exit)) marks mask)) ⌝ }
 {
     let word = decode::word::word_of(op, x, y, z);
     let u = general[y as usize];
@@ -141,9 +141,9 @@ pub fn trap_arm(
     y: u8,
     z: u8,
 ) -> Reply
-    ensures { λ r. ⌜ ((marks : ℕ) → Told
-        (trapStep (made (now (general .entry)) (now (special .entry)) pc (now (halt .entry)) marks) op x y z)
-        r (made (now (general .exit)) (now (special .exit)) pc (now (halt .exit)) marks)) ⌝ }
+    ensures { λ r. ⌜ ((marks mask : ℕ) → Told
+        (trapStep (made (now (general .entry)) (now (special .entry)) pc (now (halt .entry)) marks mask) op x y z)
+        r (made (now (general .exit)) (now (special .exit)) pc (now (halt .exit)) marks mask)) ⌝ }
 {
     if is_named(x, y) {
         return Reply::NamedTrap;
@@ -187,8 +187,8 @@ fn leftmost_flag(flags: u8) -> u8
 
 /// The flags raised but the taken one are added to rA, enabled or not.
 fn add_untaken(special: &mut [u64; 32], flags: u8)
-    ensures { λ _. ⌜ ((general : List ℕ) (pc halt marks : ℕ) → made general (now (special .exit)) pc halt marks
-        ≡ withAdded (made general (now (special .entry)) pc halt marks) flags) ⌝ }
+    ensures { λ _. ⌜ ((general : List ℕ) (pc halt marks mask : ℕ) → made general (now (special .exit)) pc halt marks mask
+        ≡ withAdded (made general (now (special .entry)) pc halt marks mask) flags) ⌝ }
 {
     let ra = special[State::RA];
     let enabled = enabled_of(ra, flags);
@@ -217,9 +217,9 @@ pub fn raise(
     u: u64,
     v: u64,
 ) -> Reply
-    ensures { λ r. ⌜ Told
-        (raised (made (now (general .entry)) (now (special .entry)) (now (pc .entry)) (now (halt .entry)) marks) flags word u v)
-        r (made (now (general .exit)) (now (special .exit)) (now (pc .exit)) (now (halt .exit)) marks) ⌝ }
+    ensures { λ r. ⌜ ((mask : ℕ) → Told
+        (raised (made (now (general .entry)) (now (special .entry)) (now (pc .entry)) (now (halt .entry)) marks mask) flags word u v)
+        r (made (now (general .exit)) (now (special .exit)) (now (pc .exit)) (now (halt .exit)) marks mask)) ⌝ }
 {
     let ra = special[State::RA];
     let enabled = enabled_of(ra, flags);
@@ -239,6 +239,7 @@ pub fn raise_exceptions(
     pc: &mut u64,
     halt: &mut u64,
     marks: u64,
+    mask: u64,
     flags: u8,
     op: u8,
     x: u8,
@@ -248,11 +249,11 @@ pub fn raise_exceptions(
     z_val: u64,
 ) -> Reply
     ensures { λ r. ⌜ Told
-        (exceptionOf (made (now (general .entry)) (now (special .entry)) (now (pc .entry)) (now (halt .entry)) marks)
+        (exceptionOf (made (now (general .entry)) (now (special .entry)) (now (pc .entry)) (now (halt .entry)) marks mask)
         flags op x y z «y_val» «z_val»)
-        r (made (now (general .exit)) (now (special .exit)) (now (pc .exit)) (now (halt .exit)) marks) ⌝ }
+        r (made (now (general .exit)) (now (special .exit)) (now (pc .exit)) (now (halt .exit)) marks mask) ⌝ }
 {
-    if !stack::pass::admissible(special, marks) {
+    if !stack::pass::admissible(special, marks, mask) {
         return Reply::NotAdmissible;
     }
     let word = decode::word::word_of(op, x, y, z);

@@ -25,7 +25,7 @@ element-write-special : tie.Need-element-write-special
 element-write-special c = search needs
 
 returns : tie.Need-returns
-returns c = λ general pc halt marks. added-is _ _ _ _ _ _ _ (c .before .before .before .fits .flags .fits) (c .leftmost-flag .ensures ∙ ap leftmost (c .before .enabled-of .ensures))
+returns c = λ general pc halt marks mask. added-is _ _ _ _ _ _ _ _ (c .before .before .before .fits .flags .fits) (c .leftmost-flag .ensures ∙ ap leftmost (c .before .enabled-of .ensures))
 
 pub add-untaken-spec : {M : Type 1} → statement M
 add-untaken-spec =

@@ -25,8 +25,8 @@ returns-2 c =
     let else = words .before in
     let start = else .before .before .before in
     let a = start .args in
-    let s = made (a .general .now) (a .special .now) (a .pc .now) (a .halt .now) (a .marks) in
-    exception-told s _ _ _ _ _ _ _ _ _ _ (sym (else .before .admissible .ensures (s .general) (s .pc) (s .halt)) ∙ not-false _ (else .if1 .left)) (words .word-of .ensures) (c .raise .ensures)
+    let s = made (a .general .now) (a .special .now) (a .pc .now) (a .halt .now) (a .marks) (a .mask) in
+    exception-told s _ _ _ _ _ _ _ _ _ _ (sym (else .before .admissible .ensures (s .general) (s .pc) (s .halt)) ∙ not-false _ (else .if1 .left)) (words .word-of .ensures) (c .raise .ensures (a .mask))
 
 pub raise-exceptions-spec : {M : Type 1} → statement M
 raise-exceptions-spec = tie.close (tie.spec admissible-requires returns word-of-requires raise-requires returns-2)

@@ -47,7 +47,7 @@ element-write-special-5 : tie.Need-element-write-special-5
 element-write-special-5 c = search needs
 
 returns : tie.Need-returns
-returns c = λ halt marks. interrupted-is _ _ _ _ _ _ _ _ _ _ _ _ _ _ (c .following .ensures)
+returns c = λ halt marks mask. interrupted-is _ _ _ _ _ _ _ _ _ _ _ _ _ _ _ (c .following .ensures)
 
 pub set-interrupt-spec : {M : Type 1} → statement M
 set-interrupt-spec = tie.close (tie.spec element-copy-out-rj element-copy-out-last following-requires mul-special element-write-special element-write-general mul-special-2 element-write-special-2 mul-special-3 element-write-special-3 mul-special-4 element-write-special-4 mul-special-5 element-write-special-5 returns)

@@ -10,7 +10,7 @@ is-named-requires : tie.Need-is-named-requires
 is-named-requires c κs = search needs
 
 returns : tie.Need-returns
-returns c = λ marks. trap-named _ _ _ _ _ (sym (c .before .is-named .ensures) ∙ c .if1 .taken)
+returns c = λ marks mask. trap-named _ _ _ _ _ (sym (c .before .is-named .ensures) ∙ c .if1 .taken)
 
 word-of-requires : tie.Need-word-of-requires
 word-of-requires c κs = search needs
@@ -32,11 +32,11 @@ set-interrupt-requires c κs = search needs
 
 returns-2 : tie.Need-returns-2
 returns-2 c =
-    λ marks.
+    λ marks mask.
     let other = c .before .before .before .before .before .before in
     let a = other .before .before .args in
-    let s = made (a .general .now) (a .special .now) (a .pc) (a .halt .now) marks in
-    trap-done s _ _ _ _ _ _ _ (sym (other .before .is-named .ensures) ∙ other .if1 .left) (c .before .before .before .before .before .word-of .ensures) (c .set-interrupt .ensures (a .halt .now) marks)
+    let s = made (a .general .now) (a .special .now) (a .pc) (a .halt .now) marks mask in
+    trap-done s _ _ _ _ _ _ _ (sym (other .before .is-named .ensures) ∙ other .if1 .left) (c .before .before .before .before .before .word-of .ensures) (c .set-interrupt .ensures (a .halt .now) marks mask)
 
 pub trap-arm-spec : {M : Type 1} → statement M
 trap-arm-spec = tie.close (tie.spec is-named-requires returns word-of-requires mul-u element-copy-out-u mul-v element-copy-out-v set-interrupt-requires returns-2)

@@ -17,15 +17,17 @@ mul-pc c = search needs
 
 returns : tie.Need-returns
 returns c =
+    λ mask.
     let a = c .before .before .before .before .before .before .args in
-    let s = made (a .general .now) (a .special .now) (a .pc .now) (a .halt .now) (a .marks) in
-    trip-loaded s _ _ _ _ _ _ (c .before .before .set-interrupt .ensures (a .halt .now) (a .marks)) (sym (c .before .is-loaded .ensures) ∙ c .if1 .taken)
+    let s = made (a .general .now) (a .special .now) (a .pc .now) (a .halt .now) (a .marks) mask in
+    trip-loaded s _ _ _ _ _ _ (c .before .before .set-interrupt .ensures (a .halt .now) (a .marks) mask) (sym (c .before .is-loaded .ensures) ∙ c .if1 .taken)
 
 returns-2 : tie.Need-returns-2
 returns-2 c =
+    λ mask.
     let a = c .before .before .before .before .before .before .args in
-    let s = made (a .general .now) (a .special .now) (a .pc .now) (a .halt .now) (a .marks) in
-    trip-not-loaded s _ _ _ _ _ _ (c .before .before .set-interrupt .ensures (a .halt .now) (a .marks)) (sym (c .before .is-loaded .ensures) ∙ c .if1 .left)
+    let s = made (a .general .now) (a .special .now) (a .pc .now) (a .halt .now) (a .marks) mask in
+    trip-not-loaded s _ _ _ _ _ _ (c .before .before .set-interrupt .ensures (a .halt .now) (a .marks) mask) (sym (c .before .is-loaded .ensures) ∙ c .if1 .left)
 
 pub trip-spec : {M : Type 1} → statement M
 trip-spec = tie.close (tie.spec set-interrupt-requires is-loaded-requires mul-pc returns returns-2)

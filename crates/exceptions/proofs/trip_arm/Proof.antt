@@ -23,7 +23,7 @@ trip-requires : tie.Need-trip-requires
 trip-requires c κs = search needs
 
 returns : tie.Need-returns
-returns c = trip-word _ _ _ _ _ _ _ _ (c .before .before .before .before .before .before .before .word-of .ensures) (c .trip .ensures)
+returns c = λ mask. trip-word _ _ _ _ _ _ _ _ (c .before .before .before .before .before .before .before .word-of .ensures) (c .trip .ensures mask)
 
 pub trip-arm-spec : {M : Type 1} → statement M
 trip-arm-spec =
