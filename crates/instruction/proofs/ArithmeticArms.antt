@@ -56,11 +56,11 @@ module _ (s : State) (op x y z u v : ℕ) (o : Operation) (r : Results) (g l : L
   says : arithmeticOf s op x y z ≡ arithmeticSays s o x u v (wordOf op x y z)
   says = rw (eu, ev, eo)
 
-  pub computed-done : (n : ℕ) → r .flags ≡ 0 → n ≡ (s .pc + 4) % 2 ^ 64 → Told (arithmeticOf s op x y z) Done (made g (set (set l rH (r .rh)) rR (r .rr)) n (s .halt) (s .marks))
+  pub computed-done : (n : ℕ) → r .flags ≡ 0 → n ≡ (s .pc + 4) % 2 ^ 64 → Told (arithmeticOf s op x y z) Done (made g (set (set l rH (r .rh)) rR (r .rr)) n (s .halt) (s .marks) (s .mask))
   unfolding arithmeticSays replyOf
   computed-done n h f =
       let k : resultsIn s o u v .flags ≡ 0 = ap (λ (q : Results). q .flags) (sym er) ∙ h in
-      subst (λ (d : Said). Told d Done (made g (set (set l rH (r .rh)) rR (r .rr)) n (s .halt) (s .marks))) (sym (says ∙ pick (resultsIn s o u v .flags) k _ _))
+      subst (λ (d : Said). Told d Done (made g (set (set l rH (r .rh)) rR (r .rr)) n (s .halt) (s .marks) (s .mask))) (sym (says ∙ pick (resultsIn s o u v .flags) k _ _))
       (record { reply-is = refl; state-is = next-is s _ g _ written n f })
     where
       pick : (m : ℕ) → m ≡ 0 → (d c : Said) → cond (eqb m 0) d c ≡ d

@@ -45,10 +45,10 @@ zeros-stay l a b z =
     (lt-or-le k a))
 
 pub claim-clear : (s : State) (x : ℕ) → isMarginal s x ≡ true → ((k : ℕ) → sp s rL ≤ k → k ≤ x → getD (s .general) k 0 ≡ 0)
-    → made (s .general) (set (s .special) rL (x + 1)) (s .pc) (s .halt) (s .marks) ≡ claimLocal s x
+    → made (s .general) (set (s .special) rL (x + 1)) (s .pc) (s .halt) (s .marks) (s .mask) ≡ claimLocal s x
 unfolding claimLocal withSpecial cleared
 claim-clear s x m z =
-    rw m (ap (λ (g : List ℕ). made g (set (s .special) rL (x + 1)) (s .pc) (s .halt) (s .marks))
+    rw m (ap (λ (g : List ℕ). made g (set (s .special) rL (x + 1)) (s .pc) (s .halt) (s .marks) (s .mask))
     (sym (zeros-stay (s .general) (sp s rL) (x + 1) (λ k a b. z k a (omega arith)))))
 
 -- a claim's special registers, with rL put back
@@ -119,11 +119,11 @@ module _ (w : Windows) (c : State) (op x y z : ℕ) (n : Sized c) (a : admissibl
 
     -- it is taken back
     pub takes-back : (s : State) → keepsClaim (r) ≡ false → (g m : List ℕ) → g ≡ s .general → m ≡ s .special
-        → Numbered (settled s o) r (made g m (t .pc) (t .halt) (t .marks)) v
+        → Numbered (settled s o) r (made g m (t .pc) (t .halt) (t .marks) (t .mask)) v
     unfolding settledBy
     takes-back s e g m p q = record {
       reply-is = h .reply-is;
-      state-is = ap (λ (i : List ℕ). made i m (t .pc) (t .halt) (t .marks)) p ∙ ap (λ (i : List ℕ). made (s .general) i (t .pc) (t .halt) (t .marks)) q
+      state-is = ap (λ (i : List ℕ). made i m (t .pc) (t .halt) (t .marks) (t .mask)) p ∙ ap (λ (i : List ℕ). made (s .general) i (t .pc) (t .halt) (t .marks) (t .mask)) q
           ∙ ap (λ (u : State). withParts u (s .general) (s .special)) (h .state-is) ∙ rw (ap keepsClaim (sym number) ∙ e);
       window-is = h .window-is;
     }
@@ -145,14 +145,14 @@ module _ (w : Windows) (s c : State) (op x y z : ℕ) (n : Sized s) (a : admissi
     pub claim-kept : keepsClaim (r) ≡ true → Numbered (claimedOf w s op x y z) r t v
     claim-kept q = keeps w (claimLocal s x) op x y z m (claim-admissible s x n a) u b k r t v claimed-whole s q
 
-    pub claim-gone : keepsClaim (r) ≡ false → Numbered (claimedOf w s op x y z) r (made (s .general) (set (t .special) rL (sp s rL)) (t .pc) (t .halt) (t .marks)) v
+    pub claim-gone : keepsClaim (r) ≡ false → Numbered (claimedOf w s op x y z) r (made (s .general) (set (t .special) rL (sp s rL)) (t .pc) (t .halt) (t .marks) (t .mask)) v
     claim-gone q =
         takes-back w (claimLocal s x) op x y z m (claim-admissible s x n a) u b k r t v claimed-whole s q (s .general) (set (t .special) rL (sp s rL)) refl
         (ap (λ (i : List ℕ). set i rL (sp s rL)) (special-left w (claimLocal s x) op x y z m (claim-admissible s x n a) u b k r t v claimed-whole q) ∙ special-back s x)
 
     -- where the general registers were left alone
     pub claim-gone-clear : keepsClaim (r) ≡ false → c .general ≡ s .general
-        → Numbered (claimedOf w s op x y z) r (made (t .general) (set (t .special) rL (sp s rL)) (t .pc) (t .halt) (t .marks)) v
+        → Numbered (claimedOf w s op x y z) r (made (t .general) (set (t .special) rL (sp s rL)) (t .pc) (t .halt) (t .marks) (t .mask)) v
     claim-gone-clear q f =
         takes-back w (claimLocal s x) op x y z m (claim-admissible s x n a) u b k r t v claimed-whole s q (t .general) (set (t .special) rL (sp s rL))
         (general-left w (claimLocal s x) op x y z m (claim-admissible s x n a) u b k r t v claimed-whole q ∙ sym (ap (λ (i : State). i .general) e) ∙ f)

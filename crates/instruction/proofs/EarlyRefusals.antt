@@ -38,10 +38,10 @@ refused-step w s op x y z n e f = rw refused (record { reply-is = refusal-number
     refused : stepOf w s op x y z ≡ record { reply = n; state = s; memory = w }
     refused = unfold stepOf stepPlan guardedOn in (refused-guarded w s (fromThree s (armOf op) op x y z) n e f)
 
--- the number rests on the special registers and the marks alone
-pub refusal-alike : (w : Windows) (l : List ℕ) (m : ℕ) (g h : List ℕ) (p q i j : ℕ) → refusalOn w (made g l p i m) ≡ 0 → refusalOn w (made h l q j m) ≡ 0
+-- the number rests on the special registers, the marks and the mask alone
+pub refusal-alike : (w : Windows) (l : List ℕ) (m k : ℕ) (g h : List ℕ) (p q i j : ℕ) → refusalOn w (made g l p i m k) ≡ 0 → refusalOn w (made h l q j m k) ≡ 0
 unfolding refusalOn admissible
-refusal-alike w l m g h p q i j e = e
+refusal-alike w l m k g h p q i j e = e
 
 pub numbered : (o : Outcome State Windows) (r : Reply) (t : State) (v : Windows) (n : ℕ) → Whole o r t v → n ≡ numberOf r → Numbered o n t v
 numbered o r t v n h e = record { reply-is = e ∙ ap numberOf (h .reply-is); state-is = h .state-is; window-is = h .window-is }

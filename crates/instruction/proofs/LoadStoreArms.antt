@@ -58,7 +58,7 @@ module _ (w : Windows) (s : State) (op x y z a : ℕ) (h : a ≡ sumOf s (lastOf
 
   module _ (e : worst (refusing (shapesOf w)) a 1 ≡ 0) where
     pub load-done : (v u : ℕ) (g l : List ℕ) (n : ℕ) → v ≡ look both w a → u ≡ extended (widthOf op) (signOf op) (operandIn (widthOf op) a v)
-        → withParts s g l ≡ setRegister s x u → n ≡ (s .pc + 4) % 2 ^ 64 → Whole (loadOf w s op x y z) Done (made g l n (s .halt) (s .marks)) w
+        → withParts s g l ≡ setRegister s x u → n ≡ (s .pc + 4) % 2 ^ 64 → Whole (loadOf w s op x y z) Done (made g l n (s .halt) (s .marks) (s .mask)) w
     unfolding loadFrom
     load-done v u g l n p q r f = rw (← h, read-there w s a _ e)
         (unfold perform worst puts replyOf in (record { reply-is = refl; state-is = next-is s _ g l (r ∙ ap (setRegister s x) (q ∙ ap (λ (k : ℕ). extended (widthOf op) (signOf op) (operandIn (widthOf op) a k)) p)) n f; window-is = refl }))
@@ -74,7 +74,7 @@ module _ (w : Windows) (s : State) (op x y z a : ℕ) (h : a ≡ sumOf s (lastOf
     unfolding storeTo
     store-says = rw (← h, read-there w s a _ e, ← p, ← q, stores-there w s a (λ k. answer 0 s 0 []) (storeSays s (widthOf op) (signOf op) x a (wordOf op x y z) .reply) (storeSays s (widthOf op) (signOf op) x a (wordOf op x y z) .state) m e, r)
 
-    pub store-fits : (n : ℕ) → fits (widthOf op) (signOf op) (reg s x) ≡ true → n ≡ (s .pc + 4) % 2 ^ 64 → Whole (storeOf w s op x y z) Done (made (s .general) (s .special) n (s .halt) (s .marks)) u
+    pub store-fits : (n : ℕ) → fits (widthOf op) (signOf op) (reg s x) ≡ true → n ≡ (s .pc + 4) % 2 ^ 64 → Whole (storeOf w s op x y z) Done (made (s .general) (s .special) n (s .halt) (s .marks) (s .mask)) u
     unfolding storeSays replyOf
     store-fits n f i = rw (store-says, f) (record { reply-is = refl; state-is = next-is s s (s .general) (s .special) refl n i; window-is = refl })
 

@@ -68,23 +68,23 @@ module _ (w : Windows) (s : State) where
 -- ---- the two ways out
 
 module _ (o : Outcome State Windows) (s : State) (h : Onward o s) (r : Reply) (g l : List ℕ) (k : ℕ) (v : Windows)
-    (e : Gives o s r (made g l (s .pc) k (s .marks)) v) where
+    (e : Gives o s r (made g l (s .pc) k (s .marks) (s .mask)) v) where
   number : tagOf the-type r ≡ o .reply
   number = tag-is (o .reply) r (let m = h .most in omega arith) (e .reply-is)
 
   state-at : (b : Bool) → eqb (o .reply) 0 ≡ b → o .state ≡ cond b (goes (goes (o .state) (s .pc)) (following s)) (goes (o .state) (s .pc))
   state-at b q = ap (λ (p : Outcome State Windows). p .state) (h .sent-on) ∙ (unfold sent backTo in ap (λ (t : Bool). cond t (goes (goes (o .state) (s .pc)) (following s)) (goes (o .state) (s .pc))) q)
 
-  pub onward-done : (n : ℕ) → tagOf the-type r ≡ 0 → n ≡ (s .pc + 4) % 2 ^ 64 → Whole o r (made g l n k (s .marks)) v
+  pub onward-done : (n : ℕ) → tagOf the-type r ≡ 0 → n ≡ (s .pc + 4) % 2 ^ 64 → Whole o r (made g l n k (s .marks) (s .mask)) v
   onward-done n z q = record { reply-is = e .reply-is; state-is = state; window-is = e .window-is }
     where
-      moved : made g l (following s) k (s .marks) ≡ goes (goes (o .state) (s .pc)) (following s)
+      moved : made g l (following s) k (s .marks) (s .mask) ≡ goes (goes (o .state) (s .pc)) (following s)
       moved = unfold goes in (ap (λ (t : State). goes t (following s)) (e .state-is))
 
-      state : made g l n k (s .marks) ≡ o .state
-      state = ap (λ (m : ℕ). made g l m k (s .marks)) q ∙ moved ∙ sym (state-at true (eq-eqb _ _ (sym number ∙ z)))
+      state : made g l n k (s .marks) (s .mask) ≡ o .state
+      state = ap (λ (m : ℕ). made g l m k (s .marks) (s .mask)) q ∙ moved ∙ sym (state-at true (eq-eqb _ _ (sym number ∙ z)))
 
-  pub onward-refused : OneOf refusals (tagOf the-type r) → Whole o r (made g l (s .pc) k (s .marks)) v
+  pub onward-refused : OneOf refusals (tagOf the-type r) → Whole o r (made g l (s .pc) k (s .marks) (s .mask)) v
   onward-refused z = record {
     reply-is = e .reply-is;
     state-is = e .state-is ∙ sym (state-at false (ne-eqb _ 0 (λ q. not-done _ z (number ∙ q))));

@@ -11,7 +11,7 @@ use Rattle.model.specs.Opcodes.{get, save, unsave, sync, swym, trip, trap, armO
 use Rattle.model.specs.NoMemory.{Said, say}
 use Rattle.model.specs.Control.{xyzOf}
 use Rattle.model.specs.Contexts.{saveContext, unsaveContext}
-use Rattle.model.specs.System.{got, syncOf}
+use Rattle.model.specs.System.{getSpecial, syncOf}
 use Rattle.model.specs.Trips.{wordOf, trapOf}
 use Rattle.model.specs.Step.{isNamed, refusalOf, unruledBy, planOf, stepOf}
 use Rattle.model.specs.declared.State.{State}
@@ -32,7 +32,7 @@ module _ (w : Windows) (s : State) (a : admissible s ≡ true) (v : unruledBy (s
   get-told k =
       on (λ (d : Said). stepOf w s op x y z ≡ telling w d) (ltb 31 z)
       (λ e. step-refused w s a v op x y z 5 (rw (k, e)) (omega arith))
-      (λ e. step-told w s a v op x y z (say 0 (next (got s x z))) (rw (k, e)) (rw k))
+      (λ e. step-told w s a v op x y z (getSpecial s x z) (rw (k, e)) (rw k))
 
   trap-told : armOf op ≡ trap → stepOf w s op x y z ≡ telling w (trapStep s op x y z)
   unfolding trapStep planOf refusalOf

@@ -2,18 +2,17 @@
 use Prim.Native.Nat.{ℕ}
 use mathlib.Core.Bool.{cond}
 use lib.Dec.{ltb}
-use Rattle.model.specs.Registers.{next}
 use Rattle.model.specs.Opcodes.{operationOf, firstOf, lastOf}
 use Rattle.model.specs.NoMemory.{Said, say}
 use Rattle.model.specs.Control.{operandOf}
-use Rattle.model.specs.System.{putSpecial, got}
+use Rattle.model.specs.System.{putSpecial, getSpecial}
 use Rattle.model.specs.Trips.{wordOf}
 use Rattle.model.specs.ArithmeticStep.{arithmeticSays}
 use Rattle.model.specs.declared.State.{State}
 
 -- 5, then GET
 unfoldable pub getOf : State → ℕ → ℕ → Said
-getOf s x z = cond (ltb 31 z) (say 5 s) (say 0 (next (got s x z)))
+getOf s x z = cond (ltb 31 z) (say 5 s) (getSpecial s x z)
 
 -- PUT of $z, PUTI of z
 abbrev pub putOf : State → ℕ → ℕ → ℕ → Said

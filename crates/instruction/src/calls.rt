@@ -19,10 +19,10 @@ pub fn push_to(
     x: u8,
     target: u64,
 ) -> Reply
-    ensures { λ r. ⌜ ((halt marks : ℕ) → Whole
+    ensures { λ r. ⌜ ((halt marks mask : ℕ) → Whole
         (callTo (lent at (now (a .entry)) (now (b .entry)))
-        (made (now (general .entry)) (now (special .entry)) (now (pc .entry)) halt marks) x target)
-        r (made (now (general .exit)) (now (special .exit)) (now (pc .exit)) halt marks) (lent at (now (a .exit)) (now (b .exit)))) ⌝ }
+        (made (now (general .entry)) (now (special .entry)) (now (pc .entry)) halt marks mask) x target)
+        r (made (now (general .exit)) (now (special .exit)) (now (pc .exit)) halt marks mask) (lent at (now (a .exit)) (now (b .exit)))) ⌝ }
 {
     let from = *pc;
     let reply = stack::frame::push_frame(general, special, from, a, b, at, x);
@@ -48,10 +48,10 @@ pub fn pop_to(
     y: u8,
     z: u8,
 ) -> Reply
-    ensures { λ r. ⌜ ((marks : ℕ) → Whole
+    ensures { λ r. ⌜ ((marks mask : ℕ) → Whole
         (returnOf (lent at (now (a .entry)) (now (b .entry)))
-        (made (now (general .entry)) (now (special .entry)) (now (pc .entry)) (now (halt .entry)) marks) x y z)
-        r (made (now (general .exit)) (now (special .exit)) (now (pc .exit)) (now (halt .exit)) marks) (lent at (now (a .entry)) (now (b .entry)))) ⌝ }
+        (made (now (general .entry)) (now (special .entry)) (now (pc .entry)) (now (halt .entry)) marks mask) x y z)
+        r (made (now (general .exit)) (now (special .exit)) (now (pc .exit)) (now (halt .exit)) marks mask) (lent at (now (a .entry)) (now (b .entry)))) ⌝ }
 {
     let yz = 256 * (y as u16) + z as u16;
     let found = stack::frame::pop_frame(general, special, halt, a, b, at, x, yz);

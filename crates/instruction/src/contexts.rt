@@ -14,6 +14,7 @@ pub fn save_to(
     pc: &mut u64,
     halt: &mut u64,
     marks: u64,
+    mask: u64,
     a: &mut [u8],
     b: &mut [u8],
     at: Bases,
@@ -21,10 +22,10 @@ pub fn save_to(
 ) -> Reply
     ensures { λ r. ⌜ Whole
         (saveIn (lent at (now (a .entry)) (now (b .entry)))
-        (made (now (general .entry)) (now (special .entry)) (now (pc .entry)) (now (halt .entry)) marks) x)
-        r (made (now (general .exit)) (now (special .exit)) (now (pc .exit)) (now (halt .exit)) marks) (lent at (now (a .exit)) (now (b .exit))) ⌝ }
+        (made (now (general .entry)) (now (special .entry)) (now (pc .entry)) (now (halt .entry)) marks mask) x)
+        r (made (now (general .exit)) (now (special .exit)) (now (pc .exit)) (now (halt .exit)) marks mask) (lent at (now (a .exit)) (now (b .exit))) ⌝ }
 {
-    let reply = stack::context::save_context(general, special, halt, marks, a, b, at, x);
+    let reply = stack::context::save_context(general, special, halt, marks, mask, a, b, at, x);
     match reply {
         Reply::Done => {
             *pc = decode::target::following(*pc);
@@ -45,10 +46,10 @@ pub fn unsave_from(
     at: Bases,
     address: u64,
 ) -> Reply
-    ensures { λ r. ⌜ ((marks : ℕ) → Whole
+    ensures { λ r. ⌜ ((marks mask : ℕ) → Whole
         (unsaveIn (lent at (now (a .entry)) (now (b .entry)))
-        (made (now (general .entry)) (now (special .entry)) (now (pc .entry)) (now (halt .entry)) marks) address)
-        r (made (now (general .exit)) (now (special .exit)) (now (pc .exit)) (now (halt .exit)) marks) (lent at (now (a .entry)) (now (b .entry)))) ⌝ }
+        (made (now (general .entry)) (now (special .entry)) (now (pc .entry)) (now (halt .entry)) marks mask) address)
+        r (made (now (general .exit)) (now (special .exit)) (now (pc .exit)) (now (halt .exit)) marks mask) (lent at (now (a .entry)) (now (b .entry)))) ⌝ }
 {
     let reply = stack::context::unsave_context(general, special, halt, a, b, at, address);
     match reply {

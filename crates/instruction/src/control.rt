@@ -14,9 +14,9 @@ use model::Reply;
 
 /// A branch.
 pub(crate) fn branch(general: &[u64; 256], pc: &mut u64, op: u8, x: u8, y: u8, z: u8) -> Reply
-    ensures { λ r. ⌜ ((special : List ℕ) (halt marks : ℕ) → Told
-        (say 0 (branchOf (made (now (general .entry)) special (now (pc .entry)) halt marks) op x y z))
-        r (made (now (general .entry)) special (now (pc .exit)) halt marks)) ⌝ }
+    ensures { λ r. ⌜ ((special : List ℕ) (halt marks mask : ℕ) → Told
+        (say 0 (branchOf (made (now (general .entry)) special (now (pc .entry)) halt marks mask) op x y z))
+        r (made (now (general .entry)) special (now (pc .exit)) halt marks mask)) ⌝ }
 {
     let v = general[x as usize];
     let at = *pc;
@@ -30,9 +30,9 @@ pub(crate) fn branch(general: &[u64; 256], pc: &mut u64, op: u8, x: u8, y: u8, z
 
 /// JMP and JMPB.
 pub(crate) fn jump(pc: &mut u64, op: u8, x: u8, y: u8, z: u8) -> Reply
-    ensures { λ r. ⌜ ((general special : List ℕ) (halt marks : ℕ) → Told
-        (say 0 (jumpOf (made general special (now (pc .entry)) halt marks) op x y z))
-        r (made general special (now (pc .exit)) halt marks)) ⌝ }
+    ensures { λ r. ⌜ ((general special : List ℕ) (halt marks mask : ℕ) → Told
+        (say 0 (jumpOf (made general special (now (pc .entry)) halt marks mask) op x y z))
+        r (made general special (now (pc .exit)) halt marks mask)) ⌝ }
 {
     *pc = target::far(*pc, op, x, y, z);
     Reply::Done
@@ -40,8 +40,8 @@ pub(crate) fn jump(pc: &mut u64, op: u8, x: u8, y: u8, z: u8) -> Reply
 
 /// $Y + $Z for an even opcode, $Y + Z for an odd one.
 pub(crate) fn sum(general: &[u64; 256], op: u8, y: u8, z: u8) -> u64
-    ensures { λ r. ⌜ ((special : List ℕ) (pc halt marks : ℕ) → r
-        ≡ sumOf (made (now (general .entry)) special pc halt marks) (lastOf op) y z) ⌝ }
+    ensures { λ r. ⌜ ((special : List ℕ) (pc halt marks mask : ℕ) → r
+        ≡ sumOf (made (now (general .entry)) special pc halt marks mask) (lastOf op) y z) ⌝ }
 {
     let v = general[y as usize];
     if op % 2 == 0 {
@@ -61,9 +61,9 @@ pub(crate) fn go_by(
     y: u8,
     z: u8,
 ) -> Reply
-    ensures { λ r. ⌜ ((halt marks : ℕ) → Told
-        (say 0 (goOf (made (now (general .entry)) (now (special .entry)) (now (pc .entry)) halt marks) op x y z))
-        r (made (now (general .exit)) (now (special .exit)) (now (pc .exit)) halt marks)) ⌝ }
+    ensures { λ r. ⌜ ((halt marks mask : ℕ) → Told
+        (say 0 (goOf (made (now (general .entry)) (now (special .entry)) (now (pc .entry)) halt marks mask) op x y z))
+        r (made (now (general .exit)) (now (special .exit)) (now (pc .exit)) halt marks mask)) ⌝ }
 {
     let target = sum(general, op, y, z);
     registers::go_to(general, special, pc, x, target);

@@ -25,10 +25,10 @@ pub(crate) fn load(
     y: u8,
     z: u8,
 ) -> Reply
-    ensures { λ r. ⌜ ((halt marks : ℕ) → Whole
+    ensures { λ r. ⌜ ((halt marks mask : ℕ) → Whole
         (loadOf (lent at (now (a .entry)) (now (b .entry)))
-        (made (now (general .entry)) (now (special .entry)) (now (pc .entry)) halt marks) op x y z)
-        r (made (now (general .exit)) (now (special .exit)) (now (pc .exit)) halt marks) (lent at (now (a .entry)) (now (b .entry)))) ⌝ }
+        (made (now (general .entry)) (now (special .entry)) (now (pc .entry)) halt marks mask) op x y z)
+        r (made (now (general .exit)) (now (special .exit)) (now (pc .exit)) halt marks mask) (lent at (now (a .entry)) (now (b .entry)))) ⌝ }
 {
     let addr = control::sum(general, op, y, z);
     if stack::pass::run_refusal(a, b, at, addr, 1) != 0 {
@@ -57,10 +57,10 @@ pub(crate) fn store(
     y: u8,
     z: u8,
 ) -> Reply
-    ensures { λ r. ⌜ Whole
+    ensures { λ r. ⌜ ((mask : ℕ) → Whole
         (storeOf (lent at (now (a .entry)) (now (b .entry)))
-        (made (now (general .entry)) (now (special .entry)) (now (pc .entry)) (now (halt .entry)) marks) op x y z)
-        r (made (now (general .exit)) (now (special .exit)) (now (pc .exit)) (now (halt .exit)) marks) (lent at (now (a .exit)) (now (b .exit))) ⌝ }
+        (made (now (general .entry)) (now (special .entry)) (now (pc .entry)) (now (halt .entry)) marks mask) op x y z)
+        r (made (now (general .exit)) (now (special .exit)) (now (pc .exit)) (now (halt .exit)) marks mask) (lent at (now (a .exit)) (now (b .exit)))) ⌝ }
 {
     let addr = control::sum(general, op, y, z);
     if stack::pass::run_refusal(a, b, at, addr, 1) != 0 {

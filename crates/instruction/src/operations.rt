@@ -15,8 +15,8 @@ use model::State;
 
 /// $Y, or Y itself.
 fn first(general: &[u64; 256], op: u8, y: u8) -> u64
-    ensures { λ r. ⌜ ((special : List ℕ) (pc halt marks : ℕ) → r
-        ≡ operandOf (made (now (general .entry)) special pc halt marks) (firstOf op) y) ⌝ }
+    ensures { λ r. ⌜ ((special : List ℕ) (pc halt marks mask : ℕ) → r
+        ≡ operandOf (made (now (general .entry)) special pc halt marks mask) (firstOf op) y) ⌝ }
 {
     if opcode::is_among(op, opcode::FIRST_NEGATION, opcode::LAST_NEGATION) {
         return y as u64;
@@ -26,8 +26,8 @@ fn first(general: &[u64; 256], op: u8, y: u8) -> u64
 
 /// $Z for an even opcode, Z for an odd one.
 pub(crate) fn last(general: &[u64; 256], op: u8, z: u8) -> u64
-    ensures { λ r. ⌜ ((special : List ℕ) (pc halt marks : ℕ) → r
-        ≡ operandOf (made (now (general .entry)) special pc halt marks) (lastOf op) z) ⌝ }
+    ensures { λ r. ⌜ ((special : List ℕ) (pc halt marks mask : ℕ) → r
+        ≡ operandOf (made (now (general .entry)) special pc halt marks mask) (lastOf op) z) ⌝ }
 {
     if op % 2 == 0 {
         return general[z as usize];
@@ -47,9 +47,9 @@ pub(crate) fn compute(
     y: u8,
     z: u8,
 ) -> Reply
-    ensures { λ r. ⌜ Told
-        (arithmeticOf (made (now (general .entry)) (now (special .entry)) (now (pc .entry)) (now (halt .entry)) marks) op x y z)
-        r (made (now (general .exit)) (now (special .exit)) (now (pc .exit)) (now (halt .exit)) marks) ⌝ }
+    ensures { λ r. ⌜ ((mask : ℕ) → Told
+        (arithmeticOf (made (now (general .entry)) (now (special .entry)) (now (pc .entry)) (now (halt .entry)) marks mask) op x y z)
+        r (made (now (general .exit)) (now (special .exit)) (now (pc .exit)) (now (halt .exit)) marks mask)) ⌝ }
 {
     let u = first(general, op, y);
     let v = last(general, op, z);

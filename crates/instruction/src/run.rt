@@ -48,8 +48,8 @@ fn keeps_claim(number: u64) -> bool
 
 /// Whether an instruction claims $x and $x is marginal: a claim of any other changes nothing.
 fn is_claimed(special: &[u64; 32], op: u8, x: u8) -> bool
-    ensures { λ r. ⌜ ((general : List ℕ) (pc halt marks : ℕ) → r
-        ≡ (isMarginal (made general (now (special .entry)) pc halt marks) x && claims op)) ⌝ }
+    ensures { λ r. ⌜ ((general : List ℕ) (pc halt marks mask : ℕ) → r
+        ≡ (isMarginal (made general (now (special .entry)) pc halt marks mask) x && claims op)) ⌝ }
 {
     let rl = special[State::RL];
     let rg = special[State::RG];
@@ -85,6 +85,7 @@ fn claimed_clear(
     pc: &mut u64,
     halt: &mut u64,
     marks: u64,
+    mask: u64,
     a: &mut [u8],
     b: &mut [u8],
     at: Bases,
@@ -93,15 +94,15 @@ fn claimed_clear(
     y: u8,
     z: u8,
 ) -> u64
-    requires { ⌜ (admissible (made (now general) (now special) (now pc) (now halt) marks) ≡ true)
+    requires { ⌜ (admissible (made (now general) (now special) (now pc) (now halt) marks mask) ≡ true)
         × (unruledBy (shapesOf (lent at (now a) (now b))) ≡ 0)
         × (claims op ≡ true)
-        × (isMarginal (made (now general) (now special) (now pc) (now halt) marks) x ≡ true)
+        × (isMarginal (made (now general) (now special) (now pc) (now halt) marks mask) x ≡ true)
         × ((k : ℕ) → getD (now special) rL 0 ≤ k → k ≤ x → getD (now general) k 0 ≡ 0) ⌝ }
     ensures { λ r. ⌜ Numbered
         (claimedOf (lent at (now (a .entry)) (now (b .entry)))
-        (made (now (general .entry)) (now (special .entry)) (now (pc .entry)) (now (halt .entry)) marks) op x y z)
-        r (made (now (general .exit)) (now (special .exit)) (now (pc .exit)) (now (halt .exit)) marks) (lent at (now (a .exit)) (now (b .exit))) ⌝ }
+        (made (now (general .entry)) (now (special .entry)) (now (pc .entry)) (now (halt .entry)) marks mask) op x y z)
+        r (made (now (general .exit)) (now (special .exit)) (now (pc .exit)) (now (halt .exit)) marks mask) (lent at (now (a .exit)) (now (b .exit))) ⌝ }
 {
     stack::pass::counted(general, special);
     let rl = special[State::RL];
@@ -119,6 +120,7 @@ fn claimed_clear(
         pc,
         halt,
         marks,
+        mask,
         a,
         b,
     );
@@ -136,6 +138,7 @@ fn claimed_kept(
     pc: &mut u64,
     halt: &mut u64,
     marks: u64,
+    mask: u64,
     a: &mut [u8],
     b: &mut [u8],
     at: Bases,
@@ -144,14 +147,14 @@ fn claimed_kept(
     y: u8,
     z: u8,
 ) -> u64
-    requires { ⌜ (admissible (made (now general) (now special) (now pc) (now halt) marks) ≡ true)
+    requires { ⌜ (admissible (made (now general) (now special) (now pc) (now halt) marks mask) ≡ true)
         × (unruledBy (shapesOf (lent at (now a) (now b))) ≡ 0)
         × (claims op ≡ true)
-        × (isMarginal (made (now general) (now special) (now pc) (now halt) marks) x ≡ true) ⌝ }
+        × (isMarginal (made (now general) (now special) (now pc) (now halt) marks mask) x ≡ true) ⌝ }
     ensures { λ r. ⌜ Numbered
         (claimedOf (lent at (now (a .entry)) (now (b .entry)))
-        (made (now (general .entry)) (now (special .entry)) (now (pc .entry)) (now (halt .entry)) marks) op x y z)
-        r (made (now (general .exit)) (now (special .exit)) (now (pc .exit)) (now (halt .exit)) marks) (lent at (now (a .exit)) (now (b .exit))) ⌝ }
+        (made (now (general .entry)) (now (special .entry)) (now (pc .entry)) (now (halt .entry)) marks mask) op x y z)
+        r (made (now (general .exit)) (now (special .exit)) (now (pc .exit)) (now (halt .exit)) marks mask) (lent at (now (a .exit)) (now (b .exit))) ⌝ }
 {
     stack::pass::counted(general, special);
     let kept = *general;
@@ -170,6 +173,7 @@ fn claimed_kept(
         pc,
         halt,
         marks,
+        mask,
         a,
         b,
     );
@@ -188,6 +192,7 @@ fn claimed(
     pc: &mut u64,
     halt: &mut u64,
     marks: u64,
+    mask: u64,
     a: &mut [u8],
     b: &mut [u8],
     at: Bases,
@@ -196,20 +201,48 @@ fn claimed(
     y: u8,
     z: u8,
 ) -> u64
-    requires { ⌜ (admissible (made (now general) (now special) (now pc) (now halt) marks) ≡ true)
+    requires { ⌜ (admissible (made (now general) (now special) (now pc) (now halt) marks mask) ≡ true)
         × (unruledBy (shapesOf (lent at (now a) (now b))) ≡ 0)
         × (claims op ≡ true)
-        × (isMarginal (made (now general) (now special) (now pc) (now halt) marks) x ≡ true) ⌝ }
+        × (isMarginal (made (now general) (now special) (now pc) (now halt) marks mask) x ≡ true) ⌝ }
     ensures { λ r. ⌜ Numbered
         (claimedOf (lent at (now (a .entry)) (now (b .entry)))
-        (made (now (general .entry)) (now (special .entry)) (now (pc .entry)) (now (halt .entry)) marks) op x y z)
-        r (made (now (general .exit)) (now (special .exit)) (now (pc .exit)) (now (halt .exit)) marks) (lent at (now (a .exit)) (now (b .exit))) ⌝ }
+        (made (now (general .entry)) (now (special .entry)) (now (pc .entry)) (now (halt .entry)) marks mask) op x y z)
+        r (made (now (general .exit)) (now (special .exit)) (now (pc .exit)) (now (halt .exit)) marks mask) (lent at (now (a .exit)) (now (b .exit))) ⌝ }
 {
     let rl = special[State::RL];
     if is_clear(general, rl, x) {
-        return claimed_clear(general, special, pc, halt, marks, a, b, at, op, x, y, z);
+        return claimed_clear(
+            general,
+            special,
+            pc,
+            halt,
+            marks,
+            mask,
+            a,
+            b,
+            at,
+            op,
+            x,
+            y,
+            z,
+        );
     }
-    claimed_kept(general, special, pc, halt, marks, a, b, at, op, x, y, z)
+    claimed_kept(
+        general,
+        special,
+        pc,
+        halt,
+        marks,
+        mask,
+        a,
+        b,
+        at,
+        op,
+        x,
+        y,
+        z,
+    )
 }
 
 /// The instruction that a tetra says, from 3 on. A branch claims nothing, and is done here: what a loop does most is not to wait for the choice.
@@ -219,18 +252,19 @@ fn attempt(
     pc: &mut u64,
     halt: &mut u64,
     marks: u64,
+    mask: u64,
     a: &mut [u8],
     b: &mut [u8],
     at: Bases,
     tetra: u64,
 ) -> u64
-    requires { ⌜ (admissible (made (now general) (now special) (now pc) (now halt) marks) ≡ true)
+    requires { ⌜ (admissible (made (now general) (now special) (now pc) (now halt) marks mask) ≡ true)
         × (unruledBy (shapesOf (lent at (now a) (now b))) ≡ 0)
         × (tetra < 2 ^ 32) ⌝ }
     ensures { λ r. ⌜ Numbered
         (saidBy (lent at (now (a .entry)) (now (b .entry)))
-        (made (now (general .entry)) (now (special .entry)) (now (pc .entry)) (now (halt .entry)) marks) tetra)
-        r (made (now (general .exit)) (now (special .exit)) (now (pc .exit)) (now (halt .exit)) marks) (lent at (now (a .exit)) (now (b .exit))) ⌝ }
+        (made (now (general .entry)) (now (special .entry)) (now (pc .entry)) (now (halt .entry)) marks mask) tetra)
+        r (made (now (general .exit)) (now (special .exit)) (now (pc .exit)) (now (halt .exit)) marks mask) (lent at (now (a .exit)) (now (b .exit))) ⌝ }
 {
     stack::pass::counted(general, special);
     let op = (tetra / 0x100_0000) as u8;
@@ -242,7 +276,21 @@ fn attempt(
         return DONE;
     }
     if is_claimed(special, op, x) {
-        return claimed(general, special, pc, halt, marks, a, b, at, op, x, y, z);
+        return claimed(
+            general,
+            special,
+            pc,
+            halt,
+            marks,
+            mask,
+            a,
+            b,
+            at,
+            op,
+            x,
+            y,
+            z,
+        );
     }
     let code = step::JUDGED + op as u64;
     step::stepped(
@@ -257,6 +305,7 @@ fn attempt(
         pc,
         halt,
         marks,
+        mask,
         a,
         b,
     )
@@ -269,16 +318,17 @@ fn fetched(
     pc: &mut u64,
     halt: &mut u64,
     marks: u64,
+    mask: u64,
     a: &mut [u8],
     b: &mut [u8],
     at: Bases,
 ) -> u64
-    requires { ⌜ (admissible (made (now general) (now special) (now pc) (now halt) marks) ≡ true)
+    requires { ⌜ (admissible (made (now general) (now special) (now pc) (now halt) marks mask) ≡ true)
         × (unruledBy (shapesOf (lent at (now a) (now b))) ≡ 0) ⌝ }
     ensures { λ r. ⌜ Numbered
         (fetchedOf (lent at (now (a .entry)) (now (b .entry)))
-        (made (now (general .entry)) (now (special .entry)) (now (pc .entry)) (now (halt .entry)) marks))
-        r (made (now (general .exit)) (now (special .exit)) (now (pc .exit)) (now (halt .exit)) marks) (lent at (now (a .exit)) (now (b .exit))) ⌝ }
+        (made (now (general .entry)) (now (special .entry)) (now (pc .entry)) (now (halt .entry)) marks mask))
+        r (made (now (general .exit)) (now (special .exit)) (now (pc .exit)) (now (halt .exit)) marks mask) (lent at (now (a .exit)) (now (b .exit))) ⌝ }
 {
     let from = *pc;
     let found = stack::pass::read_octa(a, b, at, from);
@@ -287,7 +337,7 @@ fn fetched(
     }
     let v = found.value;
     let tetra = decode::operand::tetra_at(from, v);
-    attempt(general, special, pc, halt, marks, a, b, at, tetra)
+    attempt(general, special, pc, halt, marks, mask, a, b, at, tetra)
 }
 
 /// Instruction by instruction, until the grant is spent or one is refused, which isn't counted.
@@ -297,24 +347,25 @@ fn turns(
     pc: &mut u64,
     halt: &mut u64,
     marks: u64,
+    mask: u64,
     a: &mut [u8],
     b: &mut [u8],
     at: Bases,
     grant: u64,
     done: &mut u64,
 ) -> u64
-    requires { ⌜ (admissible (made (now general) (now special) (now pc) (now halt) marks) ≡ true)
+    requires { ⌜ (admissible (made (now general) (now special) (now pc) (now halt) marks mask) ≡ true)
         × (unruledBy (shapesOf (lent at (now a) (now b))) ≡ 0) ⌝ }
     ensures { λ r. ⌜ RunNumbered
         (runFor both mmix fetched grant
-        (made (now (general .entry)) (now (special .entry)) (now (pc .entry)) (now (halt .entry)) marks) (lent at (now (a .entry)) (now (b .entry))))
+        (made (now (general .entry)) (now (special .entry)) (now (pc .entry)) (now (halt .entry)) marks mask) (lent at (now (a .entry)) (now (b .entry))))
         r (now (done .exit))
-        (made (now (general .exit)) (now (special .exit)) (now (pc .exit)) (now (halt .exit)) marks) (lent at (now (a .exit)) (now (b .exit))) ⌝ }
+        (made (now (general .exit)) (now (special .exit)) (now (pc .exit)) (now (halt .exit)) marks mask) (lent at (now (a .exit)) (now (b .exit))) ⌝ }
 {
     stack::pass::counted(general, special);
     let mut i: u64 = 0;
     while i < grant {
-        let number = fetched(general, special, pc, halt, marks, a, b, at);
+        let number = fetched(general, special, pc, halt, marks, mask, a, b, at);
         if number != DONE {
             *done = i;
             return number;
@@ -332,6 +383,7 @@ pub fn run(
     pc: &mut u64,
     halt: &mut u64,
     marks: u64,
+    mask: u64,
     a: &mut [u8],
     b: &mut [u8],
     at: Bases,
@@ -340,17 +392,29 @@ pub fn run(
 ) -> u64
     ensures { λ r. ⌜ RunNumbered
         (runOf (lent at (now (a .entry)) (now (b .entry)))
-        (made (now (general .entry)) (now (special .entry)) (now (pc .entry)) (now (halt .entry)) marks) grant)
+        (made (now (general .entry)) (now (special .entry)) (now (pc .entry)) (now (halt .entry)) marks mask) grant)
         r (now (done .exit))
-        (made (now (general .exit)) (now (special .exit)) (now (pc .exit)) (now (halt .exit)) marks) (lent at (now (a .exit)) (now (b .exit))) ⌝ }
+        (made (now (general .exit)) (now (special .exit)) (now (pc .exit)) (now (halt .exit)) marks mask) (lent at (now (a .exit)) (now (b .exit))) ⌝ }
 {
     *done = 0;
-    let number = stack::pass::refusal(special, marks, a, b, at);
+    let number = stack::pass::refusal(special, marks, mask, a, b, at);
     if number != 0 {
         return number;
     }
     if GRANT_MOST < grant {
         return GRANT_TOO_LARGE;
     }
-    turns(general, special, pc, halt, marks, a, b, at, grant, done)
+    turns(
+        general,
+        special,
+        pc,
+        halt,
+        marks,
+        mask,
+        a,
+        b,
+        at,
+        grant,
+        done,
+    )
 }

@@ -31,6 +31,7 @@ fn by_range(
     pc: &mut u64,
     halt: &mut u64,
     marks: u64,
+    mask: u64,
     a: &mut [u8],
     b: &mut [u8],
     at: Bases,
@@ -41,8 +42,8 @@ fn by_range(
 ) -> Reply
     ensures { λ r. ⌜ Whole
         (rangedOf (lent at (now (a .entry)) (now (b .entry)))
-        (made (now (general .entry)) (now (special .entry)) (now (pc .entry)) (now (halt .entry)) marks) op x y z)
-        r (made (now (general .exit)) (now (special .exit)) (now (pc .exit)) (now (halt .exit)) marks) (lent at (now (a .exit)) (now (b .exit))) ⌝ }
+        (made (now (general .entry)) (now (special .entry)) (now (pc .entry)) (now (halt .entry)) marks mask) op x y z)
+        r (made (now (general .exit)) (now (special .exit)) (now (pc .exit)) (now (halt .exit)) marks mask) (lent at (now (a .exit)) (now (b .exit))) ⌝ }
 {
     if opcode::is_among(op, opcode::FIRST_LOAD, opcode::LAST_LOAD) {
         return load_store::load(general, special, pc, a, b, at, op, x, y, z);
@@ -54,7 +55,7 @@ fn by_range(
         return operations::compute(general, special, pc, halt, marks, op, x, y, z);
     }
     if opcode::is_among(op, opcode::PUT, opcode::PUTI) {
-        return system::put_by(general, special, pc, halt, op, x, z);
+        return system::put_by(general, special, pc, halt, mask, op, x, z);
     }
     Reply::NoArm
 }
@@ -66,6 +67,7 @@ fn by_key(
     pc: &mut u64,
     halt: &mut u64,
     marks: u64,
+    mask: u64,
     a: &mut [u8],
     b: &mut [u8],
     at: Bases,
@@ -74,12 +76,12 @@ fn by_key(
     y: u8,
     z: u8,
 ) -> Reply
-    requires { ⌜ (admissible (made (now general) (now special) (now pc) (now halt) marks) ≡ true)
+    requires { ⌜ (admissible (made (now general) (now special) (now pc) (now halt) marks mask) ≡ true)
         × (unruledBy (shapesOf (lent at (now a) (now b))) ≡ 0) × (among firstBranch lastBranch op ≡ false) × (NoCall op) ⌝ }
     ensures { λ r. ⌜ Whole
         (stepOf (lent at (now (a .entry)) (now (b .entry)))
-        (made (now (general .entry)) (now (special .entry)) (now (pc .entry)) (now (halt .entry)) marks) op x y z)
-        r (made (now (general .exit)) (now (special .exit)) (now (pc .exit)) (now (halt .exit)) marks) (lent at (now (a .exit)) (now (b .exit))) ⌝ }
+        (made (now (general .entry)) (now (special .entry)) (now (pc .entry)) (now (halt .entry)) marks mask) op x y z)
+        r (made (now (general .exit)) (now (special .exit)) (now (pc .exit)) (now (halt .exit)) marks mask) (lent at (now (a .exit)) (now (b .exit))) ⌝ }
 {
     match op {
         opcode::TRAP => exceptions::trap_arm(general, special, *pc, halt, op, x, y, z),
@@ -90,13 +92,13 @@ fn by_key(
         opcode::GETA => registers::get_address(general, special, pc, op, x, y, z),
         opcode::GETAB => registers::get_address(general, special, pc, op, x, y, z),
         opcode::POP => calls::pop_to(general, special, pc, halt, a, b, at, x, y, z),
-        opcode::SAVE => contexts::save_to(general, special, pc, halt, marks, a, b, at, x),
+        opcode::SAVE => contexts::save_to(general, special, pc, halt, marks, mask, a, b, at, x),
         opcode::UNSAVE => { system::unsave_register(general, special, pc, halt, a, b, at, z) }
         opcode::SYNC => registers::synchronize(pc, halt, x, y, z),
         opcode::SWYM => system::skip(pc),
-        opcode::GET => registers::get_special(general, special, pc, x, z),
+        opcode::GET => registers::get_special(general, special, pc, halt, mask, x, z),
         opcode::TRIP => exceptions::trip_arm(general, special, pc, halt, marks, op, x, y, z),
-        _ => by_range(general, special, pc, halt, marks, a, b, at, op, x, y, z),
+        _ => by_range(general, special, pc, halt, marks, mask, a, b, at, op, x, y, z),
     }
 }
 
@@ -107,6 +109,7 @@ pub(crate) fn dispatch(
     pc: &mut u64,
     halt: &mut u64,
     marks: u64,
+    mask: u64,
     a: &mut [u8],
     b: &mut [u8],
     at: Bases,
@@ -115,12 +118,12 @@ pub(crate) fn dispatch(
     y: u8,
     z: u8,
 ) -> Reply
-    requires { ⌜ (admissible (made (now general) (now special) (now pc) (now halt) marks) ≡ true)
+    requires { ⌜ (admissible (made (now general) (now special) (now pc) (now halt) marks mask) ≡ true)
         × (unruledBy (shapesOf (lent at (now a) (now b))) ≡ 0) ⌝ }
     ensures { λ r. ⌜ Whole
         (stepOf (lent at (now (a .entry)) (now (b .entry)))
-        (made (now (general .entry)) (now (special .entry)) (now (pc .entry)) (now (halt .entry)) marks) op x y z)
-        r (made (now (general .exit)) (now (special .exit)) (now (pc .exit)) (now (halt .exit)) marks) (lent at (now (a .exit)) (now (b .exit))) ⌝ }
+        (made (now (general .entry)) (now (special .entry)) (now (pc .entry)) (now (halt .entry)) marks mask) op x y z)
+        r (made (now (general .exit)) (now (special .exit)) (now (pc .exit)) (now (halt .exit)) marks mask) (lent at (now (a .exit)) (now (b .exit))) ⌝ }
 {
     if opcode::is_among(op, opcode::FIRST_BRANCH, opcode::LAST_BRANCH) {
         return control::branch(general, pc, op, x, y, z);
@@ -131,7 +134,7 @@ pub(crate) fn dispatch(
         opcode::PUSHJ => target::near(*pc, op, y, z),
         opcode::PUSHJB => target::near(*pc, op, y, z),
         _ => {
-            return by_key(general, special, pc, halt, marks, a, b, at, op, x, y, z);
+            return by_key(general, special, pc, halt, marks, mask, a, b, at, op, x, y, z);
         }
     };
     calls::push_to(general, special, pc, a, b, at, x, target)
@@ -141,15 +144,23 @@ pub(crate) fn dispatch(
 pub(crate) const JUDGED: u64 = 256;
 
 /// The number by which state or windows are refused, where they are still to be judged.
-fn refusal_of(special: &[u64; 32], marks: u64, a: &[u8], b: &[u8], at: Bases, op: u64) -> u64
-    requires { ⌜ (judged ≤ op → (general : List ℕ) (pc halt : ℕ) → refusalOn (lent at (now a) (now b)) (made general (now special) pc halt marks) ≡ 0) ⌝ }
+fn refusal_of(
+    special: &[u64; 32],
+    marks: u64,
+    mask: u64,
+    a: &[u8],
+    b: &[u8],
+    at: Bases,
+    op: u64,
+) -> u64
+    requires { ⌜ (judged ≤ op → (general : List ℕ) (pc halt : ℕ) → refusalOn (lent at (now a) (now b)) (made general (now special) pc halt marks mask) ≡ 0) ⌝ }
     ensures { λ r. ⌜ ((general : List ℕ) (pc halt : ℕ) → r
-        ≡ refusalOn (lent at (now (a .entry)) (now (b .entry))) (made general (now (special .entry)) pc halt marks)) ⌝ }
+        ≡ refusalOn (lent at (now (a .entry)) (now (b .entry))) (made general (now (special .entry)) pc halt marks mask)) ⌝ }
 {
     if JUDGED <= op {
         return 0;
     }
-    stack::pass::refusal(special, marks, a, b, at)
+    stack::pass::refusal(special, marks, mask, a, b, at)
 }
 
 /// One step in place: 1, then 2, then 22, unless the opcode says that they have passed; then 3 to 5 and the instruction's own. This is the one place where an
@@ -166,26 +177,41 @@ pub(crate) fn stepped(
     pc: &mut u64,
     halt: &mut u64,
     marks: u64,
+    mask: u64,
     a: &mut [u8],
     b: &mut [u8],
 ) -> u64
-    requires { ⌜ (judged ≤ op → refusalOn (lentAt «base_a» «base_b» (now a) (now b)) (made (now general) (now special) (now pc) (now halt) marks) ≡ 0) ⌝ }
+    requires { ⌜ (judged ≤ op → refusalOn (lentAt «base_a» «base_b» (now a) (now b)) (made (now general) (now special) (now pc) (now halt) marks mask) ≡ 0) ⌝ }
     ensures { λ r. ⌜ Numbered
         (stepOf (lentAt «base_a» «base_b» (now (a .entry)) (now (b .entry)))
-        (made (now (general .entry)) (now (special .entry)) (now (pc .entry)) (now (halt .entry)) marks) (op % judged) x y z)
-        r (made (now (general .exit)) (now (special .exit)) (now (pc .exit)) (now (halt .exit)) marks)
+        (made (now (general .entry)) (now (special .entry)) (now (pc .entry)) (now (halt .entry)) marks mask) (op % judged) x y z)
+        r (made (now (general .exit)) (now (special .exit)) (now (pc .exit)) (now (halt .exit)) marks mask)
         (lentAt «base_a» «base_b» (now (a .exit)) (now (b .exit))) ⌝ }
 {
     let at = Bases {
         a: base_a,
         b: base_b,
     };
-    let number = refusal_of(special, marks, a, b, at, op);
+    let number = refusal_of(special, marks, mask, a, b, at, op);
     if number != 0 {
         return number;
     }
     let code = (op % JUDGED) as u8;
-    let reply = dispatch(general, special, pc, halt, marks, a, b, at, code, x, y, z);
+    let reply = dispatch(
+        general,
+        special,
+        pc,
+        halt,
+        marks,
+        mask,
+        a,
+        b,
+        at,
+        code,
+        x,
+        y,
+        z,
+    );
     stack::reply::number_of(reply)
 }
 
@@ -196,6 +222,7 @@ pub fn step(
     pc: &mut u64,
     halt: &mut u64,
     marks: u64,
+    mask: u64,
     a: &mut [u8],
     b: &mut [u8],
     at: Bases,
@@ -206,8 +233,8 @@ pub fn step(
 ) -> u64
     ensures { λ r. ⌜ Numbered
         (stepOf (lent at (now (a .entry)) (now (b .entry)))
-        (made (now (general .entry)) (now (special .entry)) (now (pc .entry)) (now (halt .entry)) marks) op x y z)
-        r (made (now (general .exit)) (now (special .exit)) (now (pc .exit)) (now (halt .exit)) marks) (lent at (now (a .exit)) (now (b .exit))) ⌝ }
+        (made (now (general .entry)) (now (special .entry)) (now (pc .entry)) (now (halt .entry)) marks mask) op x y z)
+        r (made (now (general .exit)) (now (special .exit)) (now (pc .exit)) (now (halt .exit)) marks mask) (lent at (now (a .exit)) (now (b .exit))) ⌝ }
 {
     stepped(
         at.a,
@@ -221,6 +248,7 @@ pub fn step(
         pc,
         halt,
         marks,
+        mask,
         a,
         b,
     )

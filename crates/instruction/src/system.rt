@@ -16,9 +16,9 @@ use model::Reply;
 
 /// SWYM.
 pub(crate) fn skip(pc: &mut u64) -> Reply
-    ensures { λ r. ⌜ ((general special : List ℕ) (halt marks : ℕ) → Told
-        (say 0 (next (made general special (now (pc .entry)) halt marks)))
-        r (made general special (now (pc .exit)) halt marks)) ⌝ }
+    ensures { λ r. ⌜ ((general special : List ℕ) (halt marks mask : ℕ) → Told
+        (say 0 (next (made general special (now (pc .entry)) halt marks mask)))
+        r (made general special (now (pc .exit)) halt marks mask)) ⌝ }
 {
     *pc = decode::target::following(*pc);
     Reply::Done
@@ -30,16 +30,17 @@ pub(crate) fn put_by(
     special: &mut [u64; 32],
     pc: &mut u64,
     halt: &mut u64,
+    mask: u64,
     op: u8,
     x: u8,
     z: u8,
 ) -> Reply
     ensures { λ r. ⌜ ((marks : ℕ) → Told
-        (putOf (made (now (general .entry)) (now (special .entry)) (now (pc .entry)) (now (halt .entry)) marks) op x z)
-        r (made (now (general .exit)) (now (special .exit)) (now (pc .exit)) (now (halt .exit)) marks)) ⌝ }
+        (putOf (made (now (general .entry)) (now (special .entry)) (now (pc .entry)) (now (halt .entry)) marks mask) op x z)
+        r (made (now (general .exit)) (now (special .exit)) (now (pc .exit)) (now (halt .exit)) marks mask)) ⌝ }
 {
     let value = operations::last(general, op, z);
-    registers::put_value(general, special, pc, halt, x, value)
+    registers::put_value(general, special, pc, halt, mask, x, value)
 }
 
 /// UNSAVE: the context's address is $z.
@@ -53,10 +54,10 @@ pub(crate) fn unsave_register(
     at: Bases,
     z: u8,
 ) -> Reply
-    ensures { λ r. ⌜ ((marks : ℕ) → Whole
+    ensures { λ r. ⌜ ((marks mask : ℕ) → Whole
         (unsaveAt (lent at (now (a .entry)) (now (b .entry)))
-        (made (now (general .entry)) (now (special .entry)) (now (pc .entry)) (now (halt .entry)) marks) z)
-        r (made (now (general .exit)) (now (special .exit)) (now (pc .exit)) (now (halt .exit)) marks) (lent at (now (a .entry)) (now (b .entry)))) ⌝ }
+        (made (now (general .entry)) (now (special .entry)) (now (pc .entry)) (now (halt .entry)) marks mask) z)
+        r (made (now (general .exit)) (now (special .exit)) (now (pc .exit)) (now (halt .exit)) marks mask) (lent at (now (a .entry)) (now (b .entry)))) ⌝ }
 {
     let address = general[z as usize];
     contexts::unsave_from(general, special, pc, halt, a, b, at, address)

@@ -47,12 +47,14 @@ pub fn raise_exceptions(
     let mut pc = state.pc;
     let mut halt = state.halt;
     let marks = state.marks;
+    let mask = state.mask;
     let reply = exceptions::raise_exceptions(
         &mut general,
         &mut special,
         &mut pc,
         &mut halt,
         marks,
+        mask,
         flags,
         op,
         x,
@@ -67,6 +69,7 @@ pub fn raise_exceptions(
         pc: pc,
         halt: halt,
         marks: marks,
+        mask: mask,
     };
     Outcome {
         reply: reply,
@@ -93,12 +96,14 @@ pub fn step(
     let mut pc = state.pc;
     let mut halt = state.halt;
     let marks = state.marks;
+    let mask = state.mask;
     let number = super::step::step(
         &mut general,
         &mut special,
         &mut pc,
         &mut halt,
         marks,
+        mask,
         a,
         b,
         at,
@@ -113,6 +118,7 @@ pub fn step(
         pc: pc,
         halt: halt,
         marks: marks,
+        mask: mask,
     };
     Stepped {
         number: number,

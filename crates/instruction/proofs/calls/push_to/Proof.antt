@@ -21,10 +21,10 @@ same-length-2 c = search needs
 returns : tie.Need-returns
 unfolding goes
 returns c =
-    λ halt marks.
+    λ halt marks mask.
     let told = c .before .before .before .before .before .before in
     let a = told .before .before .before .before .before .before .before .before .args in
-    push-done (lent (a .at) (a .a .now) (a .b .now)) (made (a .general .now) (a .special .now) (a .pc .now) halt marks) (a .x) (a .target) _ _ _ (told .push-frame .ensures halt marks) (c .before .match .keys1)
+    push-done (lent (a .at) (a .a .now) (a .b .now)) (made (a .general .now) (a .special .now) (a .pc .now) halt marks mask) (a .x) (a .target) _ _ _ (told .push-frame .ensures halt marks mask) (c .before .match .keys1)
 
 same-length-3 : tie.Need-same-length-3
 same-length-3 c = search needs
@@ -34,10 +34,10 @@ same-length-4 c = search needs
 
 returns-2 : tie.Need-returns-2
 returns-2 c =
-    λ halt marks.
+    λ halt marks mask.
     let told = c .before .before .before .before .before in
     let a = told .before .before .before .before .before .before .before .before .args in
-    push-refused (lent (a .at) (a .a .now) (a .b .now)) (made (a .general .now) (a .special .now) (a .pc .now) halt marks) (a .x) (a .target) _ _ _ (told .push-frame .ensures halt marks) (c .match .keys2)
+    push-refused (lent (a .at) (a .a .now) (a .b .now)) (made (a .general .now) (a .special .now) (a .pc .now) halt marks mask) (a .x) (a .target) _ _ _ (told .push-frame .ensures halt marks mask) (c .match .keys2)
 
 pub push-to-spec : {M : Type 1} → statement M
 push-to-spec =

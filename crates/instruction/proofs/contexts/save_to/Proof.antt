@@ -26,7 +26,7 @@ unfolding saveIn
 returns c =
     let told = c .before .before .before .before .before .before .before .before in
     let a = told .before .before .before .before .before .before .before .before .args in
-    let s = made (a .general .now) (a .special .now) (a .pc .now) (a .halt .now) (a .marks) in
+    let s = made (a .general .now) (a .special .now) (a .pc .now) (a .halt .now) (a .marks) (a .mask) in
     onward-done _ s (save-onward (lent (a .at) (a .a .now) (a .b .now)) s (a .x)) _ _ _ _ _ (told .save-context .ensures (a .pc .now)) _ (c .before .before .before .match .keys1) (c .following .ensures)
 
 same-length-3 : tie.Need-same-length-3
@@ -40,7 +40,7 @@ unfolding saveIn
 returns-2 c =
     let told = c .before .before .before .before .before in
     let a = told .before .before .before .before .before .before .before .before .args in
-    let s = made (a .general .now) (a .special .now) (a .pc .now) (a .halt .now) (a .marks) in
+    let s = made (a .general .now) (a .special .now) (a .pc .now) (a .halt .now) (a .marks) (a .mask) in
     onward-refused _ s (save-onward (lent (a .at) (a .a .now) (a .b .now)) s (a .x)) _ _ _ _ _ (told .save-context .ensures (a .pc .now)) (c .match .keys2)
 
 pub save-to-spec : {M : Type 1} → statement M

@@ -18,20 +18,20 @@ following-requires c κs = search needs
 returns : tie.Need-returns
 unfolding unsaveIn
 returns c =
-    λ marks.
+    λ marks mask.
     let told = c .before .before .before .before in
     let a = told .before .before .before .before .before .before .args in
-    let s = made (a .general .now) (a .special .now) (a .pc .now) (a .halt .now) marks in
-    onward-done _ s (unsave-onward (lent (a .at) (a .a .now) (a .b .now)) s (a .address)) _ _ _ _ _ (told .unsave-context .ensures (a .pc .now) marks) _ (c .before .before .before .match .keys1) (c .following .ensures)
+    let s = made (a .general .now) (a .special .now) (a .pc .now) (a .halt .now) marks mask in
+    onward-done _ s (unsave-onward (lent (a .at) (a .a .now) (a .b .now)) s (a .address)) _ _ _ _ _ (told .unsave-context .ensures (a .pc .now) marks mask) _ (c .before .before .before .match .keys1) (c .following .ensures)
 
 returns-2 : tie.Need-returns-2
 unfolding unsaveIn
 returns-2 c =
-    λ marks.
+    λ marks mask.
     let told = c .before in
     let a = told .before .before .before .before .before .before .args in
-    let s = made (a .general .now) (a .special .now) (a .pc .now) (a .halt .now) marks in
-    onward-refused _ s (unsave-onward (lent (a .at) (a .a .now) (a .b .now)) s (a .address)) _ _ _ _ _ (told .unsave-context .ensures (a .pc .now) marks) (c .match .keys2)
+    let s = made (a .general .now) (a .special .now) (a .pc .now) (a .halt .now) marks mask in
+    onward-refused _ s (unsave-onward (lent (a .at) (a .a .now) (a .b .now)) s (a .address)) _ _ _ _ _ (told .unsave-context .ensures (a .pc .now) marks mask) (c .match .keys2)
 
 pub unsave-from-spec : {M : Type 1} → statement M
 unsave-from-spec =

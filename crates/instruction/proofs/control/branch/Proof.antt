@@ -23,9 +23,9 @@ near-requires c κs = search needs
 returns : tie.Need-returns
 unfolding goes replyOf
 returns c =
-    λ special halt marks.
+    λ special halt marks mask.
     let a = c .before .before .before .before .before .args in
-    let s = made (a .general .now) special (a .pc .now) halt marks in
+    let s = made (a .general .now) special (a .pc .now) halt marks mask in
     record {
       reply-is = refl;
       state-is = branch-taken s (a .op) (a .x) (a .y) (a .z) _ _ (c .before .before .is-taken .ensures) (c .before .if1 .taken) (c .near .ensures);
@@ -37,9 +37,9 @@ following-requires c κs = search needs
 returns-2 : tie.Need-returns-2
 unfolding goes replyOf
 returns-2 c =
-    λ special halt marks.
+    λ special halt marks mask.
     let a = c .before .before .before .before .before .args in
-    let s = made (a .general .now) special (a .pc .now) halt marks in
+    let s = made (a .general .now) special (a .pc .now) halt marks mask in
     record {
       reply-is = refl;
       state-is = branch-not s (a .op) (a .x) (a .y) (a .z) _ _ (c .before .before .is-taken .ensures) (c .before .if1 .left) (c .following .ensures);

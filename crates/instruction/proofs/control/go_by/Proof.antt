@@ -16,13 +16,13 @@ go-to-requires c κs = search needs
 returns : tie.Need-returns
 unfolding replyOf
 returns c =
-    λ halt marks.
+    λ halt marks mask.
     let sums = c .before .before .before .before in
     let a = sums .before .before .args in
-    let s = made (a .general .now) (a .special .now) (a .pc .now) halt marks in
+    let s = made (a .general .now) (a .special .now) (a .pc .now) halt marks mask in
     record {
       reply-is = refl;
-      state-is = c .go-to .ensures halt marks ∙ ap (goTo s (a .x)) (sums .sum .ensures (a .special .now) (a .pc .now) halt marks);
+      state-is = c .go-to .ensures halt marks mask ∙ ap (goTo s (a .x)) (sums .sum .ensures (a .special .now) (a .pc .now) halt marks mask);
     }
 
 pub go-by-spec : {M : Type 1} → statement M

@@ -13,8 +13,8 @@ far-requires c κs = search needs
 returns : tie.Need-returns
 unfolding goes replyOf
 returns c =
-    λ general special halt marks.
-    record { reply-is = refl; state-is = ap (goes (made general special (c .before .before .args .pc .now) halt marks)) (c .far .ensures) }
+    λ general special halt marks mask.
+    record { reply-is = refl; state-is = ap (goes (made general special (c .before .before .args .pc .now) halt marks mask)) (c .far .ensures) }
 
 pub jump-spec : {M : Type 1} → statement M
 jump-spec = tie.close (tie.spec far-requires returns)

@@ -21,13 +21,13 @@ wrapping-add-requires : tie.Need-wrapping-add-requires
 wrapping-add-requires c κs = search needs
 
 returns : tie.Need-returns
-returns c = λ special pc halt marks. let a = c .before .before .before .before .args in sum-register (made (a .general .now) special pc halt marks) (a .op) (a .y) (a .z) _ (c .before .before .if1 .taken) (c .wrapping-add .ensures)
+returns c = λ special pc halt marks mask. let a = c .before .before .before .before .args in sum-register (made (a .general .now) special pc halt marks mask) (a .op) (a .y) (a .z) _ (c .before .before .if1 .taken) (c .wrapping-add .ensures)
 
 wrapping-add-requires-2 : tie.Need-wrapping-add-requires-2
 wrapping-add-requires-2 c κs = search needs
 
 returns-2 : tie.Need-returns-2
-returns-2 c = λ special pc halt marks. let a = c .before .before .before .args in sum-immediate (made (a .general .now) special pc halt marks) (a .op) (a .y) (a .z) _ (c .before .if1 .left) (c .wrapping-add2 .ensures)
+returns-2 c = λ special pc halt marks mask. let a = c .before .before .before .args in sum-immediate (made (a .general .now) special pc halt marks mask) (a .op) (a .y) (a .z) _ (c .before .if1 .left) (c .wrapping-add2 .ensures)
 
 pub sum-spec : {M : Type 1} → statement M
 sum-spec =

@@ -15,12 +15,12 @@ run-refusal-requires c κs = search needs
 
 returns : tie.Need-returns
 returns c =
-    λ halt marks.
+    λ halt marks mask.
     let test = c .before in
     let sums = test .before in
     let a = sums .before .before .before .before .args in
-    let s = made (a .general .now) (a .special .now) (a .pc .now) halt marks in
-    load-missing (lent (a .at) (a .a .now) (a .b .now)) s _ _ _ _ _ (sums .sum .ensures (a .special .now) (a .pc .now) halt marks) (rw (test .run-refusal .ensures) at (c .if1 .taken))
+    let s = made (a .general .now) (a .special .now) (a .pc .now) halt marks mask in
+    load-missing (lent (a .at) (a .a .now) (a .b .now)) s _ _ _ _ _ (sums .sum .ensures (a .special .now) (a .pc .now) halt marks mask) (rw (test .run-refusal .ensures) at (c .if1 .taken))
 
 read-octa-requires : tie.Need-read-octa-requires
 read-octa-requires c κs = search needs
@@ -36,7 +36,7 @@ following-requires c κs = search needs
 
 returns-2 : tie.Need-returns-2
 returns-2 c =
-    λ halt marks.
+    λ halt marks mask.
     let sets = c .before .before in
     let loads = sets .before .before .before in
     let reads = loads .before in
@@ -45,9 +45,9 @@ returns-2 c =
     let sums = test .before in
     let a = sums .before .before .before .before .args in
     let w = lent (a .at) (a .a .now) (a .b .now) in
-    let s = made (a .general .now) (a .special .now) (a .pc .now) halt marks in
+    let s = made (a .general .now) (a .special .now) (a .pc .now) halt marks mask in
     let there = rw (test .run-refusal .ensures) at (else .if1 .left) in
-    load-done w s _ _ _ _ _ (sums .sum .ensures (a .special .now) (a .pc .now) halt marks) there _ _ _ _ _
+    load-done w s _ _ _ _ _ (sums .sum .ensures (a .special .now) (a .pc .now) halt marks mask) there _ _ _ _ _
     (reads .read-octa .ensures .0 ∙ octa-read w _ there) (loads .loaded .ensures) (sets .set-register .ensures s) (c .following .ensures)
 
 pub load-spec : {M : Type 1} → statement M

@@ -21,11 +21,12 @@ same-length-2 c = search needs
 
 returns : tie.Need-returns
 returns c =
+    λ mask.
     let test = c .before in
     let sums = test .before .before .before in
     let a = sums .before .before .before .before .args in
-    let s = made (a .general .now) (a .special .now) (a .pc .now) (a .halt .now) (a .marks) in
-    store-missing (lent (a .at) (a .a .now) (a .b .now)) s _ _ _ _ _ (sums .sum .ensures (a .special .now) (a .pc .now) (a .halt .now) (a .marks)) (rw (test .run-refusal .ensures) at (c .if1 .taken))
+    let s = made (a .general .now) (a .special .now) (a .pc .now) (a .halt .now) (a .marks) mask in
+    store-missing (lent (a .at) (a .a .now) (a .b .now)) s _ _ _ _ _ (sums .sum .ensures (a .special .now) (a .pc .now) (a .halt .now) (a .marks) mask) (rw (test .run-refusal .ensures) at (c .if1 .taken))
 
 read-octa-requires : tie.Need-read-octa-requires
 read-octa-requires c κs = search needs
@@ -56,6 +57,7 @@ same-length-4 c = search needs
 
 returns-2 : tie.Need-returns-2
 returns-2 c =
+    λ mask.
     let then = c .before .before in
     let asks = then .before in
     let writes = asks .before .before .before .before .before in
@@ -66,9 +68,9 @@ returns-2 c =
     let start = sums .before .before .before .before in
     let a = start .args in
     let w = lent (a .at) (a .a .now) (a .b .now) in
-    let s = made (a .general .now) (a .special .now) (a .pc .now) (a .halt .now) (a .marks) in
+    let s = made (a .general .now) (a .special .now) (a .pc .now) (a .halt .now) (a .marks) mask in
     let there = rw (test .run-refusal .ensures) at (else .if1 .left) in
-    store-fits w s _ _ _ _ _ (sums .sum .ensures (a .special .now) (a .pc .now) (a .halt .now) (a .marks)) there _ _ _
+    store-fits w s _ _ _ _ _ (sums .sum .ensures (a .special .now) (a .pc .now) (a .halt .now) (a .marks) mask) there _ _ _
     (reads .read-octa .ensures .0 ∙ octa-read w _ there) (writes .before .merged .ensures) (writes .write-octa .ensures .0 ∙ octa-written w _ there _)
     _ (sym (asks .fits2 .ensures) ∙ then .if2 .taken) (c .following .ensures)
 
@@ -86,6 +88,7 @@ same-length-6 c = search needs
 
 returns-3 : tie.Need-returns-3
 returns-3 c =
+    λ mask.
     let words = c .before .before .before .before .before in
     let left = words .before in
     let asks = left .before in
@@ -97,11 +100,11 @@ returns-3 c =
     let start = sums .before .before .before .before in
     let a = start .args in
     let w = lent (a .at) (a .a .now) (a .b .now) in
-    let s = made (a .general .now) (a .special .now) (a .pc .now) (a .halt .now) (a .marks) in
+    let s = made (a .general .now) (a .special .now) (a .pc .now) (a .halt .now) (a .marks) mask in
     let there = rw (test .run-refusal .ensures) at (else .if1 .left) in
-    store-raises w s _ _ _ _ _ (sums .sum .ensures (a .special .now) (a .pc .now) (a .halt .now) (a .marks)) there _ _ _
+    store-raises w s _ _ _ _ _ (sums .sum .ensures (a .special .now) (a .pc .now) (a .halt .now) (a .marks) mask) there _ _ _
     (reads .read-octa .ensures .0 ∙ octa-read w _ there) (writes .before .merged .ensures) (writes .write-octa .ensures .0 ∙ octa-written w _ there _)
-    _ _ _ (sym (asks .fits2 .ensures) ∙ left .if2 .left) (words .word-of .ensures) (c .raise .ensures)
+    _ _ _ (sym (asks .fits2 .ensures) ∙ left .if2 .left) (words .word-of .ensures) (c .raise .ensures mask)
 
 pub store-spec : {M : Type 1} → statement M
 store-spec =

@@ -40,6 +40,7 @@ following-requires c κs = search needs
 
 returns : tie.Need-returns
 returns c =
+    λ mask.
     let then = c .before .before in
     let sets = then .before .before in
     let performs = sets .before .before .before in
@@ -47,8 +48,8 @@ returns c =
     let lasts = picks .before .before .before .before in
     let firsts = lasts .before .before in
     let a = firsts .before .before .args in
-    let s = made (a .general .now) (a .special .now) (a .pc .now) (a .halt .now) (a .marks) in
-    computed-done s _ _ _ _ _ _ _ _ _ _ (firsts .first .ensures (s .special) (s .pc) (s .halt) (s .marks)) (lasts .last .ensures (s .special) (s .pc) (s .halt) (s .marks))
+    let s = made (a .general .now) (a .special .now) (a .pc .now) (a .halt .now) (a .marks) mask in
+    computed-done s _ _ _ _ _ _ _ _ _ _ (firsts .first .ensures (s .special) (s .pc) (s .halt) (s .marks) (s .mask)) (lasts .last .ensures (s .special) (s .pc) (s .halt) (s .marks) (s .mask))
     (picks .operation-of .ensures) (performs .perform .ensures) (sets .set-register .ensures s) _ (then .if1 .taken) (c .following .ensures)
 
 word-of-requires : tie.Need-word-of-requires
@@ -59,6 +60,7 @@ raise-requires c κs = search needs
 
 returns-2 : tie.Need-returns-2
 returns-2 c =
+    λ mask.
     let words = c .before .before .before .before .before in
     let else = words .before in
     let sets = else .before .before in
@@ -67,9 +69,9 @@ returns-2 c =
     let lasts = picks .before .before .before .before in
     let firsts = lasts .before .before in
     let a = firsts .before .before .args in
-    let s = made (a .general .now) (a .special .now) (a .pc .now) (a .halt .now) (a .marks) in
-    computed-raised s _ _ _ _ _ _ _ _ _ _ (firsts .first .ensures (s .special) (s .pc) (s .halt) (s .marks)) (lasts .last .ensures (s .special) (s .pc) (s .halt) (s .marks))
-    (picks .operation-of .ensures) (performs .perform .ensures) (sets .set-register .ensures s) _ _ _ (else .if1 .left) (words .word-of .ensures) (c .raise .ensures)
+    let s = made (a .general .now) (a .special .now) (a .pc .now) (a .halt .now) (a .marks) mask in
+    computed-raised s _ _ _ _ _ _ _ _ _ _ (firsts .first .ensures (s .special) (s .pc) (s .halt) (s .marks) (s .mask)) (lasts .last .ensures (s .special) (s .pc) (s .halt) (s .marks) (s .mask))
+    (picks .operation-of .ensures) (performs .perform .ensures) (sets .set-register .ensures s) _ _ _ (else .if1 .left) (words .word-of .ensures) (c .raise .ensures mask)
 
 pub compute-spec : {M : Type 1} → statement M
 compute-spec =

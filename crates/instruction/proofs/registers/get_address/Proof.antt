@@ -20,9 +20,9 @@ following-requires c κs = search needs
 returns : tie.Need-returns
 unfolding replyOf
 returns c =
-    λ halt marks.
+    λ halt marks mask.
     let a = c .before .before .before .before .before .before .args in
-    let s = made (a .general .now) (a .special .now) (a .pc .now) halt marks in
+    let s = made (a .general .now) (a .special .now) (a .pc .now) halt marks mask in
     record {
       reply-is = refl;
       state-is = next-is s _ _ _ (c .before .set-register .ensures s ∙ ap (setRegister s (a .x)) (c .before .before .before .before .near .ensures)) _ (c .following .ensures);

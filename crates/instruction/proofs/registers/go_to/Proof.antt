@@ -15,9 +15,9 @@ set-register-requires c κs = search needs
 
 returns : tie.Need-returns
 returns c =
-    λ halt marks.
+    λ halt marks mask.
     let a = c .before .before .before .before .before .args in
-    let s = made (a .general .now) (a .special .now) (a .pc .now) halt marks in
+    let s = made (a .general .now) (a .special .now) (a .pc .now) halt marks mask in
     goes-is s _ _ _ (c .set-register .ensures s ∙ ap (setRegister s (a .x)) (c .before .before .before .following .ensures)) _
 
 pub go-to-spec : {M : Type 1} → statement M

@@ -20,23 +20,23 @@ add-xyz-2 c = search needs
 
 returns : tie.Need-returns
 unfolding halted
-returns c = λ general special marks. sync-illegal (made general special (c .before .args .pc .now) (c .before .args .halt .now) marks) _ (c .if1 .taken)
+returns c = λ general special marks mask. sync-illegal (made general special (c .before .args .pc .now) (c .before .args .halt .now) marks mask) _ (c .if1 .taken)
 
 returns-2 : tie.Need-returns-2
 unfolding halted
 returns-2 c =
-    λ general special marks.
+    λ general special marks mask.
     let a = c .before .before .args in
-    sync-privileged (made general special (a .pc .now) (a .halt .now) marks) _ (c .before .if1 .left) (c .if2 .taken)
+    sync-privileged (made general special (a .pc .now) (a .halt .now) marks mask) _ (c .before .if1 .left) (c .if2 .taken)
 
 following-requires : tie.Need-following-requires
 following-requires c κs = search needs
 
 returns-3 : tie.Need-returns-3
 returns-3 c =
-    λ general special marks.
+    λ general special marks mask.
     let a = c .before .before .before .before .args in
-    sync-done (made general special (a .pc .now) (a .halt .now) marks) _ _ (c .before .before .if2 .left) (c .following .ensures)
+    sync-done (made general special (a .pc .now) (a .halt .now) marks mask) _ _ (c .before .before .if2 .left) (c .following .ensures)
 
 pub synchronize-spec : {M : Type 1} → statement M
 synchronize-spec =

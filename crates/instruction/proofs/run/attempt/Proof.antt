@@ -44,11 +44,11 @@ returns c =
     let start = c .before .before .before .before .before .before .before .before .before .before in
     let a = start .args in
     let w = lent (a .at) (a .a .now) (a .b .now) in
-    let s = made (a .general .now) (a .special .now) (a .pc .now) (a .halt .now) (a .marks) in
+    let s = made (a .general .now) (a .special .now) (a .pc .now) (a .halt .now) (a .marks) (a .mask) in
     let n : Sized s = record { generals = c .before .before .before .before .before .counted .ensures .0; specials = c .before .before .before .before .before .counted .ensures .1 } in
     let is : among firstBranch lastBranch (opcodeIn (a .tetra)) ≡ true = sym (c .before .before .before .before .is-among .ensures) ∙ c .before .before .before .if1 .taken in
-    tetra-branch w s n (start .pre .0) (start .pre .1) (a .tetra) (start .pre .2) _ (made _ _ _ _ _) _ is
-    (done-numbered w s (opcodeIn (a .tetra)) (xIn (a .tetra)) (yIn (a .tetra)) (zIn (a .tetra)) _ (made _ _ _ _ _) (start .pre .0) (start .pre .1) is (c .branch .ensures _ _ _))
+    tetra-branch w s n (start .pre .0) (start .pre .1) (a .tetra) (start .pre .2) _ (made _ _ _ _ _ _) _ is
+    (done-numbered w s (opcodeIn (a .tetra)) (xIn (a .tetra)) (yIn (a .tetra)) (zIn (a .tetra)) _ (made _ _ _ _ _ _) (start .pre .0) (start .pre .1) is (c .branch .ensures _ _ _ _))
 
 is-claimed-requires : tie.Need-is-claimed-requires
 is-claimed-requires c κs = search needs
@@ -57,8 +57,8 @@ claimed-requires : tie.Need-claimed-requires
 claimed-requires c κs =
     let start = c .before .before .before .before .before .before .before .before .before .before .before .before .before .before .before .before in
     let a = start .args in
-    let s = made (a .general .now) (a .special .now) (a .pc .now) (a .halt .now) (a .marks) in
-    let both : (isMarginal s (xIn (a .tetra)) && claims (opcodeIn (a .tetra))) ≡ true = sym (c .before .before .before .before .before .before .before .is-claimed .ensures (a .general .now) (a .pc .now) (a .halt .now) (a .marks)) ∙ c .before .before .before .before .before .before .if2 .taken in
+    let s = made (a .general .now) (a .special .now) (a .pc .now) (a .halt .now) (a .marks) (a .mask) in
+    let both : (isMarginal s (xIn (a .tetra)) && claims (opcodeIn (a .tetra))) ≡ true = sym (c .before .before .before .before .before .before .before .is-claimed .ensures (a .general .now) (a .pc .now) (a .halt .now) (a .marks) (a .mask)) ∙ c .before .before .before .before .before .before .if2 .taken in
     (start .pre .0, start .pre .1, and-right (isMarginal s (xIn (a .tetra))) (claims (opcodeIn (a .tetra))) both, and-left (isMarginal s (xIn (a .tetra))) (claims (opcodeIn (a .tetra))) both)
 
 same-length : tie.Need-same-length
@@ -72,10 +72,10 @@ returns-2 c =
     let start = c .before .before .before .before .before .before .before .before .before .before .before .before .before .before .before .before .before .before .before .before .before in
     let a = start .args in
     let w = lent (a .at) (a .a .now) (a .b .now) in
-    let s = made (a .general .now) (a .special .now) (a .pc .now) (a .halt .now) (a .marks) in
+    let s = made (a .general .now) (a .special .now) (a .pc .now) (a .halt .now) (a .marks) (a .mask) in
     let n : Sized s = record { generals = c .before .before .before .before .before .before .before .before .before .before .before .before .before .before .before .before .counted .ensures .0; specials = c .before .before .before .before .before .before .before .before .before .before .before .before .before .before .before .before .counted .ensures .1 } in
-    let both : (isMarginal s (xIn (a .tetra)) && claims (opcodeIn (a .tetra))) ≡ true = sym (c .before .before .before .before .before .before .before .before .before .before .before .before .is-claimed .ensures (a .general .now) (a .pc .now) (a .halt .now) (a .marks)) ∙ c .before .before .before .before .before .before .before .before .before .before .before .if2 .taken in
-    tetra-claims w s n (start .pre .0) (start .pre .1) (a .tetra) (start .pre .2) _ (made _ _ _ _ _) _ (and-right (isMarginal s (xIn (a .tetra))) (claims (opcodeIn (a .tetra))) both) (c .before .before .before .before .claimed .ensures)
+    let both : (isMarginal s (xIn (a .tetra)) && claims (opcodeIn (a .tetra))) ≡ true = sym (c .before .before .before .before .before .before .before .before .before .before .before .before .is-claimed .ensures (a .general .now) (a .pc .now) (a .halt .now) (a .marks) (a .mask)) ∙ c .before .before .before .before .before .before .before .before .before .before .before .if2 .taken in
+    tetra-claims w s n (start .pre .0) (start .pre .1) (a .tetra) (start .pre .2) _ (made _ _ _ _ _ _) _ (and-right (isMarginal s (xIn (a .tetra))) (claims (opcodeIn (a .tetra))) both) (c .before .before .before .before .claimed .ensures)
 
 cast-code : tie.Need-cast-code
 cast-code c = search needs
@@ -84,7 +84,7 @@ add-code : tie.Need-add-code
 add-code c = search needs
 
 stepped-requires : tie.Need-stepped-requires
-stepped-requires c κs = λ l. refused-none _ (made _ _ _ _ _) (c .before .before .before .before .before .before .before .before .before .before .before .before .before .before .before .before .pre .0) (c .before .before .before .before .before .before .before .before .before .before .before .before .before .before .before .before .pre .1)
+stepped-requires c κs = λ l. refused-none _ (made _ _ _ _ _ _) (c .before .before .before .before .before .before .before .before .before .before .before .before .before .before .before .before .pre .0) (c .before .before .before .before .before .before .before .before .before .before .before .before .before .before .before .before .pre .1)
 
 same-length-3 : tie.Need-same-length-3
 same-length-3 c = search needs
@@ -97,10 +97,10 @@ returns-3 c =
     let start = c .before .before .before .before .before .before .before .before .before .before .before .before .before .before .before .before .before .before .before .before .before in
     let a = start .args in
     let w = lent (a .at) (a .a .now) (a .b .now) in
-    let s = made (a .general .now) (a .special .now) (a .pc .now) (a .halt .now) (a .marks) in
+    let s = made (a .general .now) (a .special .now) (a .pc .now) (a .halt .now) (a .marks) (a .mask) in
     let n : Sized s = record { generals = c .before .before .before .before .before .before .before .before .before .before .before .before .before .before .before .before .counted .ensures .0; specials = c .before .before .before .before .before .before .before .before .before .before .before .before .before .before .before .before .counted .ensures .1 } in
     let code : (judged + opcodeIn (a .tetra)) % judged ≡ opcodeIn (a .tetra) = omega arith in
-    tetra-plain w s n (start .pre .0) (start .pre .1) (a .tetra) (start .pre .2) _ (made _ _ _ _ _) _ (sym (c .before .before .before .before .before .before .before .before .before .before .before .before .is-claimed .ensures (a .general .now) (a .pc .now) (a .halt .now) (a .marks)) ∙ c .before .before .before .before .before .before .before .before .before .before .before .if2 .left) (rw code at (c .before .before .before .before .stepped .ensures))
+    tetra-plain w s n (start .pre .0) (start .pre .1) (a .tetra) (start .pre .2) _ (made _ _ _ _ _ _) _ (sym (c .before .before .before .before .before .before .before .before .before .before .before .before .is-claimed .ensures (a .general .now) (a .pc .now) (a .halt .now) (a .marks) (a .mask)) ∙ c .before .before .before .before .before .before .before .before .before .before .before .if2 .left) (rw code at (c .before .before .before .before .stepped .ensures))
 
 pub attempt-spec : {M : Type 1} → statement M
 attempt-spec =

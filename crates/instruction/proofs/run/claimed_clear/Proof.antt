@@ -32,9 +32,9 @@ stepped-requires c κs =
     let start = c .before .before .before .before .before .before .before .before .before .before .before .before in
     let a = start .args in
     let w = lent (a .at) (a .a .now) (a .b .now) in
-    let s = made (a .general .now) (a .special .now) (a .pc .now) (a .halt .now) (a .marks) in
+    let s = made (a .general .now) (a .special .now) (a .pc .now) (a .halt .now) (a .marks) (a .mask) in
     let n : Sized s = record { generals = c .before .before .before .before .before .before .before .counted .ensures .0; specials = c .before .before .before .before .before .before .before .counted .ensures .1 } in
-    refused-none w (made _ _ _ _ _) (claim-judged w s _ (a .op) (a .x) (a .y) (a .z) n (start .pre .0) (start .pre .1) (omega arith) (start .pre .2) (claim-clear s (a .x) (start .pre .3) (start .pre .4))) (start .pre .1)
+    refused-none w (made _ _ _ _ _ _) (claim-judged w s _ (a .op) (a .x) (a .y) (a .z) n (start .pre .0) (start .pre .1) (omega arith) (start .pre .2) (claim-clear s (a .x) (start .pre .3) (start .pre .4))) (start .pre .1)
 
 keeps-claim-requires : tie.Need-keeps-claim-requires
 keeps-claim-requires c κs = search needs
@@ -50,10 +50,10 @@ returns c =
     let start = c .before .before .before .before .before .before .before .before .before .before .before .before .before .before .before .before .before .before .before in
     let a = start .args in
     let w = lent (a .at) (a .a .now) (a .b .now) in
-    let s = made (a .general .now) (a .special .now) (a .pc .now) (a .halt .now) (a .marks) in
+    let s = made (a .general .now) (a .special .now) (a .pc .now) (a .halt .now) (a .marks) (a .mask) in
     let n : Sized s = record { generals = c .before .before .before .before .before .before .before .before .before .before .before .before .before .before .counted .ensures .0; specials = c .before .before .before .before .before .before .before .before .before .before .before .before .before .before .counted .ensures .1 } in
     let code : (judged + a .op) % judged ≡ a .op = omega arith in
-    claim-kept w s _ (a .op) (a .x) (a .y) (a .z) n (start .pre .0) (start .pre .1) (omega arith) (start .pre .2) (claim-clear s (a .x) (start .pre .3) (start .pre .4)) _ (made _ _ _ _ _) _ (rw code at (c .before .before .before .before .before .before .stepped .ensures))
+    claim-kept w s _ (a .op) (a .x) (a .y) (a .z) n (start .pre .0) (start .pre .1) (omega arith) (start .pre .2) (claim-clear s (a .x) (start .pre .3) (start .pre .4)) _ (made _ _ _ _ _ _) _ (rw code at (c .before .before .before .before .before .before .stepped .ensures))
     (sym (c .before .keeps-claim .ensures) ∙ c .if1 .taken)
 
 element-write-special-2 : tie.Need-element-write-special-2
@@ -70,10 +70,10 @@ returns-2 c =
     let start = c .before .before .before .before .before .before .before .before .before .before .before .before .before .before .before .before .before .before .before in
     let a = start .args in
     let w = lent (a .at) (a .a .now) (a .b .now) in
-    let s = made (a .general .now) (a .special .now) (a .pc .now) (a .halt .now) (a .marks) in
+    let s = made (a .general .now) (a .special .now) (a .pc .now) (a .halt .now) (a .marks) (a .mask) in
     let n : Sized s = record { generals = c .before .before .before .before .before .before .before .before .before .before .before .before .before .before .counted .ensures .0; specials = c .before .before .before .before .before .before .before .before .before .before .before .before .before .before .counted .ensures .1 } in
     let code : (judged + a .op) % judged ≡ a .op = omega arith in
-    claim-gone-clear w s _ (a .op) (a .x) (a .y) (a .z) n (start .pre .0) (start .pre .1) (omega arith) (start .pre .2) (claim-clear s (a .x) (start .pre .3) (start .pre .4)) _ (made _ _ _ _ _) _ (rw code at (c .before .before .before .before .before .before .stepped .ensures))
+    claim-gone-clear w s _ (a .op) (a .x) (a .y) (a .z) n (start .pre .0) (start .pre .1) (omega arith) (start .pre .2) (claim-clear s (a .x) (start .pre .3) (start .pre .4)) _ (made _ _ _ _ _ _) _ (rw code at (c .before .before .before .before .before .before .stepped .ensures))
     (sym (c .before .keeps-claim .ensures) ∙ c .if1 .left) refl
 
 pub claimed-clear-spec : {M : Type 1} → statement M

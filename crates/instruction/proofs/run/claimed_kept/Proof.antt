@@ -29,9 +29,9 @@ stepped-requires c κs =
     let start = c .before .before .before .before .before .before .before .before .before .before .before .before .before .before .before .before in
     let a = start .args in
     let w = lent (a .at) (a .a .now) (a .b .now) in
-    let s = made (a .general .now) (a .special .now) (a .pc .now) (a .halt .now) (a .marks) in
+    let s = made (a .general .now) (a .special .now) (a .pc .now) (a .halt .now) (a .marks) (a .mask) in
     let n : Sized s = record { generals = c .before .before .before .before .before .before .before .before .before .before .before .counted .ensures .0; specials = c .before .before .before .before .before .before .before .before .before .before .before .counted .ensures .1 } in
-    refused-none w (made _ _ _ _ _) (claim-judged w s (made _ _ _ _ _) (a .op) (a .x) (a .y) (a .z) n (start .pre .0) (start .pre .1) (omega arith) (start .pre .2) (c .before .before .before .before .before .before .claim-local .ensures s)) (start .pre .1)
+    refused-none w (made _ _ _ _ _ _) (claim-judged w s (made _ _ _ _ _ _) (a .op) (a .x) (a .y) (a .z) n (start .pre .0) (start .pre .1) (omega arith) (start .pre .2) (c .before .before .before .before .before .before .claim-local .ensures s)) (start .pre .1)
 
 keeps-claim-requires : tie.Need-keeps-claim-requires
 keeps-claim-requires c κs = search needs
@@ -47,10 +47,10 @@ returns c =
     let start = c .before .before .before .before .before .before .before .before .before .before .before .before .before .before .before .before .before .before .before .before .before .before .before in
     let a = start .args in
     let w = lent (a .at) (a .a .now) (a .b .now) in
-    let s = made (a .general .now) (a .special .now) (a .pc .now) (a .halt .now) (a .marks) in
+    let s = made (a .general .now) (a .special .now) (a .pc .now) (a .halt .now) (a .marks) (a .mask) in
     let n : Sized s = record { generals = c .before .before .before .before .before .before .before .before .before .before .before .before .before .before .before .before .before .before .counted .ensures .0; specials = c .before .before .before .before .before .before .before .before .before .before .before .before .before .before .before .before .before .before .counted .ensures .1 } in
     let code : (judged + a .op) % judged ≡ a .op = omega arith in
-    claim-kept w s (made _ _ _ _ _) (a .op) (a .x) (a .y) (a .z) n (start .pre .0) (start .pre .1) (omega arith) (start .pre .2) (c .before .before .before .before .before .before .before .before .before .before .before .before .before .claim-local .ensures s) _ (made _ _ _ _ _) _ (rw code at (c .before .before .before .before .before .before .stepped .ensures))
+    claim-kept w s (made _ _ _ _ _ _) (a .op) (a .x) (a .y) (a .z) n (start .pre .0) (start .pre .1) (omega arith) (start .pre .2) (c .before .before .before .before .before .before .before .before .before .before .before .before .before .claim-local .ensures s) _ (made _ _ _ _ _ _) _ (rw code at (c .before .before .before .before .before .before .stepped .ensures))
     (sym (c .before .keeps-claim .ensures) ∙ c .if1 .taken)
 
 element-write-special : tie.Need-element-write-special
@@ -67,10 +67,10 @@ returns-2 c =
     let start = c .before .before .before .before .before .before .before .before .before .before .before .before .before .before .before .before .before .before .before .before .before .before .before in
     let a = start .args in
     let w = lent (a .at) (a .a .now) (a .b .now) in
-    let s = made (a .general .now) (a .special .now) (a .pc .now) (a .halt .now) (a .marks) in
+    let s = made (a .general .now) (a .special .now) (a .pc .now) (a .halt .now) (a .marks) (a .mask) in
     let n : Sized s = record { generals = c .before .before .before .before .before .before .before .before .before .before .before .before .before .before .before .before .before .before .counted .ensures .0; specials = c .before .before .before .before .before .before .before .before .before .before .before .before .before .before .before .before .before .before .counted .ensures .1 } in
     let code : (judged + a .op) % judged ≡ a .op = omega arith in
-    claim-gone w s (made _ _ _ _ _) (a .op) (a .x) (a .y) (a .z) n (start .pre .0) (start .pre .1) (omega arith) (start .pre .2) (c .before .before .before .before .before .before .before .before .before .before .before .before .before .claim-local .ensures s) _ (made _ _ _ _ _) _ (rw code at (c .before .before .before .before .before .before .stepped .ensures))
+    claim-gone w s (made _ _ _ _ _ _) (a .op) (a .x) (a .y) (a .z) n (start .pre .0) (start .pre .1) (omega arith) (start .pre .2) (c .before .before .before .before .before .before .before .before .before .before .before .before .before .claim-local .ensures s) _ (made _ _ _ _ _ _) _ (rw code at (c .before .before .before .before .before .before .stepped .ensures))
     (sym (c .before .keeps-claim .ensures) ∙ c .if1 .left)
 
 pub claimed-kept-spec : {M : Type 1} → statement M

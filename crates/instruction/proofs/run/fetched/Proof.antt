@@ -22,7 +22,7 @@ returns c =
     let start = read .before .before .before .before .before .before in
     let a = start .args in
     let w = lent (a .at) (a .a .now) (a .b .now) in
-    let s = made (a .general .now) (a .special .now) (a .pc .now) (a .halt .now) (a .marks) in
+    let s = made (a .general .now) (a .special .now) (a .pc .now) (a .halt .now) (a .marks) (a .mask) in
     not-fetched w s (start .pre .0) (start .pre .1) _ (read .read-octa .ensures .1) (c .if1 .taken)
 
 tetra-at-requires : tie.Need-tetra-at-requires
@@ -46,10 +46,10 @@ returns-2 c =
     let start = read .before .before .before .before .before .before in
     let a = start .args in
     let w = lent (a .at) (a .a .now) (a .b .now) in
-    let s = made (a .general .now) (a .special .now) (a .pc .now) (a .halt .now) (a .marks) in
+    let s = made (a .general .now) (a .special .now) (a .pc .now) (a .halt .now) (a .marks) (a .mask) in
     let held = read .read-octa .ensures .1 in
     was-fetched w s (start .pre .0) (start .pre .1) _ held (else .if1 .left) _ _ (read .read-octa .ensures .0 ∙ octa-held w (a .pc .now) (λ q. else .if1 .left (held ∙ q)))
-    (cut .tetra-at .ensures .0) _ (made _ _ _ _ _) _ (call .attempt .ensures)
+    (cut .tetra-at .ensures .0) _ (made _ _ _ _ _ _) _ (call .attempt .ensures)
 
 pub fetched-spec : {M : Type 1} → statement M
 fetched-spec =

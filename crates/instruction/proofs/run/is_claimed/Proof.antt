@@ -11,16 +11,16 @@ element-copy-out-rg : tie.Need-element-copy-out-rg
 element-copy-out-rg c = search needs
 
 returns : tie.Need-returns
-returns c = λ general pc halt marks. simp (lt-leb _ _ (c .if1 .taken))
+returns c = λ general pc halt marks mask. simp (lt-leb _ _ (c .if1 .taken))
 
 returns-2 : tie.Need-returns-2
-returns-2 c = λ general pc halt marks. simp (le-leb _ _ (c .before .if1 .left), le-ltb _ _ (c .if2 .taken))
+returns-2 c = λ general pc halt marks mask. simp (le-leb _ _ (c .before .if1 .left), le-ltb _ _ (c .if2 .taken))
 
 claims-requires : tie.Need-claims-requires
 claims-requires c κs = search needs
 
 returns-3 : tie.Need-returns-3
-returns-3 c = λ general pc halt marks. simp (le-leb _ _ (c .before .before .if1 .left), lt-ltb _ _ (c .before .if2 .left)) (c .claims .ensures)
+returns-3 c = λ general pc halt marks mask. simp (le-leb _ _ (c .before .before .if1 .left), lt-ltb _ _ (c .before .if2 .left)) (c .claims .ensures)
 
 pub is-claimed-spec : {M : Type 1} → statement M
 is-claimed-spec =

@@ -21,7 +21,7 @@ returns c =
     let asks = c .before in
     let a = asks .before .before .before .before .before .before .args in
     let w = lent (a .at) (a .a .now) (a .b .now) in
-    let s = made (a .general .now) (a .special .now) (a .pc .now) (a .halt .now) (a .marks) in
+    let s = made (a .general .now) (a .special .now) (a .pc .now) (a .halt .now) (a .marks) (a .mask) in
     run-unopened w s (a .grant) _ (asks .refusal .ensures (a .general .now) (a .pc .now) (a .halt .now)) (c .if1 .taken)
 
 same-length-3 : tie.Need-same-length-3
@@ -36,7 +36,7 @@ returns-2 c =
     let asks = passed .before in
     let a = asks .before .before .before .before .before .before .args in
     let w = lent (a .at) (a .a .now) (a .b .now) in
-    let s = made (a .general .now) (a .special .now) (a .pc .now) (a .halt .now) (a .marks) in
+    let s = made (a .general .now) (a .special .now) (a .pc .now) (a .halt .now) (a .marks) (a .mask) in
     run-large w s (a .grant) (sym (asks .refusal .ensures (a .general .now) (a .pc .now) (a .halt .now)) ∙ passed .if1 .left) (c .if2 .taken)
 
 turns-requires : tie.Need-turns-requires
@@ -45,7 +45,7 @@ turns-requires c κs =
     let asks = passed .before in
     let a = asks .before .before .before .before .before .before .args in
     let w = lent (a .at) (a .a .now) (a .b .now) in
-    let s = made (a .general .now) (a .special .now) (a .pc .now) (a .halt .now) (a .marks) in
+    let s = made (a .general .now) (a .special .now) (a .pc .now) (a .halt .now) (a .marks) (a .mask) in
     judged-by w s (sym (asks .refusal .ensures (a .general .now) (a .pc .now) (a .halt .now)) ∙ passed .if1 .left)
 
 same-length-5 : tie.Need-same-length-5
@@ -62,8 +62,8 @@ returns-3 c =
     let asks = passed .before in
     let a = asks .before .before .before .before .before .before .args in
     let w = lent (a .at) (a .a .now) (a .b .now) in
-    let s = made (a .general .now) (a .special .now) (a .pc .now) (a .halt .now) (a .marks) in
-    run-turns w s (a .grant) (sym (asks .refusal .ensures (a .general .now) (a .pc .now) (a .halt .now)) ∙ passed .if1 .left) (granted .if2 .left) _ _ (made _ _ _ _ _) (lent _ _ _) (call .turns .ensures)
+    let s = made (a .general .now) (a .special .now) (a .pc .now) (a .halt .now) (a .marks) (a .mask) in
+    run-turns w s (a .grant) (sym (asks .refusal .ensures (a .general .now) (a .pc .now) (a .halt .now)) ∙ passed .if1 .left) (granted .if2 .left) _ _ (made _ _ _ _ _ _) (lent _ _ _) (call .turns .ensures)
 
 pub run-spec : {M : Type 1} → statement M
 run-spec =

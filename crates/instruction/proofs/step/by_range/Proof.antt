@@ -23,7 +23,7 @@ unfolding rangedOf
 returns c =
     let then = c .before .before .before .before .before .before in
     let a = then .before .before .before .before .args in
-    rw (sym (then .before .is-among .ensures) ∙ then .if1 .taken) (c .load .ensures (a .halt .now) (a .marks))
+    rw (sym (then .before .is-among .ensures) ∙ then .if1 .taken) (c .load .ensures (a .halt .now) (a .marks) (a .mask))
 
 is-among-requires-2 : tie.Need-is-among-requires-2
 is-among-requires-2 c κs = search needs
@@ -43,7 +43,7 @@ returns-2 c =
     let call = c .before .before .before .before in
     let then = call .before .before .before .before .before .before .before in
     let first = then .before .before in
-    rw (sym (first .before .is-among .ensures) ∙ first .if1 .left, sym (then .before .is-among2 .ensures) ∙ then .if2 .taken) (call .store .ensures)
+    rw (sym (first .before .is-among .ensures) ∙ first .if1 .left, sym (then .before .is-among2 .ensures) ∙ then .if2 .taken) (call .store .ensures (first .before .before .before .before .args .mask))
 
 is-among-requires-3 : tie.Need-is-among-requires-3
 is-among-requires-3 c κs = search needs
@@ -58,7 +58,7 @@ returns-3 c =
     let second = then .before .before in
     let first = second .before .before in
     rw (sym (first .before .is-among .ensures) ∙ first .if1 .left, sym (second .before .is-among2 .ensures) ∙ second .if2 .left, sym (then .before .is-among3 .ensures) ∙ then .if3 .taken)
-    (record { reply-is = c .compute .ensures .reply-is; state-is = c .compute .ensures .state-is; window-is = refl })
+    (let told = c .compute .ensures (first .before .before .before .before .args .mask) in record { reply-is = told .reply-is; state-is = told .state-is; window-is = refl })
 
 is-among-requires-4 : tie.Need-is-among-requires-4
 is-among-requires-4 c κs = search needs

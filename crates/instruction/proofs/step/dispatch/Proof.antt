@@ -19,7 +19,7 @@ returns : tie.Need-returns
 returns c =
     let then = c .before .before .before in
     let start = then .before .before .before .before in
-    step-branch _ _ (start .pre .0) (start .pre .1) _ _ _ _ _ (made _ _ _ _ _) (branch-arm _ (sym (then .before .is-among .ensures) ∙ then .if1 .taken)) (c .branch .ensures _ _ _)
+    step-branch _ _ (start .pre .0) (start .pre .1) _ _ _ _ _ (made _ _ _ _ _ _) (branch-arm _ (sym (then .before .is-among .ensures) ∙ then .if1 .taken)) (c .branch .ensures _ _ _ _)
 
 sum-requires : tie.Need-sum-requires
 sum-requires c κs = search needs
@@ -67,15 +67,15 @@ returns-3 c =
     let start = met .before .before .before .before .before in
     let a = start .args in
     let w = lent (a .at) (a .a .now) (a .b .now) in
-    let s = made (a .general .now) (a .special .now) (a .pc .now) (a .halt .now) (a .marks) in
-    let called = pushed .push-to .ensures (a .halt .now) (a .marks) in
+    let s = made (a .general .now) (a .special .now) (a .pc .now) (a .halt .now) (a .marks) (a .mask) in
+    let called = pushed .push-to .ensures (a .halt .now) (a .marks) (a .mask) in
     ⊎-elim
-    (λ k. step-push-go w s (start .pre .0) (start .pre .1) _ _ _ _ _ (made _ _ _ _ _) _ _ (rw (k .0 .keys1)) (k .3 ∙ k .2 .ensures _ _ _ _) called)
+    (λ k. step-push-go w s (start .pre .0) (start .pre .1) _ _ _ _ _ (made _ _ _ _ _ _) _ _ (rw (k .0 .keys1)) (k .3 ∙ k .2 .ensures _ _ _ _ _) called)
     (λ o. ⊎-elim
-    (λ k. step-push-go w s (start .pre .0) (start .pre .1) _ _ _ _ _ (made _ _ _ _ _) _ _ (rw (k .0 .keys2)) (k .3 ∙ k .2 .ensures _ _ _ _) called)
+    (λ k. step-push-go w s (start .pre .0) (start .pre .1) _ _ _ _ _ (made _ _ _ _ _ _) _ _ (rw (k .0 .keys2)) (k .3 ∙ k .2 .ensures _ _ _ _ _) called)
     (λ p. ⊎-elim
-    (λ k. step-push-jump w s (start .pre .0) (start .pre .1) _ _ _ _ _ (made _ _ _ _ _) _ _ (rw (k .0 .keys3)) (k .3 ∙ k .2 .ensures) called)
-    (λ k. step-push-jump w s (start .pre .0) (start .pre .1) _ _ _ _ _ (made _ _ _ _ _) _ _ (rw (k .0 .keys4)) (k .3 ∙ k .2 .ensures) called)
+    (λ k. step-push-jump w s (start .pre .0) (start .pre .1) _ _ _ _ _ (made _ _ _ _ _ _) _ _ (rw (k .0 .keys3)) (k .3 ∙ k .2 .ensures) called)
+    (λ k. step-push-jump w s (start .pre .0) (start .pre .1) _ _ _ _ _ (made _ _ _ _ _ _) _ _ (rw (k .0 .keys4)) (k .3 ∙ k .2 .ensures) called)
     p) o)
     (met .match .came)
 

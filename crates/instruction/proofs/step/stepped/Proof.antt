@@ -10,7 +10,7 @@ use Rattle.instruction.proofs.step.stepped.Statement.{statement}
 use Rattle.instruction.proofs.step.stepped.Tie as tie
 
 refusal-of-requires : tie.Need-refusal-of-requires
-refusal-of-requires c κs = λ l general pc halt. let a = c .before .before .before .before .before .args in refusal-alike (lentAt (a .base-a) (a .base-b) (a .a .now) (a .b .now)) (a .special .now) (a .marks) (a .general .now) general (a .pc .now) pc (a .halt .now) halt (c .before .before .before .before .before .pre l)
+refusal-of-requires c κs = λ l general pc halt. let a = c .before .before .before .before .before .args in refusal-alike (lentAt (a .base-a) (a .base-b) (a .a .now) (a .b .now)) (a .special .now) (a .marks) (a .mask) (a .general .now) general (a .pc .now) pc (a .halt .now) halt (c .before .before .before .before .before .pre l)
 
 same-length : tie.Need-same-length
 same-length c = search needs
@@ -22,7 +22,7 @@ returns : tie.Need-returns
 returns c =
     let a = c .before .before .before .before .before .before .before .args in
     let w = lentAt (a .base-a) (a .base-b) (a .a .now) (a .b .now) in
-    let s = made (a .general .now) (a .special .now) (a .pc .now) (a .halt .now) (a .marks) in
+    let s = made (a .general .now) (a .special .now) (a .pc .now) (a .halt .now) (a .marks) (a .mask) in
     refused-step w s _ (a .x) (a .y) (a .z) _ (c .before .refusal-of .ensures (a .general .now) (a .pc .now) (a .halt .now)) (c .if1 .taken)
 
 cast-code : tie.Need-cast-code
@@ -32,7 +32,7 @@ dispatch-requires : tie.Need-dispatch-requires
 dispatch-requires c κs =
     let a = c .before .before .before .before .before .before .before .before .before .before .before .before .before .args in
     let w = lentAt (a .base-a) (a .base-b) (a .a .now) (a .b .now) in
-    let s = made (a .general .now) (a .special .now) (a .pc .now) (a .halt .now) (a .marks) in
+    let s = made (a .general .now) (a .special .now) (a .pc .now) (a .halt .now) (a .marks) (a .mask) in
     judged-by w s (sym (c .before .before .before .before .before .before .before .refusal-of .ensures (a .general .now) (a .pc .now) (a .halt .now)) ∙ c .before .before .before .before .before .before .if1 .left)
 
 number-of-requires : tie.Need-number-of-requires
@@ -45,7 +45,7 @@ same-length-4 : tie.Need-same-length-4
 same-length-4 c = search needs
 
 returns-2 : tie.Need-returns-2
-returns-2 c = numbered _ _ (made _ _ _ _ _) _ _ (c .before .before .before .before .before .dispatch .ensures) (c .number-of .ensures)
+returns-2 c = numbered _ _ (made _ _ _ _ _ _) _ _ (c .before .before .before .before .before .dispatch .ensures) (c .number-of .ensures)
 
 pub stepped-spec : {M : Type 1} → statement M
 stepped-spec =

@@ -17,7 +17,7 @@ returns c =
     λ marks.
     let reading = c .before .before .before .before .before in
     let a = reading .before .before .args in
-    rw (reading .last .ensures (a .special .now) (a .pc .now) (a .halt .now) marks) at (c .put-value .ensures marks)
+    rw (reading .last .ensures (a .special .now) (a .pc .now) (a .halt .now) marks (a .mask)) at (c .put-value .ensures marks)
 
 pub put-by-spec : {M : Type 1} → statement M
 put-by-spec = tie.close (tie.spec last-requires put-value-requires returns)

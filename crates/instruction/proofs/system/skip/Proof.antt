@@ -13,8 +13,8 @@ following-requires c κs = search needs
 returns : tie.Need-returns
 unfolding replyOf
 returns c =
-    λ general special halt marks.
-    let s = made general special (c .before .before .args .pc .now) halt marks in
+    λ general special halt marks mask.
+    let s = made general special (c .before .before .args .pc .now) halt marks mask in
     record { reply-is = refl; state-is = next-is s s general special refl _ (c .following .ensures) }
 
 pub skip-spec : {M : Type 1} → statement M
