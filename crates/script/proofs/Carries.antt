@@ -50,7 +50,7 @@ module _ (i : Instruction) (n : ℕ) (s : State) where
 -- past the last register nothing is set
 pub special-out : (s : State) (k v : ℕ) → length (s .special) ≤ k → s ≡ withSpecial s k v
 unfolding withSpecial
-special-out s k v h = λ i. record { general = s .general; special = sym (set-out (s .special) k v h) i; pc = s .pc; halt = s .halt; marks = s .marks }
+special-out s k v h = λ i. record { general = s .general; special = sym (set-out (s .special) k v h) i; pc = s .pc; halt = s .halt; marks = s .marks; mask = s .mask }
 
 module _ (n : ℕ) (s : State) (w : Windows) (f : Form) (b : List ℕ) (at : ℕ) where
   pub leaves-register : (a : Setting) → f ≡ Register a → (t : State) → t ≡ setRegister s (a .index) (a .value) → Leaves (turnOf n s w f) b at b at true t w
@@ -143,9 +143,9 @@ module _ (l b t : List ℕ) (n : ℕ) (s : State) (w : Windows) (c : List ℕ) (
 -- ---- the whole
 
 -- the fresh state with all vectors loaded
-pub start-is : (s : State) → s ≡ fresh → made (s .general) (s .special) (s .pc) (s .halt) 0x1FF ≡ start
+pub start-is : (s : State) → s ≡ fresh → made (s .general) (s .special) (s .pc) (s .halt) 0x1FF (s .mask) ≡ start
 unfolding start fresh
-start-is s e = ap (λ (u : State). made (u .general) (u .special) (u .pc) (u .halt) 0x1FF) e
+start-is s e = ap (λ (u : State). made (u .general) (u .special) (u .pc) (u .halt) 0x1FF (u .mask)) e
 
 module _ (l b c : List ℕ) (r : ℕ) where
   pub prints-long : scriptMost < length l → Wrote b 0 (badText 0) c r → (c ≡ written b 0 (printed l)) × (r ≡ length (printed l))

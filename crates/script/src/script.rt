@@ -54,6 +54,7 @@ fn set_special(state: State, setting: Setting) -> State
         pc: state.pc,
         halt: state.halt,
         marks: state.marks,
+        mask: state.mask,
     }
 }
 
@@ -199,6 +200,7 @@ pub fn run(script: &[u8], out: &mut [u8]) -> usize
         pc: fresh.pc,
         halt: fresh.halt,
         marks: ALL_LOADED,
+        mask: fresh.mask,
     };
     let mut a = [0u8; WINDOW_SIZE];
     let mut b = [0u8; WINDOW_SIZE];
