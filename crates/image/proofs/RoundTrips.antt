@@ -1,5 +1,7 @@
--- Both round trips of the state image, octabyte by octabyte.
+-- Both round trips of the state image, octabyte by octabyte; then those of an image at its own length.
 use mathlib.Core.Path.{_≡_, refl, sym, ap, _∙_}
+use mathlib.Core.Logic.{⊎-elim}
+use mathlib.Core.Bool.{true}
 use mathlib.Core.List.{List, [], _∷_, _++_}
 use Prim.Native.Nat.{ℕ, zero, suc, _+_, _*_, _/_, _%_, _^_, _≤_, _<_}
 use native.Mathlib.Nat.{div-one, div-div-eq-div-mul}
@@ -7,15 +9,17 @@ use native.Mathlib.Omega.{arith}
 use lib.ListN.{length, getD, List·getD-append}
 use lib.Seq.{ext-getD, getD-append-add}
 use Rattle.model.specs.Octa.{part, valueOf, bytesOf}
-use Rattle.model.specs.Registers.{Sized, Words}
+use Rattle.model.specs.Registers.{Sized, Words, masked}
 use Rattle.model.specs.declared.State.{State}
 use Rattle.model.proofs.Octa.{value-bytes}
 use Rattle.machine.specs.Octabytes.{flat, octas}
-use Rattle.model.specs.Kept.{imageLength}
-use Rattle.image.specs.Image.{imageOf, stateOf, RoundTrips}
+use borrow.Author.Tests.{eq-eqb, eqb-true}
+use Rattle.model.specs.Kept.{imageLength, oldImageLength}
+use Rattle.image.specs.Image.{imageOf, oldImageOf, stateOf, isOld, isImage, hasRoom, imageAs, storedIn, RoundTrips, KeepsLength}
 use Rattle.model.proofs.Bytes.{value-below}
-use Rattle.machine.proofs.OctabyteRuns.{length-octas, octas-append}
-use Rattle.image.proofs.Codec.{numbers, length-numbers, length-image}
+use Rattle.machine.proofs.OctabyteRuns.{length-octas, octas-append, length-flat}
+use Rattle.image.proofs.Coded.{either, room-new, room-old, room-image, as-new, as-old, stored-is}
+use Rattle.image.proofs.Codec.{value-beyond, numbers, length-numbers, length-image, length-old}
 
 -- ---- the state of its image
 
@@ -48,48 +52,73 @@ octas-flat vs us i o n eo h e same b =
         let q : getD vs (i + k) 0 < 2 ^ 64 = rw (same k m) (b k) in
         getD-octas (flat vs) o n k m ∙ value-flat vs (i + k) (o + 8 * k) (omega arith) (omega arith) q ∙ same k m
 
-module _ (s : State) (z : Sized s) where
-  at-general : (k : ℕ) → k < 256 → getD (numbers s) (0 + k) 0 ≡ getD (s .general) k 0
+-- `m` is the mask, or nothing
+module _ (s : State) (m : List ℕ) (z : Sized s) where
+  abbrev rest : List ℕ
+  rest = s .pc ∷ s .halt ∷ s .marks ∷ m
+
+  at-general : (k : ℕ) → k < 256 → getD (numbers s m) (0 + k) 0 ≡ getD (s .general) k 0
   at-general k h =
       let e : 0 + k ≡ k = omega arith in
       rw e (List·getD-append (s .general) _ 0 k (omega (arith, z .generals)))
 
-  after-general : (k : ℕ) → getD (numbers s) (256 + k) 0 ≡ getD (s .special ++ (s .pc ∷ s .halt ∷ s .marks ∷ [])) k 0
-  after-general k = ap (λ (n : ℕ). getD (numbers s) (n + k) 0) (sym (z .generals)) ∙ getD-append-add (s .general) _ k 0
+  after-general : (k : ℕ) → getD (numbers s m) (256 + k) 0 ≡ getD (s .special ++ rest) k 0
+  after-general k = ap (λ (n : ℕ). getD (numbers s m) (n + k) 0) (sym (z .generals)) ∙ getD-append-add (s .general) _ k 0
 
-  at-special : (k : ℕ) → k < 32 → getD (numbers s) (256 + k) 0 ≡ getD (s .special) k 0
+  at-special : (k : ℕ) → k < 32 → getD (numbers s m) (256 + k) 0 ≡ getD (s .special) k 0
   at-special k h = after-general k ∙ List·getD-append (s .special) _ 0 k (omega (arith, z .specials))
 
-  after-special : (k : ℕ) → getD (numbers s) (256 + (32 + k)) 0 ≡ getD (s .pc ∷ s .halt ∷ s .marks ∷ []) k 0
+  after-special : (k : ℕ) → getD (numbers s m) (256 + (32 + k)) 0 ≡ getD rest k 0
   after-special k =
       after-general (32 + k)
-      ∙ ap (λ (n : ℕ). getD (s .special ++ (s .pc ∷ s .halt ∷ s .marks ∷ [])) (n + k) 0) (sym (z .specials))
+      ∙ ap (λ (n : ℕ). getD (s .special ++ rest) (n + k) 0) (sym (z .specials))
       ∙ getD-append-add (s .special) _ k 0
 
-  -- one of the last three
-  at-rest : (k : ℕ) → k < 3 → getD (s .pc ∷ s .halt ∷ s .marks ∷ []) k 0 < 2 ^ 64
-      → valueOf 0 (part (flat (numbers s)) (8 * (288 + k)) 8) ≡ getD (s .pc ∷ s .halt ∷ s .marks ∷ []) k 0
+  -- one of the last
+  at-rest : (k : ℕ) → k < 3 + length m → getD rest k 0 < 2 ^ 64 → valueOf 0 (part (flat (numbers s m)) (8 * (288 + k)) 8) ≡ getD rest k 0
   at-rest k h b =
-      let q : getD (numbers s) (256 + (32 + k)) 0 < 2 ^ 64 = rw (after-special k) b in
-      value-flat (numbers s) (256 + (32 + k)) (8 * (288 + k)) (omega arith) (omega (arith, length-numbers s z)) q ∙ after-special k
+      let q : getD (numbers s m) (256 + (32 + k)) 0 < 2 ^ 64 = rw (after-special k) b in
+      value-flat (numbers s m) (256 + (32 + k)) (8 * (288 + k)) (omega arith) (omega (arith, length-numbers s m z)) q ∙ after-special k
 
-  pub halt-bytes : part (imageOf s) 2312 8 ≡ bytesOf (s .halt)
-  unfolding imageOf
-  halt-bytes = part-flat (numbers s) 289 (omega (arith, length-numbers s z)) ∙ ap bytesOf (after-special 1)
+  halt-numbers : part (flat (numbers s m)) 2312 8 ≡ bytesOf (s .halt)
+  halt-numbers = part-flat (numbers s m) 289 (omega (arith, length-numbers s m z)) ∙ ap bytesOf (after-special 1)
 
-  state-image : Words s → stateOf (imageOf s) ≡ s
-  unfolding stateOf imageOf
-  state-image w =
-      let n : length (numbers s) ≡ 291 = length-numbers s z in
-      let g : octas (flat (numbers s)) 0 256 ≡ s .general = octas-flat (numbers s) (s .general) 0 0 256 refl (omega arith) (z .generals) at-general (w .general-word) in
-      let p : octas (flat (numbers s)) 2048 32 ≡ s .special = octas-flat (numbers s) (s .special) 256 2048 32 refl (omega arith) (z .specials) at-special (w .special-word) in
+  -- all but the mask comes back
+  state-numbers : Words s → stateOf (flat (numbers s m)) ≡ masked s (valueOf 0 (part (flat (numbers s m)) 2328 8))
+  unfolding stateOf
+  state-numbers w =
+      let n : length (numbers s m) ≡ 291 + length m = length-numbers s m z in
+      let g : octas (flat (numbers s m)) 0 256 ≡ s .general = octas-flat (numbers s m) (s .general) 0 0 256 refl (omega arith) (z .generals) at-general (w .general-word) in
+      let p : octas (flat (numbers s m)) 2048 32 ≡ s .special
+      = octas-flat (numbers s m) (s .special) 256 2048 32 refl (omega arith) (z .specials) at-special (w .special-word) in
       λ i. record {
         general = g i;
         special = p i;
         pc = at-rest 0 (omega arith) (w .pc-word) i;
         halt = at-rest 1 (omega arith) (w .halt-word) i;
         marks = at-rest 2 (omega arith) (w .marks-word) i;
+        mask = valueOf 0 (part (flat (numbers s m)) 2328 8);
       }
+
+state-image : (s : State) → Sized s → Words s → stateOf (imageOf s) ≡ s
+unfolding imageOf
+state-image s z w = state-numbers s (s .mask ∷ []) z w ∙ ap (masked s) (at-rest s (s .mask ∷ []) z 3 (omega arith) (w .mask-word))
+
+state-old : (s : State) → Sized s → Words s → s .mask ≡ 0 → stateOf (oldImageOf s) ≡ s
+unfolding oldImageOf
+state-old s z w e =
+    state-numbers s [] z w
+    ∙ ap (masked s) (value-beyond (flat (numbers s [])) 2328 (omega (arith, length-flat (numbers s []), length-numbers s [] z)) ∙ sym e)
+
+-- the halt code's bytes
+module _ (s : State) (z : Sized s) where
+  pub halt-bytes : part (imageOf s) 2312 8 ≡ bytesOf (s .halt)
+  unfolding imageOf
+  halt-bytes = halt-numbers s (s .mask ∷ []) z
+
+  pub halt-old : part (oldImageOf s) 2312 8 ≡ bytesOf (s .halt)
+  unfolding oldImageOf
+  halt-old = halt-numbers s [] z
 
 -- ---- the image of its state
 
@@ -152,13 +181,26 @@ last-three : (l : List ℕ) → octas l 2304 3 ≡ valueOf 0 (part l 2304 8) ∷
 unfolding octas
 last-three l = refl
 
-numbers-state : (l : List ℕ) → numbers (stateOf l) ≡ octas l 0 291
+last-four : (l : List ℕ) → octas l 2304 4
+    ≡ valueOf 0 (part l 2304 8) ∷ valueOf 0 (part l 2312 8) ∷ valueOf 0 (part l 2320 8) ∷ valueOf 0 (part l 2328 8) ∷ []
+unfolding octas
+last-four l = refl
+
+numbers-state : (l : List ℕ) → numbers (stateOf l) (stateOf l .mask ∷ []) ≡ octas l 0 292
 unfolding stateOf
-numbers-state l = rw (octas-append l 0 256 35, octas-append l 2048 32 3, last-three l)
+numbers-state l = rw (octas-append l 0 256 36, octas-append l 2048 32 4, last-four l)
+
+numbers-old : (l : List ℕ) → numbers (stateOf l) [] ≡ octas l 0 291
+unfolding stateOf
+numbers-old l = rw (octas-append l 0 256 35, octas-append l 2048 32 3, last-three l)
 
 image-state : (l : List ℕ) → length l ≡ imageLength → ((i : ℕ) → getD l i 0 < 256) → imageOf (stateOf l) ≡ l
 unfolding imageOf
-image-state l e b = ap flat (numbers-state l) ∙ flat-octas l b 0 291 ∙ ap (part l 0) (sym e) ∙ part-all l
+image-state l e b = ap flat (numbers-state l) ∙ flat-octas l b 0 292 ∙ ap (part l 0) (sym e) ∙ part-all l
+
+old-state : (l : List ℕ) → length l ≡ oldImageLength → ((i : ℕ) → getD l i 0 < 256) → oldImageOf (stateOf l) ≡ l
+unfolding oldImageOf
+old-state l e b = ap flat (numbers-old l) ∙ flat-octas l b 0 291 ∙ ap (part l 0) (sym e) ∙ part-all l
 
 state-sized : (l : List ℕ) → Sized (stateOf l)
 unfolding stateOf
@@ -172,13 +214,63 @@ state-words l b = record {
   pc-word = value-below l 2304 8 b;
   halt-word = value-below l 2312 8 b;
   marks-word = value-below l 2320 8 b;
+  mask-word = value-below l 2328 8 b;
 }
 
 pub round-trips : RoundTrips
 round-trips = record {
   state-image = state-image;
+  state-old = state-old;
   image-state = image-state;
+  old-state = old-state;
   image-length = length-image;
+  old-length = length-old;
   state-sized = state-sized;
   state-words = state-words;
 }
+
+-- ---- an image at its own length
+
+mask-beyond : (l : List ℕ) → length l ≡ oldImageLength → stateOf l .mask ≡ 0
+unfolding stateOf
+mask-beyond l n = value-beyond l 2328 (omega arith)
+
+old-mask : (l : List ℕ) → isOld l ≡ true → stateOf l .mask ≡ 0
+old-mask l e = mask-beyond l (eqb-true (length l) oldImageLength e)
+
+room-again : (l : List ℕ) (m : ℕ) → isImage l ≡ true → m ≡ stateOf l .mask → hasRoom l m ≡ true
+room-again l m e h = ⊎-elim (λ n. room-new l m n) (λ n. room-old l m n ∙ eq-eqb m 0 (h ∙ mask-beyond l n)) (either l e)
+
+stored-again : (l : List ℕ) (s : State) → isImage l ≡ true → s .mask ≡ stateOf l .mask → storedIn l s ≡ imageAs l s
+stored-again l s e h = stored-is l s (room-again l (s .mask) e h)
+
+as-length : (l : List ℕ) (s : State) → isImage l ≡ true → Sized s → length (imageAs l s) ≡ length l
+as-length l s e z =
+    ⊎-elim (λ n. ap length (as-new l s n) ∙ length-image s z ∙ sym n) (λ n. ap length (as-old l s n) ∙ length-old s z ∙ sym n) (either l e)
+
+state-as : (l : List ℕ) (s : State) → Sized s → Words s → hasRoom l (s .mask) ≡ true → stateOf (imageAs l s) ≡ s
+state-as l s z w e =
+    ⊎-elim
+    (λ n. ap stateOf (as-new l s n) ∙ state-image s z w)
+    (λ n. ap stateOf (as-old l s n) ∙ state-old s z w (eqb-true (s .mask) 0 (sym (room-old l (s .mask) n) ∙ e)))
+    (either l (room-image l (s .mask) e))
+
+as-state : (l : List ℕ) → isImage l ≡ true → ((i : ℕ) → getD l i 0 < 256) → imageAs l (stateOf l) ≡ l
+as-state l e b =
+    ⊎-elim (λ n. as-new l (stateOf l) n ∙ image-state l n b) (λ n. as-old l (stateOf l) n ∙ old-state l n b) (either l e)
+
+pub keeps-length : KeepsLength
+keeps-length = record {
+  old-mask = old-mask;
+  room-again = room-again;
+  stored-again = stored-again;
+  as-length = as-length;
+  state-as = state-as;
+  as-state = as-state;
+}
+
+-- a state in an image, whichever its length
+pub halt-as : (l : List ℕ) (s : State) → isImage l ≡ true → Sized s → part (imageAs l s) 2312 8 ≡ bytesOf (s .halt)
+halt-as l s e z =
+    let at : List ℕ → List ℕ = λ (k : List ℕ). part k 2312 8 in
+    ⊎-elim (λ n. ap at (as-new l s n) ∙ halt-bytes s z) (λ n. ap at (as-old l s n) ∙ halt-old s z) (either l e)

@@ -1,20 +1,23 @@
-//! The state image: 291 octabytes, high byte first.
+//! The state image: 292 octabytes, high byte first; an old one has no mask, and 291.
 
 ghost use mathlib.Core.Path.{_≡_};
-ghost use mathlib.Core.Bool.{cond};
-ghost use lib.ListN.{length};
-ghost use Rattle.model.specs.Kept.{imageLength};
+ghost use mathlib.Core.Bool.{true, cond};
 ghost use Rattle.model.specs.Parts.{made};
-ghost use Rattle.image.specs.Image.{imageOf, stateOf, isImage, Decoded, Encoded};
+ghost use Rattle.image.specs.Image.{stateOf, isImage, hasRoom, imageAs, storedIn, Decoded, Encoded};
 use model::State;
 
 /// Bytes of an image.
-pub const IMAGE_LEN: usize = 2328;
+pub const IMAGE_LEN: usize = 2336;
 
-// Where the special registers start, and where PC, halt code and marks.
+/// Bytes of an old image.
+pub const OLD_IMAGE_LEN: usize = 2328;
+
+// Where the special registers start, where PC, halt code and marks, and where the mask.
 const AT_SPECIAL: usize = 2048;
 
 const AT_REST: usize = 2304;
+
+const AT_MASK: usize = OLD_IMAGE_LEN;
 
 /// A reply's number, and the state that it leaves.
 pub struct Answer {
@@ -27,66 +30,103 @@ pub struct Rest {
     pub pc: u64,
     pub halt: u64,
     pub marks: u64,
+    pub mask: u64,
 }
 
-// The registers of an image go to the arrays; the rest is the answer.
+/// Whether bytes are as long as an image, old or not.
+pub fn is_image(image: &[u8]) -> bool
+    ensures { λ r. ⌜ r ≡ isImage (now (image .entry)) ⌝ }
+{
+    if image.len() == IMAGE_LEN {
+        return true;
+    }
+    if image.len() == OLD_IMAGE_LEN {
+        return true;
+    }
+    false
+}
+
+/// Whether an image has room for a state with this mask: an old one only where that is 0.
+pub fn has_room(image: &[u8], mask: u64) -> bool
+    ensures { λ r. ⌜ r ≡ hasRoom (now (image .entry)) mask ⌝ }
+{
+    if image.len() == IMAGE_LEN {
+        return true;
+    }
+    if image.len() != OLD_IMAGE_LEN {
+        return false;
+    }
+    if mask == 0 {
+        return true;
+    }
+    false
+}
+
+// The registers of an image go to the arrays; the rest is the answer. Where an old one has no mask, none is loaded.
 fn load_parts(image: &[u8], general: &mut [u64; 256], special: &mut [u64; 32]) -> Rest
-    requires { ⌜ length (now image) ≡ imageLength ⌝ }
-    ensures { λ r. ⌜ made (now (general .exit)) (now (special .exit)) (r .pc) (r .halt) (r .marks) ≡ stateOf (now (image .entry)) ⌝ }
+    requires { ⌜ isImage (now image) ≡ true ⌝ }
+    ensures { λ r. ⌜ made (now (general .exit)) (now (special .exit)) (r .pc) (r .halt) (r .marks) (r .mask) ≡ stateOf (now (image .entry)) ⌝ }
 {
     let mut numbers = [0u64; 3];
+    let mut mask = [0u64; 1];
     machine::octabytes::load_octas(image, 0, general);
     machine::octabytes::load_octas(image, AT_SPECIAL, special);
     machine::octabytes::load_octas(image, AT_REST, &mut numbers);
+    machine::octabytes::load_octas(image, AT_MASK, &mut mask);
     Rest {
         pc: numbers[0],
         halt: numbers[1],
         marks: numbers[2],
+        mask: mask[0],
     }
 }
 
-// The image becomes that of a state in parts.
+// The image becomes that of a state in parts. Where an old one has no room for the mask, none is stored.
 fn store_parts(image: &mut [u8], general: &[u64; 256], special: &[u64; 32], rest: Rest)
-    requires { ⌜ length (now image) ≡ imageLength ⌝ }
-    ensures { λ _. ⌜ now (image .exit) ≡ imageOf (made (now (general .entry)) (now (special .entry)) (rest .pc) (rest .halt) (rest .marks)) ⌝ }
+    requires { ⌜ isImage (now image) ≡ true ⌝ }
+    ensures { λ _. ⌜ now (image .exit)
+        ≡ imageAs (now (image .entry)) (made (now (general .entry)) (now (special .entry)) (rest .pc) (rest .halt) (rest .marks) (rest .mask)) ⌝ }
 {
     machine::octabytes::store_octas(&mut *image, 0, general);
     machine::octabytes::store_octas(&mut *image, AT_SPECIAL, special);
     let numbers = [rest.pc, rest.halt, rest.marks];
+    let mask = [rest.mask];
     machine::octabytes::store_octas(&mut *image, AT_REST, &numbers);
+    machine::octabytes::store_octas(&mut *image, AT_MASK, &mask);
 }
 
-/// The registers of an image go to the arrays, and the rest is the answer; where it is not 2,328 bytes long, the arrays are left as they were
+/// The registers of an image go to the arrays, and the rest is the answer; where it is as long as neither image, the arrays are left as they were
 /// and the rest is 0.
 pub fn load_state(image: &[u8], general: &mut [u64; 256], special: &mut [u64; 32]) -> Rest
-    ensures { λ r. ⌜ made (now (general .exit)) (now (special .exit)) (r .pc) (r .halt) (r .marks)
-        ≡ cond (isImage (now (image .entry))) (stateOf (now (image .entry))) (made (now (general .entry)) (now (special .entry)) 0 0 0) ⌝ }
+    ensures { λ r. ⌜ made (now (general .exit)) (now (special .exit)) (r .pc) (r .halt) (r .marks) (r .mask)
+        ≡ cond (isImage (now (image .entry))) (stateOf (now (image .entry))) (made (now (general .entry)) (now (special .entry)) 0 0 0 0) ⌝ }
 {
-    if image.len() != IMAGE_LEN {
+    if !is_image(image) {
         return Rest {
             pc: 0,
             halt: 0,
             marks: 0,
+            mask: 0,
         };
     }
     load_parts(image, general, special)
 }
 
-/// The image becomes that of a state in parts; where it is not 2,328 bytes long, it is left as it was.
+/// The image becomes that of a state in parts; where it has no room for it, it is left as it was.
 pub fn store_state(image: &mut [u8], general: &[u64; 256], special: &[u64; 32], rest: Rest)
-    ensures { λ _. ⌜ now (image .exit) ≡ cond (isImage (now (image .entry)))
-        (imageOf (made (now (general .entry)) (now (special .entry)) (rest .pc) (rest .halt) (rest .marks))) (now (image .entry)) ⌝ }
+    ensures { λ _. ⌜ now (image .exit)
+        ≡ storedIn (now (image .entry)) (made (now (general .entry)) (now (special .entry)) (rest .pc) (rest .halt) (rest .marks) (rest .mask)) ⌝ }
 {
-    if image.len() == IMAGE_LEN {
+    if has_room(&*image, rest.mask) {
         store_parts(image, general, special, rest);
     }
 }
 
-/// The state of an image, and 0; 1 where it is not 2,328 bytes long, and then the state that was given.
+/// The state of an image, and 0; 1 where it is as long as neither image, and then the state that was given.
 pub fn decode(image: &[u8], state: State) -> Answer
     ensures { λ r. ⌜ Decoded (now (image .entry)) state (r .reply) (r .state) ⌝ }
 {
-    if image.len() != IMAGE_LEN {
+    if !is_image(image) {
         return Answer {
             reply: 1,
             state: state,
@@ -101,6 +141,7 @@ pub fn decode(image: &[u8], state: State) -> Answer
         pc: rest.pc,
         halt: rest.halt,
         marks: rest.marks,
+        mask: rest.mask,
     };
     Answer {
         reply: 0,
@@ -108,11 +149,11 @@ pub fn decode(image: &[u8], state: State) -> Answer
     }
 }
 
-/// The image becomes that of the state; 1 where it is not 2,328 bytes long, and then it is left as it was.
+/// The image becomes that of the state; 1 where it has no room for it, and then it is left as it was.
 pub fn encode(state: State, image: &mut [u8]) -> u64
     ensures { λ r. ⌜ Encoded state (now (image .entry)) r (now (image .exit)) ⌝ }
 {
-    if image.len() != IMAGE_LEN {
+    if !has_room(&*image, state.mask) {
         return 1;
     }
     let general = state.general;
@@ -121,6 +162,7 @@ pub fn encode(state: State, image: &mut [u8]) -> u64
         pc: state.pc,
         halt: state.halt,
         marks: state.marks,
+        mask: state.mask,
     };
     store_parts(&mut *image, &general, &special, rest);
     0

@@ -4,6 +4,7 @@ use Prim.Native.Nat.{ℕ, _*_, _/_, _≤_, _<_, _^_}
 use mathlib.Core.Path.{_≡_}
 use mathlib.Core.List.{List}
 use lib.ListN.{length, getD}
+use Rattle.model.specs.Octa.{part}
 use Rattle.model.specs.Memory.{windowMax}
 
 -- how many names there are
@@ -12,7 +13,11 @@ pointCount = 16
 
 -- bytes of a state image; of a window at most `windowMax`. Rooms and lines are as long as these two make them
 abbrev pub imageLength : ℕ
-imageLength = 2328
+imageLength = 2336
+
+-- those of "an old image", which has no mask
+abbrev pub oldImageLength : ℕ
+oldImageLength = 2328
 
 -- the state's image, both bases and the bytes of both windows
 pub record Point : Type 0 where
@@ -24,6 +29,14 @@ pub record Point : Type 0 where
 
 abbrev pub pointIn : List ℕ → ℕ → ℕ → List ℕ → List ℕ → Point
 pointIn image baseA baseB a b = record { image = image; baseA = baseA; baseB = baseB; a = a; b = b }
+
+-- a point with its image at another length: the mask left out, or "an empty mask" with it, since `part` is 0 where the image has no more
+unfoldable pub atLength : ℕ → Point → Point
+atLength n p = pointIn (part (p .image) 0 n) (p .baseA) (p .baseB) (p .a) (p .b)
+
+-- a point as it is kept, "points keep the mask"
+abbrev pub full : Point → Point
+full p = atLength imageLength p
 
 -- a window's length "in octabytes"
 abbrev pub octasOf : List ℕ → ℕ

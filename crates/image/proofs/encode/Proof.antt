@@ -1,21 +1,32 @@
 -- `encode` meets its contract: the state in the parts that `store_parts` stores.
-use native.Mathlib.Omega.{arith}
-use Rattle.image.proofs.Coded.{encoded-else, encoded}
+use Rattle.model.proofs.Bools.{denied, granted}
+use Rattle.image.proofs.Coded.{room-image, encoded-else, encoded}
 use borrow.Author.Needs.{needs}
 use Rattle.image.proofs.encode.Statement.{statement}
 use Rattle.image.proofs.encode.Tie as tie
 
-returns : tie.Need-returns
-returns c = encoded-else _ (λ e. omega arith) _
-
-store-parts-requires : tie.Need-store-parts-requires
-store-parts-requires c κs = search needs
+has-room-requires : tie.Need-has-room-requires
+has-room-requires c κs = search needs
 
 same-length : tie.Need-same-length
 same-length c = search needs
 
+returns : tie.Need-returns
+returns c = encoded-else _ _ (denied _ _ (c .before .has-room .ensures) (c .if1 .taken))
+
+store-parts-requires : tie.Need-store-parts-requires
+store-parts-requires c κs =
+    let test = c .before .before .before .before .before in
+    room-image _ _ (granted _ _ (test .before .has-room .ensures) (test .if1 .left))
+
+same-length-2 : tie.Need-same-length-2
+same-length-2 c = search needs
+
 returns-2 : tie.Need-returns-2
-returns-2 c = encoded (c .before .before .before .before .before .before .before .before .before .before .args .image .now) (omega arith) _ _ (c .before .before .store-parts .ensures)
+returns-2 c =
+    let storing = c .before .before in
+    let test = storing .before .before .before .before .before .before in
+    encoded _ _ _ (granted _ _ (test .before .has-room .ensures) (test .if1 .left)) (storing .store-parts .ensures)
 
 pub encode-spec : {M : Type 1} → statement M
-encode-spec = tie.close (tie.spec returns store-parts-requires same-length returns-2)
+encode-spec = tie.close (tie.spec has-room-requires same-length returns store-parts-requires same-length-2 returns-2)
