@@ -2,3 +2,4 @@
 pub mod Coded
 pub mod Codec
 pub mod RoundTrips
+pub mod Fronts

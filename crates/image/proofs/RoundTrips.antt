@@ -17,6 +17,7 @@ use borrow.Author.Tests.{eq-eqb, eqb-true}
 use Rattle.model.specs.Kept.{imageLength, oldImageLength}
 use Rattle.image.specs.Image.{imageOf, oldImageOf, stateOf, isOld, isImage, hasRoom, imageAs, storedIn, RoundTrips, KeepsLength}
 use Rattle.model.proofs.Bytes.{value-below}
+use Rattle.model.proofs.Slices.{part-all}
 use Rattle.machine.proofs.OctabyteRuns.{length-octas, octas-append, length-flat}
 use Rattle.image.proofs.Coded.{either, room-new, room-old, room-image, as-new, as-old, stored-is}
 use Rattle.image.proofs.Codec.{value-beyond, numbers, length-numbers, length-image, length-old}
@@ -166,16 +167,6 @@ module _ (l : List ℕ) (b : (i : ℕ) → getD l i 0 < 256) where
   octas-word o zero k = omega arith
   octas-word o (suc n) zero = value-below l o 8 b
   octas-word o (suc n) (suc k) = octas-word (o + 8) n k
-
-part-cons : (x : ℕ) (l : List ℕ) (o n : ℕ) → part (x ∷ l) (suc o) n ≡ part l o n
-unfolding part
-part-cons x l o zero = refl
-part-cons x l o (suc n) = ap (λ (r : List ℕ). getD l o 0 ∷ r) (part-cons x l (suc o) n)
-
-part-all : (l : List ℕ) → part l 0 (length l) ≡ l
-unfolding part
-part-all [] = refl
-part-all (x ∷ l) = ap (λ (r : List ℕ). x ∷ r) (part-cons x l 0 (length l) ∙ part-all l)
 
 last-three : (l : List ℕ) → octas l 2304 3 ≡ valueOf 0 (part l 2304 8) ∷ valueOf 0 (part l 2312 8) ∷ valueOf 0 (part l 2320 8) ∷ []
 unfolding octas

@@ -5,7 +5,7 @@ use mathlib.Core.Logic.{_⊎_, inl, inr}
 use Prim.Native.Nat.{ℕ, zero, suc, _+_, _-_, _≤_, _<_}
 use native.Mathlib.Numerals.{add-one}
 use native.Mathlib.Omega.{arith}
-use lib.ListN.{length, getD, take, drop, set, length-drop}
+use lib.ListN.{length, getD, take, drop, set, replicate, length-drop}
 use lib.Seq.{sets, sets-eq, ext-getD, length-take-le, getD-take, getD-drop, drop-drop, take-suc, take-suc-set, take-all}
 use Rattle.model.specs.Octa.{part, written}
 use Rattle.model.proofs.Fill.{lt-or-le}
@@ -31,6 +31,35 @@ part-same (suc n) k l p q h =
     let qj : q + suc j ≡ suc q + j = omega arith in
     ap (λ (i : ℕ). getD k i 0) pj ∙ h (suc j) (omega arith) ∙ ap (λ (i : ℕ). getD l i 0) qj) in
     cc
+
+part-cons : (x : ℕ) (l : List ℕ) (o n : ℕ) → part (x ∷ l) (suc o) n ≡ part l o n
+unfolding part
+part-cons x l o zero = refl
+part-cons x l o (suc n) = ap (λ (r : List ℕ). getD l o 0 ∷ r) (part-cons x l (suc o) n)
+
+pub part-all : (l : List ℕ) → part l 0 (length l) ≡ l
+unfolding part
+part-all [] = refl
+part-all (x ∷ l) = ap (λ (r : List ℕ). x ∷ r) (part-cons x l 0 (length l) ∙ part-all l)
+
+-- a part of the front
+pub part-within : (l : List ℕ) (m o n : ℕ) → o + n ≤ m → part (part l 0 m) o n ≡ part l o n
+part-within l m o n h = part-cong n (part l 0 m) l o (λ j a b. getD-part l 0 m j (omega arith) ∙ ap (λ (k : ℕ). getD l k 0) (omega arith))
+
+-- beyond its end a list is 0
+part-none : (o n : ℕ) → part [] o n ≡ replicate n 0
+unfolding part
+part-none o zero = refl
+part-none o (suc n) = ap (λ (r : List ℕ). 0 ∷ r) (part-none (suc o) n)
+
+pub part-padded : (l : List ℕ) (n : ℕ) → part l 0 (length l + n) ≡ l ++ replicate n 0
+unfolding part
+part-padded [] n =
+    let e : 0 + n ≡ n = omega arith in
+    ap (part [] 0) e ∙ part-none 0 n
+part-padded (x ∷ l) n =
+    let e : suc (length l) + n ≡ suc (length l + n) = omega arith in
+    ap (part (x ∷ l) 0) e ∙ ap (λ (r : List ℕ). x ∷ r) (part-cons x l 0 (length l + n) ∙ part-padded l n)
 
 -- ---- of what was written
 

@@ -1,11 +1,13 @@
 -- Theorems. What each number leaves; and "While only these calls write the store, going back gives exactly what was taken last under that name, and other points are untouched."
 use Prim.Native.Nat.{ℕ, _+_, _≤_, _<_}
 use mathlib.Core.Path.{_≡_}
+use mathlib.Core.Bool.{true, false}
 use mathlib.Core.Logic.{_⊎_, _≢_}
 use mathlib.Core.List.{List, [], _∷_, _++_}
 use lib.ListN.{length, getD}
 use Rattle.model.specs.Memory.{windowMax}
-use Rattle.model.specs.Kept.{pointCount, imageLength, Point}
+use Rattle.model.specs.Kept.{pointCount, imageLength, Point, atLength}
+use Rattle.image.specs.Image.{isImage, hasRoom, stateOf}
 use Rattle.store.specs.Store.{aAt, bAt, roomLength, storeLength, filled, roomOf, Took, GoneBack}
 
 -- ---- one call
@@ -66,9 +68,9 @@ pub record TakenLast (j : ℕ) (q : Point) (cs : List Call) : Type 0 where
   pub calls-are : cs ≡ before ++ (took j q 0 store ∷ after)
   pub none-later : NoneTaken j after
 
--- lent at the taken bases and lengths, whatever bytes it holds
+-- windows lent at the taken bases and lengths, and an image, old or not, whatever bytes they hold
 pub record LentAs (q p : Point) : Type 0 where
-  pub image-long : length (p .image) ≡ imageLength
+  pub image-is : isImage (p .image) ≡ true
   pub base-a : p .baseA ≡ q .baseA
   pub base-b : p .baseB ≡ q .baseB
   pub long-a : length (p .a) ≡ length (q .a)
@@ -76,9 +78,19 @@ pub record LentAs (q p : Point) : Type 0 where
 
 -- THEOREM
 pub record Returns : Type 0 where
-  -- going back gives exactly what was taken last, byte for byte
+  -- going back gives exactly what was taken last, byte for byte, into an image as long as that which was taken
   pub gives-back : (s : List ℕ) (cs : List Call) → Chain s cs → (j : ℕ) (q : Point) → TakenLast j q cs
-      → (p : Point) → LentAs q p → (n : ℕ) (t : Point) → GoneBack (lastStore s cs) j p n t → (n ≡ 0) × (t ≡ q)
+      → (p : Point) → LentAs q p → length (p .image) ≡ length (q .image)
+      → (n : ℕ) (t : Point) → GoneBack (lastStore s cs) j p n t → (n ≡ 0) × (t ≡ q)
+  -- into an image of the other length, which it keeps, the same windows and the same state, where that has room there
+  pub gives-at : (s : List ℕ) (cs : List Call) → Chain s cs → (j : ℕ) (q : Point) → TakenLast j q cs
+      → (p : Point) → LentAs q p → hasRoom (p .image) (stateOf (q .image) .mask) ≡ true
+      → (n : ℕ) (t : Point) → GoneBack (lastStore s cs) j p n t
+      → (n ≡ 0) × ((t ≡ atLength (length (p .image)) q) × (stateOf (t .image) ≡ stateOf (q .image)))
+  -- and where it has none, 1: nothing of what is lent changes
+  pub gives-not : (s : List ℕ) (cs : List Call) → Chain s cs → (j : ℕ) (q : Point) → TakenLast j q cs
+      → (p : Point) → LentAs q p → hasRoom (p .image) (stateOf (q .image) .mask) ≡ false
+      → (n : ℕ) (t : Point) → GoneBack (lastStore s cs) j p n t → (n ≡ 1) × (t ≡ p)
   -- a point under whose name none is taken is untouched, every byte of its room
   pub untouched : (s : List ℕ) (cs : List Call) → Chain s cs → (j : ℕ) → j < pointCount → NoneTaken j cs → roomOf (lastStore s cs) j ≡ roomOf s j
   -- and so is what lies behind the sixteenth room

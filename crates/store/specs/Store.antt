@@ -10,9 +10,9 @@ use Rattle.model.specs.Octa.{part, written, valueOf}
 use Rattle.model.specs.Memory.{windowMax, Windows, Shapes, shapesOf}
 use Rattle.model.specs.Registers.{admissible}
 use Rattle.model.specs.Step.{unruledBy}
-use Rattle.model.specs.Kept.{pointCount, imageLength, octasOf, Point}
+use Rattle.model.specs.Kept.{pointCount, imageLength, octasOf, Point, atLength, full}
 use Rattle.machine.specs.Octabytes.{flat}
-use Rattle.image.specs.Image.{isImage, stateOf}
+use Rattle.image.specs.Image.{isImage, hasRoom, stateOf}
 
 -- ---- a room
 
@@ -33,7 +33,7 @@ roomLength = bAt + windowMax
 unfoldable pub numbersOf : Point → List ℕ
 numbersOf p = p .baseA ∷ p .baseB ∷ octasOf (p .a) ∷ octasOf (p .b) ∷ 1 ∷ []
 
--- a room with a point in it: what lies behind either window in its place is as it was
+-- a room with a point in it, whose image has the mask: what lies behind either window in its place is as it was
 unfoldable pub filled : List ℕ → Point → List ℕ
 filled r p = written (written (written (written r 0 (p .image)) numbersAt (flat (numbersOf p))) aAt (p .a)) bAt (p .b)
 
@@ -63,9 +63,9 @@ storeLength = pointCount * roomLength
 unfoldable pub roomOf : List ℕ → ℕ → List ℕ
 roomOf s k = part s (k * roomLength) roomLength
 
--- the store after point p was taken under the name k
+-- the store after point p was taken under the name k: "points keep the mask, their room growing with it", and that of an old image is empty
 unfoldable pub taken : List ℕ → ℕ → Point → List ℕ
-taken s k p = written s (k * roomLength) (filled (roomOf s k) p)
+taken s k p = written s (k * roomLength) (filled (roomOf s k) (full p))
 
 -- ---- judging: "New numbers, judged in this order after 22"
 
@@ -88,10 +88,15 @@ unfoldable pub suits : List ℕ → ℕ → ℕ → ℕ → ℕ → Bool
 suits r x y m n =
     eqb (numberAt r 0) x && (eqb (numberAt r 1) y && (eqb (numberAt r 2) m && (eqb (numberAt r 3) n && admissible (stateOf (part r 0 imageLength)))))
 
+-- the mask of a room's point
+unfoldable pub maskIn : List ℕ → ℕ
+maskIn r = stateOf (part r 0 imageLength) .mask
+
 -- "27, .. on going back one whose octabyte is 0; 28, on going back the point's window lengths or bases are other than those lent, or its
--- state isn't admissible"
+-- state isn't admissible"; then 1 where an old image is lent, which "keeps its length", and the point's mask is not empty
 unfoldable pub roomReply : List ℕ → Point → ℕ
-roomReply r p = cond (isTaken r) (cond (suits r (p .baseA) (p .baseB) (octasOf (p .a)) (octasOf (p .b))) 0 28) 27
+roomReply r p =
+    cond (isTaken r) (cond (suits r (p .baseA) (p .baseB) (octasOf (p .a)) (octasOf (p .b))) (cond (hasRoom (p .image) (maskIn r)) 0 1) 28) 27
 
 -- "going back is given no state to judge by 1": only the image's length is
 unfoldable pub backReply : List ℕ → ℕ → Point → ℕ
@@ -107,4 +112,4 @@ pub record Took (s : List ℕ) (k : ℕ) (p : Point) (n : ℕ) (t : List ℕ) : 
 -- p, which is lent, goes back to the point k of the store s, which stays: q is what it becomes
 pub record GoneBack (s : List ℕ) (k : ℕ) (p : Point) (n : ℕ) (q : Point) : Type 0 where
   pub reply-is : n ≡ backReply s k p
-  pub point-is : q ≡ cond (eqb (backReply s k p) 0) (pointOf (roomOf s k)) p
+  pub point-is : q ≡ cond (eqb (backReply s k p) 0) (atLength (length (p .image)) (pointOf (roomOf s k))) p

@@ -4,7 +4,6 @@ ghost use mathlib.Core.Path.{_≡_};
 ghost use Rattle.model.specs.Kept.{pointIn};
 ghost use Rattle.model.specs.Numbers.{numberOf};
 ghost use Rattle.store.specs.Store.{Took, GoneBack};
-use image::IMAGE_LEN;
 use model::Bases;
 use model::Reply;
 use room::ROOM_LEN;
@@ -42,7 +41,8 @@ pub fn take(at: Bases, name: u64, image: &[u8], a: &[u8], b: &[u8], store: &mut 
     Reply::Done
 }
 
-/// State and windows become those kept under a name: 1 of the image's length, 2, 22, 26, 27 and 28 are judged before the first byte is written.
+/// State and windows become those kept under a name: 1 of the image's length, 2, 22, 26, 27, 28, and 1 of an old image that has no room for the
+/// mask are judged before the first byte is written.
 pub fn go_back(
     at: Bases,
     name: u64,
@@ -54,7 +54,7 @@ pub fn go_back(
     ensures { λ r. ⌜ GoneBack (now (store .entry)) name (pointIn (now (image .entry)) (at .a) (at .b) (now (a .entry)) (now (b .entry))) (numberOf r)
         (pointIn (now (image .exit)) (at .a) (at .b) (now (a .exit)) (now (b .exit))) ⌝ }
 {
-    if image.len() != IMAGE_LEN {
+    if !image::is_image(&*image) {
         return Reply::NotAdmissible;
     }
     let number = machine::memory::windows_refusal(&*a, &*b, at);
@@ -78,6 +78,9 @@ pub fn go_back(
     }
     if !room::suits(room, at, &*a, &*b) {
         return Reply::OtherPoint;
+    }
+    if !room::mask_fits(room, &*image) {
+        return Reply::NotAdmissible;
     }
     room::restore(room, image, a, b);
     Reply::Done
