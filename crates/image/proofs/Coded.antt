@@ -38,6 +38,9 @@ module _ (l : List ℕ) where
   pub at-least : isImage l ≡ true → oldImageLength ≤ length l
   at-least e = ⊎-elim (λ n. omega arith) (λ n. omega arith) (either e)
 
+  pub at-most : isImage l ≡ true → length l ≤ imageLength
+  at-most e = ⊎-elim (λ n. omega arith) (λ n. omega arith) (either e)
+
   -- ---- room for a mask
 
   pub room-new : (m : ℕ) → length l ≡ imageLength → hasRoom l m ≡ true

@@ -31,7 +31,7 @@ abbrev pub pointIn : List ℕ → ℕ → ℕ → List ℕ → List ℕ → Poin
 pointIn image baseA baseB a b = record { image = image; baseA = baseA; baseB = baseB; a = a; b = b }
 
 -- a point with its image at another length: the mask left out, or "an empty mask" with it, since `part` is 0 where the image has no more
-unfoldable pub atLength : ℕ → Point → Point
+abbrev pub atLength : ℕ → Point → Point
 atLength n p = pointIn (part (p .image) 0 n) (p .baseA) (p .baseB) (p .a) (p .b)
 
 -- a point as it is kept, "points keep the mask"

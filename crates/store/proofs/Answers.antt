@@ -12,13 +12,14 @@ use Rattle.model.specs.Octa.{part, written}
 use Rattle.model.specs.Memory.{windowMax, Shape, shapeOf, ruledOne, Shapes, shapesOf, ruled}
 use Rattle.model.specs.Registers.{admissible}
 use Rattle.model.specs.Step.{unruledBy}
-use Rattle.model.specs.Kept.{pointCount, imageLength, octasOf, Point, pointIn, Fits}
+use Rattle.model.specs.Kept.{pointCount, imageLength, octasOf, Point, pointIn, atLength, full, Fits}
 use Rattle.model.proofs.Bools.{and-left, and-right}
 use Rattle.model.proofs.Entry.{unruled-none, unruled-is}
 use Rattle.model.proofs.Apart.{Ruled, ruled-a, ruled-b}
-use Rattle.model.proofs.Slices.{length-part, part-lent, written-lent}
-use Rattle.image.specs.Image.{isImage, stateOf}
-use Rattle.store.specs.Store.{aAt, bAt, roomLength, storeLength, filled, numberAt, isTaken, pointOf, roomOf, taken, shapesIn, fromTwo, takeReply, suits, roomReply, backReply, Took, GoneBack}
+use Rattle.model.proofs.Slices.{length-part, part-within, part-lent, written-lent}
+use Rattle.image.specs.Image.{isImage, hasRoom, stateOf}
+use Rattle.image.proofs.Coded.{is-new}
+use Rattle.store.specs.Store.{aAt, bAt, roomLength, storeLength, filled, numberAt, isTaken, pointOf, roomOf, taken, shapesIn, fromTwo, takeReply, maskIn, suits, roomReply, backReply, Took, GoneBack}
 use Rattle.store.proofs.Rooms.{length-filled}
 
 -- ---- what is lent and passes
@@ -27,15 +28,15 @@ size-fits : (w : Shape) → ruledOne w ≡ true → w .size ≤ windowMax
 unfolding ruledOne
 size-fits w e = leb-true _ _ (and-right (eqb (w .size % 8) 0) _ (and-right (ltb (w .from) (2 ^ 64)) _ (and-right (eqb (w .from % 8) 0) _ e)))
 
--- an image, and windows that neither 2 nor 22 refuses, have room in a store
-pub lent-fits : (p : Point) → length (p .image) ≡ imageLength → (m : ℕ) → m ≡ unruledBy (shapesIn p) → m ≡ 0 → Fits p
+-- what neither 2 nor 22 refuses has room in a store
+pub lent-fits : (p : Point) (m : ℕ) → m ≡ unruledBy (shapesIn p) → m ≡ 0 → Fits (full p)
 unfolding ruled shapesOf shapeOf
-lent-fits p n m e z =
+lent-fits p m e z =
     let r : ruled (shapesIn p) ≡ true = unruled-none (shapesIn p) (sym e ∙ z) .0 in
     let a : Ruled (shapesIn p .a) = ruled-a (shapesIn p) r in
     let b : Ruled (shapesIn p .b) = ruled-b (shapesIn p) r in
     record {
-      image-long = n;
+      image-long = length-part (p .image) 0 imageLength;
       base-a = a .base-word;
       base-b = b .base-word;
       long-a = size-fits (shapesIn p .a) (and-left (ruledOne (shapesIn p .a)) _ r);
@@ -43,9 +44,6 @@ lent-fits p n m e z =
       whole-a = omega (arith, a .size-octas);
       whole-b = omega (arith, b .size-octas);
     }
-
-pub image-long : (l : List ℕ) → (isImage l && admissible (stateOf l)) ≡ true → length l ≡ imageLength
-image-long l e = eqb-true _ _ (and-left (isImage l) _ e)
 
 -- neither 0 nor 2
 pub shared-left : (w : Shapes) (m : ℕ) → m ≡ unruledBy w → (m ≡ 2 → ⊥) → (m ≡ 0 → ⊥) → m ≡ 22
@@ -81,13 +79,13 @@ module _ (s : List ℕ) (k : ℕ) (p : Point) where
   unfolding takeReply
   take-two e n f = rw e f
 
-  pub back-one : (length (p .image) ≡ imageLength → ⊥) → backReply s k p ≡ 1
+  pub back-one : isImage (p .image) ≡ false → backReply s k p ≡ 1
   unfolding backReply
-  back-one d = rw (ne-eqb (length (p .image)) imageLength d)
+  back-one e = rw e
 
-  pub back-two : length (p .image) ≡ imageLength → (n : ℕ) → fromTwo s k (shapesIn p) (roomReply (roomOf s k) p) ≡ n → backReply s k p ≡ n
+  pub back-two : isImage (p .image) ≡ true → (n : ℕ) → fromTwo s k (shapesIn p) (roomReply (roomOf s k) p) ≡ n → backReply s k p ≡ n
   unfolding backReply
-  back-two d n f = rw (eq-eqb (length (p .image)) imageLength d) f
+  back-two e n f = rw e f
 
 -- ---- a room
 
@@ -122,7 +120,7 @@ pub front-admissible : (r : List ℕ) (n : ℕ) → n ≡ imageLength → imageL
 front-admissible r n e h =
     let f : take n (drop 0 r) ≡ part r 0 imageLength = ap (λ (i : ℕ). take i (drop 0 r)) e ∙ part-lent r 0 imageLength (omega arith) in
     ap (λ (l : List ℕ). isImage l && admissible (stateOf l)) f
-    ∙ ap (λ (t : Bool). t && admissible (stateOf (part r 0 imageLength))) (eq-eqb (length (part r 0 imageLength)) imageLength (length-part r 0 imageLength))
+    ∙ ap (λ (t : Bool). t && admissible (stateOf (part r 0 imageLength))) (is-new (part r 0 imageLength) (length-part r 0 imageLength))
 
 -- of a room as it is lent
 module _ (l r : List ℕ) (e : l ≡ r) (p : Point) where
@@ -134,9 +132,14 @@ module _ (l r : List ℕ) (e : l ≡ r) (p : Point) where
   unfolding roomReply
   room-unlike f g = rw (← e, f, g)
 
-  pub room-open : isTaken l ≡ true → suits l (p .baseA) (p .baseB) (octasOf (p .a)) (octasOf (p .b)) ≡ true → roomReply r p ≡ 0
-  unfolding roomReply
-  room-open f g = rw (← e, f, g)
+  module _ (f : isTaken l ≡ true) (g : suits l (p .baseA) (p .baseB) (octasOf (p .a)) (octasOf (p .b)) ≡ true) where
+    pub room-masked : hasRoom (p .image) (maskIn l) ≡ false → roomReply r p ≡ 1
+    unfolding roomReply
+    room-masked h = rw (← e, f, g, h)
+
+    pub room-open : hasRoom (p .image) (maskIn l) ≡ true → roomReply r p ≡ 0
+    unfolding roomReply
+    room-open h = rw (← e, f, g, h)
 
 -- ---- a part of the store that is lent
 
@@ -152,32 +155,32 @@ module _ (s : List ℕ) (k : ℕ) (p : Point) where
   took-not n d e = record { reply-is = sym e; store-is = rw (e, ne-eqb n 0 d) }
 
   pub took-done : takeReply s k p ≡ 0 → storeLength ≤ length s → k < pointCount
-      → (n : ℕ) (r : List ℕ) → n ≡ roomLength → r ≡ filled (take n (drop (k * roomLength) s)) p
+      → (n : ℕ) (r : List ℕ) → n ≡ roomLength → r ≡ filled (take n (drop (k * roomLength) s)) (full p)
       → Took s k p 0 (take (k * roomLength) s ++ (r ++ drop n (drop (k * roomLength) s)))
   unfolding taken roomOf
   took-done z h m n r e f = record { reply-is = sym z; store-is = whole ∙ rw z }
     where
-      same : r ≡ filled (roomOf s k) p
-      same = f ∙ ap (λ (l : List ℕ). filled l p) (room-lent s k n h m e)
+      same : r ≡ filled (roomOf s k) (full p)
+      same = f ∙ ap (λ (l : List ℕ). filled l (full p)) (room-lent s k n h m e)
 
       long : length r ≡ n
-      long = ap length same ∙ length-filled (roomOf s k) p ∙ length-part s (k * roomLength) roomLength ∙ sym e
+      long = ap length same ∙ length-filled (roomOf s k) (full p) ∙ length-part s (k * roomLength) roomLength ∙ sym e
 
-      whole : take (k * roomLength) s ++ (r ++ drop n (drop (k * roomLength) s)) ≡ written s (k * roomLength) (filled (roomOf s k) p)
+      whole : take (k * roomLength) s ++ (r ++ drop n (drop (k * roomLength) s)) ≡ written s (k * roomLength) (filled (roomOf s k) (full p))
       whole = written-lent s r (k * roomLength) n long (omega (arith, e)) ∙ ap (written s (k * roomLength)) same
 
   pub back-not : (n : ℕ) → (n ≡ 0 → ⊥) → backReply s k p ≡ n → GoneBack s k p n p
   back-not n d e = record { reply-is = sym e; point-is = rw (e, ne-eqb n 0 d) }
 
-  pub back-done : backReply s k p ≡ 0 → (r : List ℕ) → r ≡ roomOf s k
+  pub back-done : backReply s k p ≡ 0 → length (p .image) ≤ imageLength → (r : List ℕ) → r ≡ roomOf s k
       → suits r (p .baseA) (p .baseB) (octasOf (p .a)) (octasOf (p .b)) ≡ true
       → 8 * octasOf (p .a) ≡ length (p .a) → 8 * octasOf (p .b) ≡ length (p .b)
-      → (l a b : List ℕ) → l ≡ part r 0 imageLength → a ≡ part r aAt (length (p .a)) → b ≡ part r bAt (length (p .b))
+      → (l a b : List ℕ) → l ≡ part r 0 (length (p .image)) → a ≡ part r aAt (length (p .a)) → b ≡ part r bAt (length (p .b))
       → GoneBack s k p 0 (pointIn l (p .baseA) (p .baseB) a b)
   unfolding suits pointOf
-  back-done z r e f wa wb l a b el ea eb = record { reply-is = sym z; point-is = whole ∙ ap pointOf e ∙ rw z }
+  back-done z m r e f wa wb l a b el ea eb = record { reply-is = sym z; point-is = whole ∙ ap (λ (k : List ℕ). atLength (length (p .image)) (pointOf k)) e ∙ rw z }
     where
-      whole : pointIn l (p .baseA) (p .baseB) a b ≡ pointOf r
+      whole : pointIn l (p .baseA) (p .baseB) a b ≡ atLength (length (p .image)) (pointOf r)
       whole =
           let f1 = and-right (eqb (numberAt r 0) (p .baseA)) _ f in
           let f2 = and-right (eqb (numberAt r 1) (p .baseB)) _ f1 in
@@ -187,7 +190,7 @@ module _ (s : List ℕ) (k : ℕ) (p : Point) where
           let n2 : numberAt r 2 ≡ octasOf (p .a) = eqb-true _ _ (and-left (eqb (numberAt r 2) (octasOf (p .a))) _ f2) in
           let n3 : numberAt r 3 ≡ octasOf (p .b) = eqb-true _ _ (and-left (eqb (numberAt r 3) (octasOf (p .b))) _ f3) in
           λ i. record {
-            image = el i;
+            image = (el ∙ sym (part-within r imageLength 0 (length (p .image)) (omega arith))) i;
             baseA = n0 i;
             baseB = n1 i;
             a = (ea ∙ ap (part r aAt) (sym (ap (λ (n : ℕ). 8 * n) n2 ∙ wa))) i;

@@ -13,13 +13,13 @@ use Rattle.model.specs.Step.{unruledBy}
 use Rattle.model.specs.Kept.{pointCount, octasOf, Point}
 use Rattle.model.proofs.Bools.{on}
 use Rattle.model.proofs.Entry.{unruled-is}
-use Rattle.image.specs.Image.{isImage, stateOf}
-use Rattle.store.specs.Store.{storeLength, suits, isTaken, pointOf, roomOf, taken, shapesIn, fromTwo, takeReply, roomReply, backReply, Took, GoneBack}
+use Rattle.image.specs.Image.{isImage, hasRoom, stateOf}
+use Rattle.store.specs.Store.{storeLength, maskIn, suits, isTaken, pointOf, roomOf, taken, shapesIn, fromTwo, takeReply, roomReply, backReply, Took, GoneBack}
 use Rattle.store.specs.Returns.{PointsLeave}
 
--- what a later test answers is 0, 27 or 28
+-- what a later test answers is 0, 1, 27 or 28
 abbrev Room : ℕ → Type 0
-Room n = (n ≡ 0) ⊎ ((n ≡ 27) ⊎ (n ≡ 28))
+Room n = (n ≡ 0) ⊎ ((n ≡ 1) ⊎ ((n ≡ 27) ⊎ (n ≡ 28)))
 
 abbrev Back : ℕ → Type 0
 Back n = (n ≡ 0) ⊎ ((n ≡ 1) ⊎ ((n ≡ 2) ⊎ ((n ≡ 22) ⊎ ((n ≡ 26) ⊎ ((n ≡ 27) ⊎ (n ≡ 28))))))
@@ -30,7 +30,11 @@ Take n = (n ≡ 0) ⊎ ((n ≡ 1) ⊎ ((n ≡ 2) ⊎ ((n ≡ 22) ⊎ ((n ≡ 26)
 room-is : (r : List ℕ) (p : Point) → Room (roomReply r p)
 unfolding roomReply
 room-is r p =
-    on Room (isTaken r) (λ _. on Room (suits r (p .baseA) (p .baseB) (octasOf (p .a)) (octasOf (p .b))) (λ _. inl refl) (λ _. inr (inr refl))) (λ _. inr (inl refl))
+    on Room (isTaken r)
+    (λ _. on Room (suits r (p .baseA) (p .baseB) (octasOf (p .a)) (octasOf (p .b)))
+    (λ _. on Room (hasRoom (p .image) (maskIn r)) (λ _. inl refl) (λ _. inr (inl refl)))
+    (λ _. inr (inr (inr refl))))
+    (λ _. inr (inr (inl refl)))
 
 two-take : (s : List ℕ) (k : ℕ) (w : Shapes) → Take (fromTwo s k w 0)
 unfolding fromTwo
@@ -46,7 +50,8 @@ two-back s k w n h =
     on Back (eqb (unruledBy w) 0)
     (λ _. on Back (ltb (length s) storeLength) (λ _. inr (inr (inr (inr (inl refl)))))
     (λ _. on Back (ltb k pointCount)
-    (λ _. ⊎-elim (λ e. inl e) (⊎-elim (λ e. inr (inr (inr (inr (inr (inl e)))))) (λ e. inr (inr (inr (inr (inr (inr e))))))) h)
+    (λ _. ⊎-elim (λ e. inl e)
+    (⊎-elim (λ e. inr (inl e)) (⊎-elim (λ e. inr (inr (inr (inr (inr (inl e)))))) (λ e. inr (inr (inr (inr (inr (inr e)))))))) h)
     (λ _. inr (inr (inr (inr (inr (inl refl))))))))
     (λ _. ⊎-elim (λ e. inl e) (⊎-elim (λ e. inr (inr (inl e))) (λ e. inr (inr (inr (inl e))))) (unruled-is w))
 

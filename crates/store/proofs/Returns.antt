@@ -1,24 +1,30 @@
 -- Lists of calls: what was taken last is given back.
 use mathlib.Core.Path.{_≡_, refl, sym, ap, _∙_}
-use mathlib.Core.Bool.{true, false, cond, _&&_}
+use mathlib.Core.Logic.{⊎-elim}
+use mathlib.Core.Bool.{Bool, true, false, cond, _&&_}
 use mathlib.Core.List.{List, [], _∷_, _++_}
 use Prim.Native.Nat.{ℕ, _+_, _/_, _≤_, _<_}
 use native.Mathlib.Omega.{arith}
 use lib.Dec.{ltb, eqb}
 use lib.ListN.{length, getD}
-use borrow.Author.Tests.{eqb-true, eqb-false, ltb-true, ltb-false}
+use borrow.Author.Tests.{eq-eqb, eqb-true, eqb-false, ltb-true, ltb-false}
 use Rattle.model.specs.Octa.{part}
 use Rattle.model.specs.Memory.{Shapes, shapeOf, shapesOf}
 use Rattle.model.specs.Registers.{admissible}
 use Rattle.model.specs.Step.{unruledBy}
-use Rattle.model.specs.Kept.{pointCount, imageLength, octasOf, Point, Fits}
+use Rattle.model.specs.Kept.{pointCount, imageLength, oldImageLength, octasOf, Point, pointIn, atLength, full, Fits}
+use Rattle.model.specs.declared.State.{State}
 use Rattle.model.proofs.Bools.{on, and-right}
-use Rattle.image.specs.Image.{isImage, stateOf}
-use Rattle.store.specs.Store.{roomLength, storeLength, numbersOf, filled, suits, pointOf, roomOf, taken, shapesIn, fromTwo, takeReply, roomReply, backReply, Took, GoneBack}
+use Rattle.model.proofs.Slices.{part-all, part-within}
+use Rattle.image.specs.Image.{isImage, hasRoom, stateOf}
+use Rattle.image.proofs.Coded.{either, at-most, room-new, room-old}
+use Rattle.image.proofs.RoundTrips.{keeps-length}
+use Rattle.image.proofs.Fronts.{state-full, state-at}
+use Rattle.store.specs.Store.{roomLength, storeLength, numbersOf, filled, maskIn, suits, pointOf, roomOf, taken, shapesIn, fromTwo, takeReply, roomReply, backReply, Took, GoneBack}
 use Rattle.store.specs.Returns.{Call, took, back, other, leftBy, Meets, Chain, lastStore, Spares, NoneTaken, TakenLast, LentAs, Returns}
 use Rattle.store.proofs.Rooms.{image-back, number-back, point-back, taken-back, behind-a, behind-b}
 use Rattle.store.proofs.Stores.{length-room, length-taken, room-same, room-other, beyond}
-use Rattle.store.proofs.Answers.{image-long, lent-fits, same-shape, two-open, back-two, room-open}
+use Rattle.store.proofs.Answers.{lent-fits, same-shape, two-open, back-two, room-masked, room-open}
 
 -- ---- a point that was taken
 
@@ -45,8 +51,8 @@ passed s k p =
     none : eqb (unruledBy (shapesIn p)) 0 ≡ false → unruledBy (shapesIn p) ≡ 0 → ⊥
     none b h = eqb-false _ _ b h
 
-pub fits : (s : List ℕ) (k : ℕ) (p : Point) → Passed s k p → Fits p
-fits s k p g = lent-fits p (image-long (p .image) (g .image-is)) 0 (sym (g .ruled-is)) refl
+pub fits : (s : List ℕ) (k : ℕ) (p : Point) → Passed s k p → Fits (full p)
+fits s k p g = lent-fits p 0 (sym (g .ruled-is)) refl
 
 -- ---- one call
 
@@ -106,16 +112,21 @@ later-store s (c ∷ ds) bs = later-store (leftBy s c) ds bs
 
 -- ---- going back
 
-module _ (r : List ℕ) (q p : Point) (h : length r ≡ roomLength) (f : Fits q) (e : LentAs q p) where
-  suited : admissible (stateOf (q .image)) ≡ true → suits (filled r q) (p .baseA) (p .baseB) (octasOf (p .a)) (octasOf (p .b)) ≡ true
+-- the room r with q in it, as it is kept, and p, which is lent
+module _ (r : List ℕ) (q p : Point) (h : length r ≡ roomLength) (f : Fits (full q)) (e : LentAs q p) where
+  suited : admissible (stateOf (q .image)) ≡ true → suits (filled r (full q)) (p .baseA) (p .baseB) (octasOf (p .a)) (octasOf (p .b)) ≡ true
   unfolding numbersOf
   suited a =
-      sym (same-shape (filled r q) (p .baseA) (p .baseB) (octasOf (p .a)) (octasOf (p .b))
-      (number-back r q h f 0 (omega arith) (f .base-a) ∙ sym (e .base-a))
-      (number-back r q h f 1 (omega arith) (f .base-b) ∙ sym (e .base-b))
-      (number-back r q h f 2 (omega arith) (omega (arith, f .long-a)) ∙ ap (λ (n : ℕ). n / 8) (sym (e .long-a)))
-      (number-back r q h f 3 (omega arith) (omega (arith, f .long-b)) ∙ ap (λ (n : ℕ). n / 8) (sym (e .long-b))))
-      ∙ ap (λ (l : List ℕ). admissible (stateOf l)) (image-back r q h f) ∙ a
+      sym (same-shape (filled r (full q)) (p .baseA) (p .baseB) (octasOf (p .a)) (octasOf (p .b))
+      (number-back r (full q) h f 0 (omega arith) (f .base-a) ∙ sym (e .base-a))
+      (number-back r (full q) h f 1 (omega arith) (f .base-b) ∙ sym (e .base-b))
+      (number-back r (full q) h f 2 (omega arith) (omega (arith, f .long-a)) ∙ ap (λ (n : ℕ). n / 8) (sym (e .long-a)))
+      (number-back r (full q) h f 3 (omega arith) (omega (arith, f .long-b)) ∙ ap (λ (n : ℕ). n / 8) (sym (e .long-b))))
+      ∙ ap (λ (l : List ℕ). admissible (stateOf l)) (image-back r (full q) h f) ∙ ap admissible (state-full (q .image)) ∙ a
+
+  masked-as : maskIn (filled r (full q)) ≡ stateOf (q .image) .mask
+  unfolding maskIn
+  masked-as = ap (λ (l : List ℕ). stateOf l .mask) (image-back r (full q) h f) ∙ ap (λ (s : State). s .mask) (state-full (q .image))
 
 -- windows lent at the same bases and lengths have the same shapes
 same-shapes : (q p : Point) → LentAs q p → shapesIn p ≡ shapesIn q
@@ -123,22 +134,52 @@ unfolding shapesOf shapeOf
 same-shapes q p e = λ i. record { a = record { from = e .base-a i; size = e .long-a i }; b = record { from = e .base-b i; size = e .long-b i } }
 
 -- the store u, whose room j is as it was when q was taken into s
-given-back : (s u : List ℕ) (j : ℕ) (q p : Point) → Passed s j q → length u ≡ length s → roomOf u j ≡ filled (roomOf s j) q → LentAs q p
-    → (n : ℕ) (t : Point) → GoneBack u j p n t → (n ≡ 0) × (t ≡ q)
-given-back s u j q p g l e lent n t d =
-    let f : Fits q = fits s j q g in
-    let h : length (roomOf s j) ≡ roomLength = length-room s j in
-    let z : backReply u j p ≡ 0 =
-    back-two u j p (lent .image-long) 0
-    (two-open u j (shapesIn p) (roomReply (roomOf u j) p) 0 (sym (ap unruledBy (same-shapes q p lent) ∙ g .ruled-is)) refl (omega (arith, g .long)) (g .named)
-    ∙ room-open (filled (roomOf s j) q) (roomOf u j) (sym e) p (taken-back (roomOf s j) q h f)
-    (suited (roomOf s j) q p h f lent (and-right (isImage (q .image)) _ (g .image-is)))) in
-    (d .reply-is ∙ z, d .point-is ∙ ap (λ (m : ℕ). cond (eqb m 0) (pointOf (roomOf u j)) p) z ∙ ap pointOf e ∙ point-back (roomOf s j) q h f)
+module _ (s u : List ℕ) (j : ℕ) (q p : Point) (g : Passed s j q) (l : length u ≡ length s) (e : roomOf u j ≡ filled (roomOf s j) (full q)) (lent : LentAs q p) where
+  open-room : (n : ℕ) → roomReply (roomOf u j) p ≡ n → backReply u j p ≡ n
+  open-room n d =
+      back-two u j p (lent .image-is) n
+      (two-open u j (shapesIn p) (roomReply (roomOf u j) p) 0 (sym (ap unruledBy (same-shapes q p lent) ∙ g .ruled-is)) refl (omega (arith, g .long)) (g .named) ∙ d)
 
-gives-back : (s : List ℕ) (cs : List Call) → Chain s cs → (j : ℕ) (q : Point) → TakenLast j q cs
-    → (p : Point) → LentAs q p → (n : ℕ) (t : Point) → GoneBack (lastStore s cs) j p n t → (n ≡ 0) × (t ≡ q)
+  fit : Fits (full q)
+  fit = fits s j q g
+
+  held : length (roomOf s j) ≡ roomLength
+  held = length-room s j
+
+  admitted : suits (filled (roomOf s j) (full q)) (p .baseA) (p .baseB) (octasOf (p .a)) (octasOf (p .b)) ≡ true
+  admitted = suited (roomOf s j) q p held fit lent (and-right (isImage (q .image)) _ (g .image-is))
+
+  kept-mask : (t : Bool) → hasRoom (p .image) (stateOf (q .image) .mask) ≡ t → hasRoom (p .image) (maskIn (filled (roomOf s j) (full q))) ≡ t
+  kept-mask t d = ap (hasRoom (p .image)) (masked-as (roomOf s j) q p held fit lent) ∙ d
+
+  given-at : hasRoom (p .image) (stateOf (q .image) .mask) ≡ true
+      → (n : ℕ) (t : Point) → GoneBack u j p n t → (n ≡ 0) × ((t ≡ atLength (length (p .image)) q) × (stateOf (t .image) ≡ stateOf (q .image)))
+  given-at m n t d =
+      let z : backReply u j p ≡ 0 =
+      open-room 0 (room-open (filled (roomOf s j) (full q)) (roomOf u j) (sym e) p (taken-back (roomOf s j) (full q) held fit) admitted (kept-mask true m)) in
+      let is : t ≡ atLength (length (p .image)) q =
+      d .point-is ∙ ap (λ (m : ℕ). cond (eqb m 0) (atLength (length (p .image)) (pointOf (roomOf u j))) p) z
+      ∙ ap (λ (r : List ℕ). atLength (length (p .image)) (pointOf r)) e
+      ∙ ap (atLength (length (p .image))) (point-back (roomOf s j) (full q) held fit)
+      ∙ ap (λ (i : List ℕ). pointIn i (q .baseA) (q .baseB) (q .a) (q .b)) (part-within (q .image) imageLength 0 (length (p .image)) (omega (arith, at-most (p .image) (lent .image-is)))) in
+      (d .reply-is ∙ z, (is, ap (λ (x : Point). stateOf (x .image)) is ∙ state-at (q .image) (p .image) m))
+
+  given-not : hasRoom (p .image) (stateOf (q .image) .mask) ≡ false → (n : ℕ) (t : Point) → GoneBack u j p n t → (n ≡ 1) × (t ≡ p)
+  given-not m n t d =
+      let z : backReply u j p ≡ 1 =
+      open-room 1 (room-masked (filled (roomOf s j) (full q)) (roomOf u j) (sym e) p (taken-back (roomOf s j) (full q) held fit) admitted (kept-mask false m)) in
+      (d .reply-is ∙ z, d .point-is ∙ ap (λ (m : ℕ). cond (eqb m 0) (atLength (length (p .image)) (pointOf (roomOf u j))) p) z)
+
+-- what was taken last is in its room
+pub record InRoom (u : List ℕ) (j : ℕ) (q : Point) : Type 0 where
+  pub from : List ℕ
+  pub passes : Passed from j q
+  pub as-long : length u ≡ length from
+  pub room-is : roomOf u j ≡ filled (roomOf from j) (full q)
+
+last-in : (s : List ℕ) (cs : List Call) → Chain s cs → (j : ℕ) (q : Point) → TakenLast j q cs → InRoom (lastStore s cs) j q
 unfolding Chain Meets lastStore leftBy
-gives-back s cs ch j q l p lent n t d =
+last-in s cs ch j q l =
     let v : List ℕ = lastStore s (l .before) in
     let w : List ℕ = l .store in
     let all : Chain s (l .before ++ (took j q 0 w ∷ l .after)) = rw (← l .calls-are) ch in
@@ -147,15 +188,41 @@ gives-back s cs ch j q l p lent n t d =
     let g : Passed v j q = passed v j q z in
     let is : w ≡ taken v j q = here .0 .store-is ∙ ap (λ (m : ℕ). cond (eqb m 0) (taken v j q) v) z in
     let u : lastStore s cs ≡ lastStore w (l .after) = ap (lastStore s) (l .calls-are) ∙ later-store s (l .before) (took j q 0 w ∷ l .after) in
-    let room : roomOf (lastStore s cs) j ≡ filled (roomOf v j) q =
-    ap (λ (x : List ℕ). roomOf x j) u ∙ untouched w (l .after) (here .1) j (g .named) (l .none-later)
-    ∙ ap (λ (x : List ℕ). roomOf x j) is ∙ room-same v j q (g .long) (g .named) in
-    let size : length (lastStore s cs) ≡ length v = ap length u ∙ long w (l .after) (here .1) ∙ ap length is ∙ length-taken v j q in
-    given-back v (lastStore s cs) j q p g size room lent n t d
+    record {
+      from = v;
+      passes = g;
+      as-long = ap length u ∙ long w (l .after) (here .1) ∙ ap length is ∙ length-taken v j q;
+      room-is = ap (λ (x : List ℕ). roomOf x j) u ∙ untouched w (l .after) (here .1) j (g .named) (l .none-later)
+          ∙ ap (λ (x : List ℕ). roomOf x j) is ∙ room-same v j q (g .long) (g .named);
+    }
+
+-- an image as long as that which was taken has room for its mask
+room-as : (k l : List ℕ) → isImage k ≡ true → length k ≡ length l → hasRoom k (stateOf l .mask) ≡ true
+room-as k l e n = ⊎-elim (λ a. room-new k _ a) (λ a. room-old k _ a ∙ eq-eqb _ 0 (keeps-length .old-mask l (eq-eqb (length l) oldImageLength (sym n ∙ a)))) (either k e)
+
+-- and is given back whole
+same-length : (n : ℕ) (q : Point) → n ≡ length (q .image) → atLength n q ≡ q
+same-length n q e = ap (λ (i : List ℕ). pointIn i (q .baseA) (q .baseB) (q .a) (q .b)) (ap (part (q .image) 0) e ∙ part-all (q .image))
+
+module _ (s : List ℕ) (cs : List Call) (ch : Chain s cs) (j : ℕ) (q : Point) (l : TakenLast j q cs) (p : Point) (lent : LentAs q p) where
+  gives-at : hasRoom (p .image) (stateOf (q .image) .mask) ≡ true
+      → (n : ℕ) (t : Point) → GoneBack (lastStore s cs) j p n t
+      → (n ≡ 0) × ((t ≡ atLength (length (p .image)) q) × (stateOf (t .image) ≡ stateOf (q .image)))
+  gives-at m n t d = let i = last-in s cs ch j q l in given-at (i .from) (lastStore s cs) j q p (i .passes) (i .as-long) (i .room-is) lent m n t d
+
+  gives-not : hasRoom (p .image) (stateOf (q .image) .mask) ≡ false → (n : ℕ) (t : Point) → GoneBack (lastStore s cs) j p n t → (n ≡ 1) × (t ≡ p)
+  gives-not m n t d = let i = last-in s cs ch j q l in given-not (i .from) (lastStore s cs) j q p (i .passes) (i .as-long) (i .room-is) lent m n t d
+
+  gives-back : length (p .image) ≡ length (q .image) → (n : ℕ) (t : Point) → GoneBack (lastStore s cs) j p n t → (n ≡ 0) × (t ≡ q)
+  gives-back e n t d =
+      let g = gives-at (room-as (p .image) (q .image) (lent .image-is) e) n t d in
+      (g .0, g .1 .0 ∙ same-length (length (p .image)) q e)
 
 pub returns : Returns
 returns = record {
   gives-back = gives-back;
+  gives-at = gives-at;
+  gives-not = gives-not;
   untouched = untouched;
   behind = behind;
   long = long;

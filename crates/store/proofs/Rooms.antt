@@ -1,16 +1,19 @@
 -- A room: filled, and read back; what a fill leaves.
 use mathlib.Core.Path.{_≡_, refl, sym, ap, _∙_}
 use mathlib.Core.Bool.{true}
-use mathlib.Core.List.{List}
-use mathlib.Core.Logic.{inl}
-use Prim.Native.Nat.{ℕ, _+_, _*_, _≤_, _<_, _^_}
+use mathlib.Core.List.{List, [], _∷_}
+use mathlib.Core.Logic.{_⊎_, inl, inr}
+use Prim.Native.Nat.{ℕ, _+_, _-_, _*_, _≤_, _<_, _^_}
 use native.Mathlib.Omega.{arith}
-use lib.ListN.{length, getD}
-use Rattle.model.specs.Octa.{part, written, valueOf}
+use lib.ListN.{length, getD, replicate, getD-replicate, List·getD-eq-default}
+use lib.Seq.{ext-getD}
+use Rattle.model.specs.Octa.{part, written, valueOf, bytesOf}
 use Rattle.model.specs.Memory.{windowMax}
-use Rattle.model.specs.Kept.{imageLength, Point, Fits}
+use Rattle.model.specs.Kept.{imageLength, oldImageLength, Point, Fits}
+use Rattle.model.proofs.Fill.{lt-or-le}
+use Rattle.model.proofs.Bytes.{getD-part}
 use Rattle.model.proofs.Octa.{length-written, written-below, written-above, part-written, value-bytes}
-use Rattle.model.proofs.Slices.{part-apart, part-inside, written-again}
+use Rattle.model.proofs.Slices.{length-part, part-apart, written-inside, part-inside, written-again}
 use Rattle.machine.specs.Octabytes.{flat}
 use Rattle.machine.proofs.OctabyteRuns.{length-flat}
 use Rattle.image.proofs.RoundTrips.{part-flat}
@@ -127,6 +130,47 @@ module _ (r : List ℕ) (p : Point) where
     pub taken-back : isTaken (filled r p) ≡ true
     unfolding isTaken numbersOf
     taken-back = rw (number-back 4 (omega arith) (omega arith))
+
+-- the mask's octabyte is 0 and then the image comes, old or not: the image with the mask
+flat-zero : flat (0 ∷ []) ≡ replicate 8 0
+unfolding flat bytesOf
+flat-zero = refl
+
+pub mask-first : (r l : List ℕ) → oldImageLength ≤ length l → length l ≤ imageLength → imageLength ≤ length r
+    → written (written r oldImageLength (flat (0 ∷ []))) 0 l ≡ written r 0 (part l 0 imageLength)
+mask-first r l a b h =
+    ext-getD 0 (written cleared 0 l) (written r 0 (part l 0 imageLength)) (length-written cleared 0 l ∙ long ∙ sym (length-written r 0 (part l 0 imageLength)))
+    (λ i m. at i (lt-or-le i (length l)) (lt-or-le i imageLength))
+  where
+    cleared : List ℕ
+    cleared = written r oldImageLength (flat (0 ∷ []))
+
+    long : length cleared ≡ length r
+    long = length-written r oldImageLength (flat (0 ∷ []))
+
+    full-at : (i : ℕ) → i < imageLength → getD (written r 0 (part l 0 imageLength)) i 0 ≡ getD l i 0
+    full-at i m =
+        let e : 0 + i ≡ i = omega arith in
+        let n : length (part l 0 imageLength) ≡ imageLength = length-part l 0 imageLength in
+        rw e at (written-inside r 0 (part l 0 imageLength) i (omega arith) (omega arith) ∙ getD-part l 0 imageLength i m)
+
+    at : (i : ℕ) → (i < length l) ⊎ (length l ≤ i) → (i < imageLength) ⊎ (imageLength ≤ i)
+        → getD (written cleared 0 l) i 0 ≡ getD (written r 0 (part l 0 imageLength)) i 0
+    at i (inl m) q =
+        let e : 0 + i ≡ i = omega arith in
+        rw e at (written-inside cleared 0 l i (omega (arith, long)) m) ∙ sym (full-at i (omega arith))
+    at i (inr m) (inl q) =
+        let e : oldImageLength + (i - oldImageLength) ≡ i = omega arith in
+        let n : length (flat (0 ∷ [])) ≡ 8 = length-flat (0 ∷ []) in
+        written-above cleared 0 l i (omega arith)
+        ∙ rw e at (written-inside r oldImageLength (flat (0 ∷ [])) (i - oldImageLength) (omega arith) (omega arith))
+        ∙ ap (λ (z : List ℕ). getD z (i - oldImageLength) 0) flat-zero
+        ∙ getD-replicate 8 (i - oldImageLength) 0 0 (omega arith)
+        ∙ sym (full-at i q ∙ List·getD-eq-default l 0 m)
+    at i (inr m) (inr q) =
+        written-above cleared 0 l i (omega arith)
+        ∙ written-above r oldImageLength (flat (0 ∷ [])) i (omega (arith, length-flat (0 ∷ [])))
+        ∙ sym (written-above r 0 (part l 0 imageLength) i (omega (arith, length-part l 0 imageLength)))
 
 -- filled with the same point again it is as it was
 pub filled-again : (r : List ℕ) (p : Point) → length r ≡ roomLength → Fits p → filled (filled r p) p ≡ filled r p

@@ -1,13 +1,13 @@
 // A point's room: filled from an image and two windows, judged, and read back. Bytes are copied, not decoded.
 ghost use mathlib.Core.Path.{_≡_};
-ghost use mathlib.Core.Bool.{true, _&&_};
+ghost use mathlib.Core.Bool.{_&&_};
 ghost use Prim.Native.Nat.{_+_, _*_, _/_, _≤_, _<_};
 ghost use lib.ListN.{length};
 ghost use lib.Dec.{eqb};
 ghost use Rattle.model.specs.Octa.{part, written, valueOf};
 ghost use Rattle.model.specs.Memory.{windowMax};
 ghost use Rattle.model.specs.Registers.{admissible};
-ghost use Rattle.model.specs.Kept.{octasOf, pointIn, full};
+ghost use Rattle.model.specs.Kept.{imageLength, oldImageLength, octasOf, pointIn, full};
 ghost use Rattle.image.specs.Image.{isImage, hasRoom, stateOf};
 ghost use Rattle.store.specs.Store.{aAt, bAt, roomLength, numberAt, isTaken, filled, maskIn, suits};
 use image::IMAGE_LEN;
@@ -53,7 +53,8 @@ fn copy_out(from: &[u8], at: usize, to: &mut [u8])
 
 /// Each place is filled from its front; the mask is 0 before the image comes, since an old one leaves it.
 pub(crate) fn fill(room: &mut [u8], at: Bases, image: &[u8], a: &[u8], b: &[u8])
-    requires { ⌜ (length (now room) ≡ roomLength) × (isImage (now image) ≡ true) × (length (now a) ≤ windowMax) × (length (now b) ≤ windowMax) ⌝ }
+    requires { ⌜ (length (now room) ≡ roomLength) × (oldImageLength ≤ length (now image)) × (length (now image) ≤ imageLength)
+        × (length (now a) ≤ windowMax) × (length (now b) ≤ windowMax) ⌝ }
     ensures { λ _. ⌜ now (room .exit) ≡ filled (now (room .entry)) (full (pointIn (now (image .entry)) (at .a) (at .b) (now (a .entry)) (now (b .entry)))) ⌝ }
 {
     let mask = [0u64; 1];
@@ -138,7 +139,7 @@ pub(crate) fn mask_fits(room: &[u8], image: &[u8]) -> bool
 
 /// Image and windows become the room's, an old image without the mask.
 pub(crate) fn restore(room: &[u8], image: &mut [u8], a: &mut [u8], b: &mut [u8])
-    requires { ⌜ (length (now room) ≡ roomLength) × (isImage (now image) ≡ true) × (length (now a) ≤ windowMax) × (length (now b) ≤ windowMax) ⌝ }
+    requires { ⌜ (length (now room) ≡ roomLength) × (length (now image) ≤ imageLength) × (length (now a) ≤ windowMax) × (length (now b) ≤ windowMax) ⌝ }
     ensures { λ _. ⌜ (now (image .exit) ≡ part (now (room .entry)) 0 (length (now (image .entry))))
         × (now (a .exit) ≡ part (now (room .entry)) aAt (length (now (a .entry))))
         × (now (b .exit) ≡ part (now (room .entry)) bAt (length (now (b .entry)))) ⌝ }

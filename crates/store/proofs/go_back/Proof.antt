@@ -2,33 +2,31 @@
 use mathlib.Core.Path.{_∙_}
 use Prim.Native.Nat.{_+_, _-_, _*_}
 use native.Mathlib.Omega.{arith}
-use borrow.Author.Needs.{needs}
 use Rattle.store.specs.Store.{roomLength}
 use Rattle.model.specs.Numbers.{numberOf}
-use Rattle.model.specs.Kept.{pointIn, Fits}
+use Rattle.model.specs.Kept.{pointIn, full, Fits}
 use Rattle.model.proofs.Bools.{denied, granted}
-use Rattle.store.proofs.Answers.{lent-fits, shared-left, two-unruled, two-short, two-name, two-open, back-one, back-two, room-none, room-unlike, room-open, room-lent, back-not, back-done}
+use Rattle.image.proofs.Coded.{at-most}
+use Rattle.store.proofs.Answers.{lent-fits, shared-left, two-unruled, two-short, two-name, two-open, back-one, back-two, room-none, room-unlike, room-masked, room-open, room-lent, back-not, back-done}
+use borrow.Author.Needs.{needs}
 use Rattle.store.proofs.go_back.Statement.{statement}
 use Rattle.store.proofs.go_back.Tie as tie
 
-returns : tie.Need-returns
-unfolding numberOf
-returns c = back-not _ _ _ 1 (λ z. omega arith) (back-one _ _ _ (λ e. omega arith))
-
-windows-refusal-requires : tie.Need-windows-refusal-requires
-windows-refusal-requires c κs = search needs
+is-image-requires : tie.Need-is-image-requires
+is-image-requires c κs = search needs
 
 same-length : tie.Need-same-length
 same-length c = search needs
 
+returns : tie.Need-returns
+unfolding numberOf
+returns c = back-not _ _ _ 1 (λ z. omega arith) (back-one _ _ _ (denied _ _ (c .before .is-image .ensures) (c .if1 .taken)))
+
+windows-refusal-requires : tie.Need-windows-refusal-requires
+windows-refusal-requires c κs = search needs
+
 same-length-2 : tie.Need-same-length-2
 same-length-2 c = search needs
-
-returns-2 : tie.Need-returns-2
-unfolding numberOf
-returns-2 c =
-    back-not _ _ _ 2 (λ z. omega arith)
-    (back-two _ _ _ (omega arith) 2 (two-unruled _ _ _ _ _ (c .before .windows-refusal .ensures) (λ z. omega arith) ∙ c .if2 .taken))
 
 same-length-3 : tie.Need-same-length-3
 same-length-3 c = search needs
@@ -36,14 +34,14 @@ same-length-3 c = search needs
 same-length-4 : tie.Need-same-length-4
 same-length-4 c = search needs
 
-returns-3 : tie.Need-returns-3
+returns-2 : tie.Need-returns-2
 unfolding numberOf
-returns-3 c =
-    let windows = c .before .before in
-    back-not _ _ _ 22 (λ z. omega arith)
-    (back-two _ _ _ (omega arith) 22
-    (two-unruled _ _ _ _ _ (windows .windows-refusal .ensures) (c .if3 .taken)
-    ∙ shared-left _ _ (windows .windows-refusal .ensures) (c .before .if2 .left) (c .if3 .taken)))
+returns-2 c =
+    let windows = c .before in
+    let images = windows .before .before .before in
+    let is = granted _ _ (images .before .is-image .ensures) (images .if1 .left) in
+    back-not _ _ _ 2 (λ z. omega arith)
+    (back-two _ _ _ is 2 (two-unruled _ _ _ _ _ (windows .windows-refusal .ensures) (λ z. omega arith) ∙ c .if2 .taken))
 
 same-length-5 : tie.Need-same-length-5
 same-length-5 c = search needs
@@ -51,25 +49,55 @@ same-length-5 c = search needs
 same-length-6 : tie.Need-same-length-6
 same-length-6 c = search needs
 
+same-length-7 : tie.Need-same-length-7
+same-length-7 c = search needs
+
+returns-3 : tie.Need-returns-3
+unfolding numberOf
+returns-3 c =
+    let windows = c .before .before in
+    let images = windows .before .before .before in
+    let is = granted _ _ (images .before .is-image .ensures) (images .if1 .left) in
+    back-not _ _ _ 22 (λ z. omega arith)
+    (back-two _ _ _ is 22
+    (two-unruled _ _ _ _ _ (windows .windows-refusal .ensures) (c .if3 .taken)
+    ∙ shared-left _ _ (windows .windows-refusal .ensures) (c .before .if2 .left) (c .if3 .taken)))
+
+same-length-8 : tie.Need-same-length-8
+same-length-8 c = search needs
+
+same-length-9 : tie.Need-same-length-9
+same-length-9 c = search needs
+
+same-length-10 : tie.Need-same-length-10
+same-length-10 c = search needs
+
 returns-4 : tie.Need-returns-4
 unfolding numberOf
 returns-4 c =
     let windows = c .before .before .before in
+    let images = windows .before .before .before in
+    let is = granted _ _ (images .before .is-image .ensures) (images .if1 .left) in
     back-not _ _ _ 26 (λ z. omega arith)
-    (back-two _ _ _ (omega arith) 26 (two-short _ _ _ _ _ (windows .windows-refusal .ensures) (c .before .if3 .left) (omega arith)))
+    (back-two _ _ _ is 26 (two-short _ _ _ _ _ (windows .windows-refusal .ensures) (c .before .if3 .left) (omega arith)))
 
-same-length-7 : tie.Need-same-length-7
-same-length-7 c = search needs
+same-length-11 : tie.Need-same-length-11
+same-length-11 c = search needs
 
-same-length-8 : tie.Need-same-length-8
-same-length-8 c = search needs
+same-length-12 : tie.Need-same-length-12
+same-length-12 c = search needs
+
+same-length-13 : tie.Need-same-length-13
+same-length-13 c = search needs
 
 returns-5 : tie.Need-returns-5
 unfolding numberOf
 returns-5 c =
     let windows = c .before .before .before .before in
+    let images = windows .before .before .before in
+    let is = granted _ _ (images .before .is-image .ensures) (images .if1 .left) in
     back-not _ _ _ 27 (λ z. omega arith)
-    (back-two _ _ _ (omega arith) 27 (two-name _ _ _ _ _ (windows .windows-refusal .ensures) (c .before .before .if3 .left) (omega arith) (omega arith)))
+    (back-two _ _ _ is 27 (two-name _ _ _ _ _ (windows .windows-refusal .ensures) (c .before .before .if3 .left) (omega arith) (omega arith)))
 
 mul-start : tie.Need-mul-start
 mul-start c = search needs
@@ -89,100 +117,149 @@ part-room-end c = search needs
 is-taken-requires : tie.Need-is-taken-requires
 is-taken-requires c κs = search needs
 
-same-length-9 : tie.Need-same-length-9
-same-length-9 c = search needs
-
-same-length-10 : tie.Need-same-length-10
-same-length-10 c = search needs
-
-returns-6 : tie.Need-returns-6
-unfolding numberOf
-returns-6 c =
-    let found = c .before in
-    let windows = found .before .before .before .before .before .before in
-    let a = windows .before .before .before .before .before .before .before .before .args in
-    let room = room-lent (a .store .now) (a .name) (a .name * roomLength + roomLength - a .name * roomLength) (omega arith) (omega arith) (omega arith) in
-    back-not _ _ _ 27 (λ z. omega arith)
-    (back-two _ _ _ (omega arith) 27
-    (two-open _ _ _ _ _ (windows .windows-refusal .ensures) (found .before .before .before .before .if3 .left) (omega arith) (omega arith)
-    ∙ room-none _ _ room _ (denied _ _ (found .is-taken .ensures) (c .if6 .taken))))
-
-suits-requires : tie.Need-suits-requires
-suits-requires c κs = search needs
-
-same-length-11 : tie.Need-same-length-11
-same-length-11 c = search needs
-
-same-length-12 : tie.Need-same-length-12
-same-length-12 c = search needs
-
-returns-7 : tie.Need-returns-7
-unfolding numberOf
-returns-7 c =
-    let taken = c .before .before .before .before in
-    let windows = taken .before .before .before .before .before .before .before in
-    let a = windows .before .before .before .before .before .before .before .before .args in
-    let room = room-lent (a .store .now) (a .name) (a .name * roomLength + roomLength - a .name * roomLength) (omega arith) (omega arith) (omega arith) in
-    back-not _ _ _ 28 (λ z. omega arith)
-    (back-two _ _ _ (omega arith) 28
-    (two-open _ _ _ _ _ (windows .windows-refusal .ensures) (taken .before .before .before .before .before .if3 .left) (omega arith) (omega arith)
-    ∙ room-unlike _ _ room _ (granted _ _ (taken .before .is-taken .ensures) (taken .if6 .left)) (denied _ _ (c .before .suits .ensures) (c .if7 .taken))))
-
-restore-requires : tie.Need-restore-requires
-restore-requires c κs =
-    let suited = c .before .before .before in
-    let taken = suited .before .before .before .before in
-    let windows = taken .before .before .before .before .before .before .before in
-    let a = windows .before .before .before .before .before .before .before .before .args in
-    let fits : Fits (pointIn (a .image .now) (a .at .a) (a .at .b) (a .a .now) (a .b .now))
-    = lent-fits _ (omega arith) _ (windows .windows-refusal .ensures) (taken .before .before .before .before .before .if3 .left) in
-    (search needs, fits .image-long, fits .long-a, fits .long-b)
-
-same-length-13 : tie.Need-same-length-13
-same-length-13 c = search needs
-
 same-length-14 : tie.Need-same-length-14
 same-length-14 c = search needs
 
 same-length-15 : tie.Need-same-length-15
 same-length-15 c = search needs
 
+same-length-16 : tie.Need-same-length-16
+same-length-16 c = search needs
+
+returns-6 : tie.Need-returns-6
+unfolding numberOf
+returns-6 c =
+    let found = c .before in
+    let windows = found .before .before .before .before .before .before in
+    let images = windows .before .before .before in
+    let is = granted _ _ (images .before .is-image .ensures) (images .if1 .left) in
+    let a = images .before .before .before .before .before .before .before .args in
+    let room = room-lent (a .store .now) (a .name) (a .name * roomLength + roomLength - a .name * roomLength) (omega arith) (omega arith) (omega arith) in
+    back-not _ _ _ 27 (λ z. omega arith)
+    (back-two _ _ _ is 27
+    (two-open _ _ _ _ _ (windows .windows-refusal .ensures) (found .before .before .before .before .if3 .left) (omega arith) (omega arith)
+    ∙ room-none _ _ room _ (denied _ _ (found .is-taken .ensures) (c .if6 .taken))))
+
+suits-requires : tie.Need-suits-requires
+suits-requires c κs = search needs
+
+same-length-17 : tie.Need-same-length-17
+same-length-17 c = search needs
+
+same-length-18 : tie.Need-same-length-18
+same-length-18 c = search needs
+
+same-length-19 : tie.Need-same-length-19
+same-length-19 c = search needs
+
+returns-7 : tie.Need-returns-7
+unfolding numberOf
+returns-7 c =
+    let taken = c .before .before .before .before in
+    let windows = taken .before .before .before .before .before .before .before in
+    let images = windows .before .before .before in
+    let is = granted _ _ (images .before .is-image .ensures) (images .if1 .left) in
+    let a = images .before .before .before .before .before .before .before .args in
+    let room = room-lent (a .store .now) (a .name) (a .name * roomLength + roomLength - a .name * roomLength) (omega arith) (omega arith) (omega arith) in
+    back-not _ _ _ 28 (λ z. omega arith)
+    (back-two _ _ _ is 28
+    (two-open _ _ _ _ _ (windows .windows-refusal .ensures) (taken .before .before .before .before .before .if3 .left) (omega arith) (omega arith)
+    ∙ room-unlike _ _ room _ (granted _ _ (taken .before .is-taken .ensures) (taken .if6 .left)) (denied _ _ (c .before .suits .ensures) (c .if7 .taken))))
+
+mask-fits-requires : tie.Need-mask-fits-requires
+mask-fits-requires c κs = search needs
+
+same-length-20 : tie.Need-same-length-20
+same-length-20 c = search needs
+
+same-length-21 : tie.Need-same-length-21
+same-length-21 c = search needs
+
+same-length-22 : tie.Need-same-length-22
+same-length-22 c = search needs
+
 returns-8 : tie.Need-returns-8
 unfolding numberOf
 returns-8 c =
-    let restoring = c .before .before .before .before .before .before in
-    let suited = restoring .before .before .before .before in
+    let suited = c .before .before .before in
     let taken = suited .before .before .before .before in
     let windows = taken .before .before .before .before .before .before .before in
-    let a = windows .before .before .before .before .before .before .before .before .args in
+    let images = windows .before .before .before in
+    let is = granted _ _ (images .before .is-image .ensures) (images .if1 .left) in
+    let a = images .before .before .before .before .before .before .before .args in
     let room = room-lent (a .store .now) (a .name) (a .name * roomLength + roomLength - a .name * roomLength) (omega arith) (omega arith) (omega arith) in
-    let fits : Fits (pointIn (a .image .now) (a .at .a) (a .at .b) (a .a .now) (a .b .now))
-    = lent-fits _ (omega arith) _ (windows .windows-refusal .ensures) (taken .before .before .before .before .before .if3 .left) in
+    back-not _ _ _ 1 (λ z. omega arith)
+    (back-two _ _ _ is 1
+    (two-open _ _ _ _ _ (windows .windows-refusal .ensures) (taken .before .before .before .before .before .if3 .left) (omega arith) (omega arith)
+    ∙ room-masked _ _ room _ (granted _ _ (taken .before .is-taken .ensures) (taken .if6 .left)) (granted _ _ (suited .before .suits .ensures) (suited .if7 .left))
+    (denied _ _ (c .before .mask-fits .ensures) (c .if8 .taken))))
+
+restore-requires : tie.Need-restore-requires
+restore-requires c κs =
+    let masked = c .before .before .before in
+    let taken = masked .before .before .before .before .before .before .before in
+    let windows = taken .before .before .before .before .before .before .before in
+    let images = windows .before .before .before in
+    let is = granted _ _ (images .before .is-image .ensures) (images .if1 .left) in
+    let a = images .before .before .before .before .before .before .before .args in
+    let fits : Fits (full (pointIn (a .image .now) (a .at .a) (a .at .b) (a .a .now) (a .b .now)))
+    = lent-fits _ _ (windows .windows-refusal .ensures) (taken .before .before .before .before .before .if3 .left) in
+    (search needs, at-most (a .image .now) is, fits .long-a, fits .long-b)
+
+same-length-23 : tie.Need-same-length-23
+same-length-23 c = search needs
+
+same-length-24 : tie.Need-same-length-24
+same-length-24 c = search needs
+
+same-length-25 : tie.Need-same-length-25
+same-length-25 c = search needs
+
+returns-9 : tie.Need-returns-9
+unfolding numberOf
+returns-9 c =
+    let restoring = c .before .before .before .before .before .before in
+    let masked = restoring .before .before .before .before in
+    let suited = masked .before .before .before in
+    let taken = suited .before .before .before .before in
+    let windows = taken .before .before .before .before .before .before .before in
+    let images = windows .before .before .before in
+    let is = granted _ _ (images .before .is-image .ensures) (images .if1 .left) in
+    let a = images .before .before .before .before .before .before .before .args in
+    let room = room-lent (a .store .now) (a .name) (a .name * roomLength + roomLength - a .name * roomLength) (omega arith) (omega arith) (omega arith) in
+    let fits : Fits (full (pointIn (a .image .now) (a .at .a) (a .at .b) (a .a .now) (a .b .now)))
+    = lent-fits _ _ (windows .windows-refusal .ensures) (taken .before .before .before .before .before .if3 .left) in
     let suits = granted _ _ (suited .before .suits .ensures) (suited .if7 .left) in
     back-done (a .store .now) (a .name) (pointIn (a .image .now) (a .at .a) (a .at .b) (a .a .now) (a .b .now))
-    (back-two _ _ _ (omega arith) 0
+    (back-two _ _ _ is 0
     (two-open _ _ _ _ _ (windows .windows-refusal .ensures) (taken .before .before .before .before .before .if3 .left) (omega arith) (omega arith)
-    ∙ room-open _ _ room _ (granted _ _ (taken .before .is-taken .ensures) (taken .if6 .left)) suits))
-    _ room suits (fits .whole-a) (fits .whole-b) _ _ _
+    ∙ room-open _ _ room _ (granted _ _ (taken .before .is-taken .ensures) (taken .if6 .left)) suits (granted _ _ (masked .before .mask-fits .ensures) (masked .if8 .left))))
+    (at-most (a .image .now) is) _ room suits (fits .whole-a) (fits .whole-b) _ _ _
     (restoring .restore .ensures .0) (restoring .restore .ensures .1) (restoring .restore .ensures .2)
 
 pub go-back-spec : {M : Type 1} → statement M
 go-back-spec =
     tie.close
     (tie.spec
+    is-image-requires
+    same-length
     returns
     windows-refusal-requires
-    same-length
     same-length-2
-    returns-2
     same-length-3
     same-length-4
-    returns-3
+    returns-2
     same-length-5
     same-length-6
-    returns-4
     same-length-7
+    returns-3
     same-length-8
+    same-length-9
+    same-length-10
+    returns-4
+    same-length-11
+    same-length-12
+    same-length-13
     returns-5
     mul-start
     add-end
@@ -190,15 +267,22 @@ go-back-spec =
     part-room-start
     part-room-end
     is-taken-requires
-    same-length-9
-    same-length-10
-    returns-6
-    suits-requires
-    same-length-11
-    same-length-12
-    returns-7
-    restore-requires
-    same-length-13
     same-length-14
     same-length-15
-    returns-8)
+    same-length-16
+    returns-6
+    suits-requires
+    same-length-17
+    same-length-18
+    same-length-19
+    returns-7
+    mask-fits-requires
+    same-length-20
+    same-length-21
+    same-length-22
+    returns-8
+    restore-requires
+    same-length-23
+    same-length-24
+    same-length-25
+    returns-9)

@@ -4,10 +4,11 @@ use Prim.Native.Nat.{_+_, _-_, _*_}
 use native.Mathlib.Omega.{arith}
 use borrow.Author.Needs.{needs}
 use Rattle.model.specs.Numbers.{numberOf}
-use Rattle.model.specs.Kept.{pointIn, Fits}
-use Rattle.model.proofs.Bools.{denied, granted}
+use Rattle.model.specs.Kept.{pointIn, full, Fits}
+use Rattle.model.proofs.Bools.{denied, granted, and-left}
+use Rattle.image.proofs.Coded.{at-least, at-most}
 use Rattle.store.specs.Store.{roomLength}
-use Rattle.store.proofs.Answers.{image-long, lent-fits, shared-left, two-unruled, two-short, two-name, two-open, take-one, take-two, took-not, took-done}
+use Rattle.store.proofs.Answers.{lent-fits, shared-left, two-unruled, two-short, two-name, two-open, take-one, take-two, took-not, took-done}
 use Rattle.store.proofs.take.Statement.{statement}
 use Rattle.store.proofs.take.Tie as tie
 
@@ -78,9 +79,10 @@ fill-requires c κs =
     let windows = c .before .before .before .before .before in
     let state = windows .before in
     let a = state .before .before .before .before .before .before .args in
-    let fits : Fits (pointIn (a .image .now) (a .at .a) (a .at .b) (a .a .now) (a .b .now))
-    = lent-fits _ (image-long (a .image .now) (granted _ _ (state .before .is-admissible .ensures) (state .if1 .left))) _ (windows .windows-refusal .ensures) (c .before .before .before .if3 .left) in
-    (search needs, fits .image-long, fits .long-a, fits .long-b)
+    let fits : Fits (full (pointIn (a .image .now) (a .at .a) (a .at .b) (a .a .now) (a .b .now)))
+    = lent-fits _ _ (windows .windows-refusal .ensures) (c .before .before .before .if3 .left) in
+    let is = and-left _ _ (granted _ _ (state .before .is-admissible .ensures) (state .if1 .left)) in
+    (search needs, at-least (a .image .now) is, at-most (a .image .now) is, fits .long-a, fits .long-b)
 
 same-length : tie.Need-same-length
 same-length c = search needs

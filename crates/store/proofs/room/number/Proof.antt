@@ -1,51 +1,21 @@
--- `number` meets its contract: a run of one octabyte.
-use mathlib.Core.Path.{_≡_, refl, ap, _∙_}
-use mathlib.Core.List.{List, [], _∷_}
-use Prim.Native.Nat.{ℕ, _+_, _*_}
-use native.Mathlib.Omega.{arith}
-use lib.ListN.{getD}
+-- `number` meets its contract: the octabyte at its place.
+use Rattle.store.specs.Store.{numberAt}
 use borrow.Author.Needs.{needs}
-use Rattle.model.specs.Octa.{part, valueOf}
-use Rattle.machine.specs.Octabytes.{octas, loadedOctas}
-use Rattle.machine.proofs.OctabyteRuns.{loaded-fits}
-use Rattle.store.specs.Store.{numbersAt, numberAt}
 use Rattle.store.proofs.room.number.Statement.{statement}
 use Rattle.store.proofs.room.number.Tie as tie
 
-one-octa : (l : List ℕ) (o : ℕ) → getD (octas l o 1) 0 0 ≡ valueOf 0 (part l o 8)
-unfolding octas
-one-octa l o = refl
+mul-octabyte : tie.Need-mul-octabyte
+mul-octabyte c = search needs
 
-mul-load-octas : tie.Need-mul-load-octas
-mul-load-octas c = search needs
+add-octabyte : tie.Need-add-octabyte
+add-octabyte c = search needs
 
-add-load-octas : tie.Need-add-load-octas
-add-load-octas c = search needs
-
-slice-aggregate-load-octas : tie.Need-slice-aggregate-load-octas
-slice-aggregate-load-octas c = search needs
-
-load-octas-requires : tie.Need-load-octas-requires
-load-octas-requires c κs = search needs
-
-array-read-result : tie.Need-array-read-result
-array-read-result c = search needs
+octabyte-requires : tie.Need-octabyte-requires
+octabyte-requires c κs = search needs
 
 returns : tie.Need-returns
 unfolding numberAt
-returns c =
-    let loading = c .before in
-    let a = loading .before .before .before .args in
-    ap (λ (v : List ℕ). getD v 0 0) (loading .load-octas .ensures ∙ loaded-fits (a .room .now) (numbersAt + 8 * a .k) (0 ∷ []) (omega arith))
-    ∙ one-octa (a .room .now) (numbersAt + 8 * a .k)
+returns c = c .octabyte .ensures
 
 pub number-spec : {M : Type 1} → statement M
-number-spec =
-    tie.close
-    (tie.spec
-    mul-load-octas
-    add-load-octas
-    slice-aggregate-load-octas
-    load-octas-requires
-    array-read-result
-    returns)
+number-spec = tie.close (tie.spec mul-octabyte add-octabyte octabyte-requires returns)

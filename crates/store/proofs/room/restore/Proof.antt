@@ -1,8 +1,5 @@
 -- `restore` meets its contract: place after place.
-use mathlib.Core.Path.{ap, _∙_}
-use native.Mathlib.Omega.{arith}
 use borrow.Author.Needs.{needs}
-use Rattle.model.specs.Octa.{part}
 use Rattle.store.proofs.room.restore.Statement.{statement}
 use Rattle.store.proofs.room.restore.Tie as tie
 
@@ -29,8 +26,7 @@ returns c =
     let third = c .before .before in
     let second = third .before .before .before .before in
     let first = second .before .before .before .before in
-    let start = first .before .before .before .before .before .before in
-    (first .copy-out .ensures ∙ ap (part (start .args .room .now) 0) (omega arith), second .copy-out2 .ensures, third .copy-out3 .ensures)
+    (first .copy-out .ensures, second .copy-out2 .ensures, third .copy-out3 .ensures)
 
 pub restore-spec : {M : Type 1} → statement M
 restore-spec =
