@@ -1,5 +1,5 @@
 -- Laws of what an arm that touches no memory tells, over plain variables: a reply and the parts that code leaves, from what its callees ensure.
--- GET, PUT (with the tags of replies), SYNC. Trips and traps: Interrupts of crate exceptions.
+-- 31, GET, PUT (with the tags of replies), SYNC. Trips and traps: Interrupts of crate exceptions.
 use mathlib.Core.Path.{_≡_, refl, sym, ap, _∙_}
 use mathlib.Core.Bool.{true, false, cond}
 use mathlib.Core.List.{List}

@@ -10,7 +10,7 @@ use Rattle.model.specs.Trips.{wordOf}
 use Rattle.model.specs.ArithmeticStep.{arithmeticSays}
 use Rattle.model.specs.declared.State.{State}
 
--- 5, then GET
+-- 5, then 31, then GET
 unfoldable pub getOf : State → ℕ → ℕ → Said
 getOf s x z = cond (ltb 31 z) (say 5 s) (getSpecial s x z)
 
