@@ -1,6 +1,7 @@
 -- Laws of a line held against a form: a byte further, a part further, how long a line of a form is; and of the numbers in it.
 use mathlib.Core.Path.{_≡_, refl, sym, ap, _∙_}
-use mathlib.Core.Bool.{Bool, true, false, cond, _&&_}
+use mathlib.Core.Logic.{_⊎_, inl, inr, ⊎-elim}
+use mathlib.Core.Bool.{Bool, true, false, cond, _&&_, _||_}
 use mathlib.Core.List.{List, [], _∷_, _++_, append-nil}
 use Prim.Native.Nat.{ℕ, zero, suc, _+_, _-_, _*_, _^_, _≤_, _<_}
 use native.Mathlib.Omega.{arith}
@@ -10,10 +11,11 @@ use lib.Pow.{pow-add, pow-mono}
 use lib.ListN.{length, getD, drop, length-append, length-replicate, drop-of-length-le}
 use lib.Seq.{drop-cons}
 use Rattle.model.proofs.Bools.{and-right}
+use Rattle.model.proofs.Fill.{flag}
 use Rattle.text.specs.Codes.{codes}
 use Rattle.text.specs.Digits.{digitOf, numberOf}
 use Rattle.text.proofs.Digits.{digit-most}
-use Rattle.lines.specs.Line.{mark, fitsByte, fits, head, bases, middle, close, marks, pointForm, digitsAt, hexAt, octasA, octasB, isForm}
+use Rattle.lines.specs.Line.{mark, fitsByte, fits, head, bases, middle, close, marks, pointForm, digitsAt, hexAt, octasA, octasB, isForm, isNew, isOld, isPoint}
 use Rattle.lines.specs.Met.{met}
 use Rattle.lines.specs.declared.line.Met.{Met}
 
@@ -211,3 +213,25 @@ module _ (w d k : ℕ) (l : List ℕ) where
   pub neither-large : octasA w l ≤ k → octasB w l ≤ k → fits (pointForm w d (octasA w l + octasB w l)) l ≡ isForm w d k l
   unfolding isForm
   neither-large g h = rw (le-leb (octasA w l) k g, le-leb (octasB w l) k h)
+
+-- of one form or the other
+module _ (l : List ℕ) where
+  pub point-new : isNew l ≡ true → isPoint l ≡ true
+  unfolding isPoint
+  point-new e = rw e
+
+  pub point-old : isOld l ≡ true → isPoint l ≡ true
+  unfolding isPoint
+  point-old e = rw e (or-true (isNew l))
+    where
+      or-true : (t : Bool) → (t || true) ≡ true
+      or-true true = refl
+      or-true false = refl
+
+  pub point-not : isNew l ≡ false → isOld l ≡ false → isPoint l ≡ false
+  unfolding isPoint
+  point-not e f = rw (e, f)
+
+  pub which-form : isPoint l ≡ true → (isNew l ≡ true) ⊎ ((isNew l ≡ false) × (isOld l ≡ true))
+  unfolding isPoint
+  which-form e = ⊎-elim (λ n. inl n) (λ n. inr (n, rw n at e)) (flag (isNew l))

@@ -61,6 +61,11 @@ unfolding digitsOf
 length-digits [] = refl
 length-digits (b ∷ l) = omega (arith, length-digits l)
 
+pub digits-bytes : (k l : List ℕ) → digitsOf (k ++ l) ≡ digitsOf k ++ digitsOf l
+unfolding digitsOf
+digits-bytes [] l = refl
+digits-bytes (b ∷ k) l = ap (λ (r : List ℕ). b / 16 ∷ b % 16 ∷ r) (digits-bytes k l)
+
 pub bytes-digits : (l : List ℕ) → ((i : ℕ) → getD l i 0 < 256) → Digits (digitsOf l)
 unfolding digitsOf All
 bytes-digits [] h = tt

@@ -7,4 +7,5 @@ pub mod Marks
 pub mod LineMarks
 pub mod Hex
 pub mod LinePoint
+pub mod Renewed
 pub mod PointLine

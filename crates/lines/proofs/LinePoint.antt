@@ -1,4 +1,4 @@
--- A line is the line of its point: the digits at its form's marks are those of its point, part by part.
+-- A line, whose image has n bytes, is the line of its point: the digits at its form's marks are those of its point, part by part.
 use mathlib.Core.Path.{_≡_, sym, ap, _∙_}
 use mathlib.Core.Bool.{true}
 use mathlib.Core.List.{List, [], _∷_, _++_}
@@ -8,23 +8,36 @@ use borrow.Author.Tests.{leb-true}
 use lib.Dec.{leb}
 use lib.ListN.{length}
 use Rattle.model.specs.Plan.{All}
-use Rattle.model.specs.Kept.{imageLength, octasOf}
+use Rattle.model.specs.Kept.{imageLength, Point, pointCount, full, octasOf, Fits, OfBytes}
 use Rattle.model.proofs.Bools.{and-left, and-right}
+use Rattle.model.proofs.Slices.{length-part}
 use Rattle.model.proofs.Plan.{All-left, All-right}
 use Rattle.text.specs.Digits.{numberOf}
 use Rattle.text.proofs.Digits.{Digits, number-below}
-use Rattle.lines.specs.Line.{fits, pointForm, digitsAt, hexAt, octasA, octasB, isForm, isPoint, lengthDigits, stateDigits, octasMax}
-use Rattle.lines.specs.PointLine.{hexOf, digitsOf, inForm, pointDigits, lineOf, bytesIn, nameAt, baseAAt, baseBAt, stateAt, windowsAt, nameOf, pointOf, Read}
+use Rattle.lines.specs.Line.{fits, pointForm, digitsAt, hexAt, octasA, octasB, isForm, lengthDigits, octasMax, stateAt}
+use Rattle.lines.specs.PointLine.{hexOf, digitsOf, inForm, pointDigits, bytesIn, nameAt, baseAAt, baseBAt, windowsAt, nameOf, pointBy}
 use Rattle.lines.proofs.Marks.{digitsIn, line-again, digits-small}
 use Rattle.lines.proofs.LineMarks.{form-digits}
 use Rattle.lines.proofs.Hex.{hex-number, length-bytes, digits-of-bytes, bytes-small, length-at, digits-split}
 
-abbrev pub form : ℕ → List ℕ
-form m = pointForm lengthDigits stateDigits m
+abbrev pub form : ℕ → ℕ → List ℕ
+form n m = pointForm lengthDigits (2 * n) m
+
+-- the line of a point in that form
+abbrev pub lineBy : ℕ → ℕ → Point → List ℕ
+lineBy n name p = inForm (form n (octasOf (p .a) + octasOf (p .b))) (pointDigits name p)
+
+-- what is read
+pub record ReadBy (n : ℕ) (l : List ℕ) (p : Point) : Type 0 where
+  pub line-is : lineBy n (nameOf l) p ≡ l
+  pub name-small : nameOf l < pointCount
+  pub image-long : length (p .image) ≡ n
+  pub point-fits : Fits (full p)
+  pub of-bytes : OfBytes p
 
 -- ---- a line
 
-module _ (l : List ℕ) where
+module _ (n : ℕ) (l : List ℕ) where
   abbrev octas : ℕ
   octas = octasA lengthDigits l + octasB lengthDigits l
 
@@ -45,33 +58,33 @@ module _ (l : List ℕ) where
   d-baseB = digitsAt l baseBAt 16
 
   abbrev pub d-state : List ℕ
-  d-state = digitsAt l stateAt stateDigits
+  d-state = digitsAt l stateAt (2 * n)
 
   abbrev pub d-windows : ℕ → List ℕ
-  d-windows m = digitsAt l windowsAt (16 * m)
+  d-windows m = digitsAt l (windowsAt (2 * n)) (16 * m)
 
   abbrev pub d-a : ℕ → List ℕ
-  d-a a = digitsAt l windowsAt (16 * a)
+  d-a a = digitsAt l (windowsAt (2 * n)) (16 * a)
 
   abbrev pub d-b : ℕ → ℕ → List ℕ
-  d-b a b = digitsAt l (windowsAt + 16 * a) (16 * b)
+  d-b a b = digitsAt l (windowsAt (2 * n) + 16 * a) (16 * b)
 
-  pub line-digits : (m : ℕ) → digitsIn (form m) l ≡ d-name ++ (d-octasA ++ (d-octasB ++ (d-baseA ++ (d-baseB ++ (d-state ++ d-windows m)))))
-  line-digits m = form-digits lengthDigits stateDigits m l
+  pub line-digits : (m : ℕ) → digitsIn (form n m) l ≡ d-name ++ (d-octasA ++ (d-octasB ++ (d-baseA ++ (d-baseB ++ (d-state ++ d-windows m)))))
+  line-digits m = form-digits lengthDigits (2 * n) m l
 
   pub windows-digits : (a b : ℕ) → d-windows (a + b) ≡ d-a a ++ d-b a b
   windows-digits a b =
       let e : 16 * (a + b) ≡ 16 * a + 16 * b = omega arith in
-      ap (digitsAt l windowsAt) e ∙ digits-split l windowsAt (16 * a) (16 * b)
+      ap (digitsAt l (windowsAt (2 * n))) e ∙ digits-split l (windowsAt (2 * n)) (16 * a) (16 * b)
 
-  module _ (good : isPoint l ≡ true) where
+  module _ (good : isForm lengthDigits (2 * n) octasMax l ≡ true) where
     record Judged : Type 0 where
       small-a : octasA lengthDigits l ≤ octasMax
       small-b : octasB lengthDigits l ≤ octasMax
-      of-form : fits (form octas) l ≡ true
+      of-form : fits (form n octas) l ≡ true
 
     judged : Judged
-    unfolding isPoint isForm
+    unfolding isForm
     judged =
         let r = and-right (leb (octasA lengthDigits l) octasMax) _ good in
         record {
@@ -100,7 +113,7 @@ module _ (l : List ℕ) where
     small : Small
     small =
         let P : ℕ → Type 0 = λ (d : ℕ). d < 16 in
-        let t₀ : Digits (d-name ++ (d-octasA ++ (d-octasB ++ (d-baseA ++ (d-baseB ++ (d-state ++ d-windows octas)))))) = rw (line-digits octas) at (digits-small (form octas) l (judged .of-form)) in
+        let t₀ : Digits (d-name ++ (d-octasA ++ (d-octasB ++ (d-baseA ++ (d-baseB ++ (d-state ++ d-windows octas)))))) = rw (line-digits octas) at (digits-small (form n octas) l (judged .of-form)) in
         let t₁ = All-right P d-name (d-octasA ++ (d-octasB ++ (d-baseA ++ (d-baseB ++ (d-state ++ d-windows octas))))) t₀ in
         let t₂ = All-right P d-octasA (d-octasB ++ (d-baseA ++ (d-baseB ++ (d-state ++ d-windows octas)))) t₁ in
         let t₃ = All-right P d-octasB (d-baseA ++ (d-baseB ++ (d-state ++ d-windows octas))) t₂ in
@@ -119,10 +132,10 @@ module _ (l : List ℕ) where
         }
 
     size-a : length (bytesIn (d-a a)) ≡ 8 * a
-    size-a = length-bytes (8 * a) (d-a a) (length-at l windowsAt (16 * a) ∙ omega arith)
+    size-a = length-bytes (8 * a) (d-a a) (length-at l (windowsAt (2 * n)) (16 * a) ∙ omega arith)
 
     size-b : length (bytesIn (d-b a b)) ≡ 8 * b
-    size-b = length-bytes (8 * b) (d-b a b) (length-at l (windowsAt + 16 * a) (16 * b) ∙ omega arith)
+    size-b = length-bytes (8 * b) (d-b a b) (length-at l (windowsAt (2 * n) + 16 * a) (16 * b) ∙ omega arith)
 
     octas-a : octasOf (bytesIn (d-a a)) ≡ a
     octas-a = omega (arith, size-a)
@@ -151,25 +164,25 @@ module _ (l : List ℕ) where
     spelt-baseB = hex-number 16 d-baseB (small .s-baseB) (length-at l baseBAt 16)
 
     spelt-state : digitsOf (bytesIn d-state) ≡ d-state
-    spelt-state = digits-of-bytes imageLength d-state (length-at l stateAt stateDigits) (small .s-state)
+    spelt-state = digits-of-bytes n d-state (length-at l stateAt (2 * n)) (small .s-state)
 
     spelt-windows : digitsOf (bytesIn (d-a a)) ++ digitsOf (bytesIn (d-b a b)) ≡ d-windows octas
     spelt-windows =
-        ap (λ (k : List ℕ). k ++ digitsOf (bytesIn (d-b a b))) (digits-of-bytes (8 * a) (d-a a) (length-at l windowsAt (16 * a) ∙ omega arith) (small .s-a))
-        ∙ ap (λ (k : List ℕ). d-a a ++ k) (digits-of-bytes (8 * b) (d-b a b) (length-at l (windowsAt + 16 * a) (16 * b) ∙ omega arith) (small .s-b))
+        ap (λ (k : List ℕ). k ++ digitsOf (bytesIn (d-b a b))) (digits-of-bytes (8 * a) (d-a a) (length-at l (windowsAt (2 * n)) (16 * a) ∙ omega arith) (small .s-a))
+        ∙ ap (λ (k : List ℕ). d-a a ++ k) (digits-of-bytes (8 * b) (d-b a b) (length-at l (windowsAt (2 * n) + 16 * a) (16 * b) ∙ omega arith) (small .s-b))
         ∙ sym (windows-digits a b)
 
     -- the digits of its point are its own
-    own-digits : pointDigits (nameOf l) (pointOf l) ≡ digitsIn (form octas) l
-    unfolding pointDigits pointOf
+    own-digits : pointDigits (nameOf l) (pointBy (2 * n) l) ≡ digitsIn (form n octas) l
+    unfolding pointDigits pointBy
     own-digits = rw (octas-a, octas-b, spelt-name, spelt-a, spelt-b, spelt-baseA, spelt-baseB, spelt-state, spelt-windows) (sym (line-digits octas))
 
-    own-line : lineOf (nameOf l) (pointOf l) ≡ l
-    unfolding lineOf pointOf
+    own-line : lineBy n (nameOf l) (pointBy (2 * n) l) ≡ l
+    unfolding pointBy
     own-line =
-        ap (λ (m : ℕ). inForm (form m) (pointDigits (nameOf l) (pointOf l))) (ap (λ (k : ℕ). k + octasOf (bytesIn (d-b a b))) octas-a ∙ ap (λ (k : ℕ). a + k) octas-b)
-        ∙ ap (inForm (form octas)) own-digits
-        ∙ line-again (form octas) l (judged .of-form)
+        ap (λ (m : ℕ). inForm (form n m) (pointDigits (nameOf l) (pointBy (2 * n) l))) (ap (λ (k : ℕ). k + octasOf (bytesIn (d-b a b))) octas-a ∙ ap (λ (k : ℕ). a + k) octas-b)
+        ∙ ap (inForm (form n octas)) own-digits
+        ∙ line-again (form n octas) l (judged .of-form)
 
     one-digit : (ds : List ℕ) → Digits ds → length ds ≡ 1 → numberOf 0 ds < 16
     unfolding numberOf All
@@ -177,13 +190,14 @@ module _ (l : List ℕ) where
     one-digit (d ∷ []) s e = omega (arith, s .0)
     one-digit (d ∷ x ∷ ds) s e = absurd (omega arith)
 
-    pub read : Read l
-    unfolding nameOf pointOf hexAt
-    read = record {
+    pub read-by : ReadBy n l (pointBy (2 * n) l)
+    unfolding nameOf pointBy hexAt
+    read-by = record {
       line-is = own-line;
       name-small = one-digit d-name (small .s-name) (length-at l nameAt 1);
+      image-long = length-bytes n d-state (length-at l stateAt (2 * n));
       point-fits = record {
-        image-long = length-bytes imageLength d-state (length-at l stateAt stateDigits);
+        image-long = length-part (bytesIn d-state) 0 imageLength;
         base-a = number-below d-baseA (small .s-baseA) (omega (arith, length-at l baseAAt 16));
         base-b = number-below d-baseB (small .s-baseB) (omega (arith, length-at l baseBAt 16));
         long-a = omega (arith, size-a, judged .small-a);

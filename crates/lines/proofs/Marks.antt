@@ -1,5 +1,5 @@
 -- Laws of the digits at a form's marks: a line of a form is the form with its digits in it. Those of a point's line are in LineMarks.
-use mathlib.Core.Path.{_≡_, refl, ap, _∙_}
+use mathlib.Core.Path.{_≡_, refl, sym, ap, _∙_}
 use mathlib.Core.Bool.{true, false, cond}
 use mathlib.Core.List.{List, [], _∷_, _++_}
 use Prim.Native.Nat.{ℕ, zero, suc, _+_, _<_}
@@ -74,6 +74,10 @@ module _ (d : ℕ) (ds : List ℕ) (p : List ℕ) where
   unfolding inForm
   mark-in c t = rw t
 
+in-none : (ds : List ℕ) → inForm [] ds ≡ []
+unfolding inForm
+in-none ds = refl
+
 plain-in : (c : ℕ) (p ds : List ℕ) → eqb c mark ≡ false → inForm (c ∷ p) ds ≡ c ∷ inForm p ds
 unfolding inForm
 plain-in c p ds t = rw t
@@ -111,6 +115,27 @@ digits-again (c ∷ p) (d ∷ ds) a n =
     let g : digitOf (glyph d) ≡ d = digit-glyph d (a .0) in
     rw (mark-in d ds p c t, t, g, digits-again p ds (a .1) m))
     (λ t. rw (plain-in c p (d ∷ ds) t, t) (digits-again p (d ∷ ds) a (rw t at n)))
+
+-- ---- a form in two parts, with its digits in it
+
+pub in-append : (p q ds es : List ℕ) → length ds ≡ marksIn p → inForm (p ++ q) (ds ++ es) ≡ inForm p ds ++ inForm q es
+unfolding marksIn
+in-append [] q [] es n = ap (λ (l : List ℕ). l ++ inForm q es) (sym (in-none []))
+in-append [] q (d ∷ ds) es n = absurd (omega arith)
+in-append (c ∷ p) q [] es n =
+    either (eqb c mark) (λ t. absurd (omega (arith, rw t at n)))
+    (λ t. rw (plain-in c (p ++ q) es t, plain-in c p [] t) (ap (λ (l : List ℕ). c ∷ l) (in-append p q [] es (rw t at n))))
+in-append (c ∷ p) q (d ∷ ds) es n =
+    either (eqb c mark)
+    (λ t.
+    let m : length ds ≡ marksIn p = omega (arith, rw t at n) in
+    rw (mark-in d (ds ++ es) (p ++ q) c t, mark-in d ds p c t) (ap (λ (l : List ℕ). glyph d ∷ l) (in-append p q ds es m)))
+    (λ t. rw (plain-in c (p ++ q) (d ∷ (ds ++ es)) t, plain-in c p (d ∷ ds) t) (ap (λ (l : List ℕ). c ∷ l) (in-append p q (d ∷ ds) es (rw t at n))))
+
+pub length-in : (p ds : List ℕ) → length (inForm p ds) ≡ length p
+unfolding inForm
+length-in [] ds = refl
+length-in (c ∷ p) ds = either (eqb c mark) (λ t. rw t (ap suc (length-in p (drop 1 ds)))) (λ t. rw t (ap suc (length-in p ds)))
 
 -- ---- one part after another
 

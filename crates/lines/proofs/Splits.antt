@@ -1,7 +1,7 @@
 -- What is printed, line by line, and the theorem that turns print it however the text is split.
 use mathlib.Core.Path.{_≡_, refl, sym, ap, _∙_}
 use mathlib.Core.Logic.{⊎-elim, _⊎_, inl, inr}
-use mathlib.Core.Bool.{true, false, cond}
+use mathlib.Core.Bool.{true, false, cond, not}
 use mathlib.Core.List.{List, [], _∷_, _++_, append-assoc}
 use Prim.Native.Nat.{ℕ, suc, _+_, _-_, _*_, _≤_, _<_, min}
 use native.Mathlib.Omega.{arith}
@@ -10,7 +10,7 @@ use native.Mathlib.Numerals.{add-one}
 use borrow.Author.Tests.{ne-eqb, leb-true}
 use lib.Dec.{leb}
 use lib.ListN.{length, take, drop, length-append}
-use lib.Seq.{split-at, take-suc, take-all, take-at, drop-at, length-take-le, append-snoc}
+use lib.Seq.{split-at, take-append-le, drop-append-le, take-suc, take-all, take-at, drop-at, length-take-le, append-snoc}
 use Rattle.model.specs.Octa.{written}
 use Rattle.model.proofs.Octa.{length-written}
 use Rattle.model.proofs.Fill.{flag}
@@ -18,10 +18,10 @@ use Rattle.model.proofs.Bools.{and-left, and-right}
 use Rattle.text.specs.Text.{badText}
 use Rattle.text.specs.Pieces.{pieces, lineLength}
 use Rattle.text.proofs.Pieces.{length-line, newline-there, line-append, line-front, pieces-some, pieces-line, pieces-last}
-use Rattle.lines.specs.Line.{pointForm, octasA, octasB, isForm, isPoint, lengthDigits, stateDigits, octasMax, longestLine}
-use Rattle.lines.specs.Stream.{newline, printedLines, printedFrom, isGood, turnOf, heldAfter, Unended, Tells, AnySplit, LineByLine}
+use Rattle.lines.specs.Line.{pointForm, octasA, octasB, isForm, isNew, isOld, isPoint, lengthDigits, stateDigits, oldStateDigits, octasMax, oldEnd, noMask, grown, renewed, longestLine}
+use Rattle.lines.specs.Stream.{newline, printedLines, printedFrom, isGood, turnOf, heldAfter, anew, Unended, Tells, AnySplit, LineByLine}
 use Rattle.lines.specs.declared.stream.Turn.{Turn}
-use Rattle.lines.proofs.Forms.{length-fits, length-form}
+use Rattle.lines.proofs.Forms.{length-fits, length-form, point-new, point-not, which-form}
 use Rattle.lines.proofs.Held.{take-written, written-full}
 use Rattle.lines.proofs.Turns.{good-here, not-ended, no-room, no-point, is-more, is-good, is-bad, left-good, left-other}
 
@@ -30,21 +30,50 @@ use Rattle.lines.proofs.Turns.{good-here, not-ended, no-room, no-point,
 abbrev lengthOf : ℕ → ℕ → ℕ → ℕ
 lengthOf w d m = 88 + 2 * w + d + 16 * m
 
-form-short : (w d k : ℕ) (l : List ℕ) → isForm w d k l ≡ true → length l ≤ lengthOf w d (k + k)
+form-long : (w d k : ℕ) (l : List ℕ) → isForm w d k l ≡ true → (lengthOf w d 0 ≤ length l) × (length l ≤ lengthOf w d (k + k))
 unfolding isForm
-form-short w d k l e =
+form-long w d k l e =
     let r = and-right (leb (octasA w l) k) _ e in
     let a : octasA w l ≤ k = leb-true _ _ (and-left (leb (octasA w l) k) _ e) in
     let b : octasB w l ≤ k = leb-true _ _ (and-left (leb (octasB w l) k) _ r) in
-    omega (arith, length-fits (pointForm w d (octasA w l + octasB w l)) l (and-right (leb (octasB w l) k) _ r), length-form w d (octasA w l + octasB w l))
+    let n : length l ≡ lengthOf w d (octasA w l + octasB w l)
+    = length-fits (pointForm w d (octasA w l + octasB w l)) l (and-right (leb (octasB w l) k) _ r) ∙ length-form w d (octasA w l + octasB w l) in
+    (omega arith, omega arith)
+
+new-long : (l : List ℕ) → isNew l ≡ true → (oldEnd ≤ length l) × (length l ≤ longestLine)
+unfolding isNew
+new-long l e = omega (arith, form-long lengthDigits stateDigits octasMax l e)
+
+old-long : (l : List ℕ) → isOld l ≡ true → (oldEnd ≤ length l) × (length l ≤ longestLine)
+unfolding isOld
+old-long l e = omega (arith, form-long lengthDigits oldStateDigits octasMax l e)
 
 long-no : (l : List ℕ) → longestLine < length l → isPoint l ≡ false
-unfolding isPoint
-long-no l h = ⊎-elim (λ e. absurd (omega (arith, form-short lengthDigits stateDigits octasMax l e))) (λ e. e) (flag (isForm lengthDigits stateDigits octasMax l))
+long-no l h =
+    point-not l (⊎-elim (λ e. absurd (omega (arith, new-long l e))) (λ e. e) (flag (isNew l))) (⊎-elim (λ e. absurd (omega (arith, old-long l e))) (λ e. e) (flag (isOld l)))
+
+past-end : (l : List ℕ) → isPoint l ≡ true → oldEnd ≤ length l
+past-end l e = ⊎-elim (λ n. new-long l n .0) (λ n. old-long l (n .1) .0) (which-form l e)
+
+-- ---- a line is printed with its newline
+
+new-renewed : (l : List ℕ) → isNew l ≡ true → renewed l ≡ l
+unfolding renewed
+new-renewed l e = rw e
+
+grown-more : (p q : List ℕ) → oldEnd ≤ length p → grown (p ++ q) ≡ grown p ++ q
+unfolding grown
+grown-more p q h =
+    rw (take-append-le oldEnd p q h, drop-append-le oldEnd p q h)
+    (sym (append-assoc (take oldEnd p) (noMask ++ drop oldEnd p) q ∙ ap (λ (k : List ℕ). take oldEnd p ++ k) (append-assoc noMask (drop oldEnd p) q)))
+
+anew-line : (p q : List ℕ) → oldEnd ≤ length p → anew (not (isNew p)) (p ++ q) ≡ renewed p ++ q
+unfolding anew renewed
+anew-line p q h = ⊎-elim (λ e. rw e) (λ e. rw e (grown-more p q h)) (flag (isNew p))
 
 -- ---- line by line
 
-lines-more : (n : ℕ) (p : List ℕ) (ps : List (List ℕ)) → 0 < length ps → printedLines n (p ∷ ps) ≡ cond (isPoint p) (p ++ (newline ∷ printedLines (suc n) ps)) (badText n)
+lines-more : (n : ℕ) (p : List ℕ) (ps : List (List ℕ)) → 0 < length ps → printedLines n (p ∷ ps) ≡ cond (isPoint p) (renewed p ++ (newline ∷ printedLines (suc n) ps)) (badText n)
 unfolding printedLines
 lines-more n p [] h = absurd (omega arith)
 lines-more n p (q ∷ ps) h = refl
@@ -68,10 +97,10 @@ cut-line p l u =
         ap (drop (suc (length q))) (sym (append-snoc q newline l)) ∙ drop-at (q ++ (newline ∷ [])) l (suc (length q)) s
 
 module _ (n : ℕ) (p : List ℕ) (u : Unended p) where
-  line-printed : (l : List ℕ) → printedFrom n (p ++ (newline ∷ l)) ≡ cond (isPoint p) (p ++ (newline ∷ printedFrom (suc n) l)) (badText n)
+  line-printed : (l : List ℕ) → printedFrom n (p ++ (newline ∷ l)) ≡ cond (isPoint p) (renewed p ++ (newline ∷ printedFrom (suc n) l)) (badText n)
   line-printed l = ap (printedLines n) (cut-line p l u) ∙ lines-more n p (pieces l) (pieces-some l)
 
-  good-printed : (l : List ℕ) → isPoint p ≡ true → printedFrom n (p ++ (newline ∷ l)) ≡ p ++ (newline ∷ printedFrom (suc n) l)
+  good-printed : (l : List ℕ) → isPoint p ≡ true → printedFrom n (p ++ (newline ∷ l)) ≡ renewed p ++ (newline ∷ printedFrom (suc n) l)
   good-printed l e = line-printed l ∙ rw e
 
   bad-printed : (l : List ℕ) → isPoint p ≡ false → printedFrom n (p ++ (newline ∷ l)) ≡ badText n
@@ -87,7 +116,8 @@ none-printed n = refl
 
 pub line-by-line : LineByLine
 line-by-line = record {
-  good = λ n p l u e. good-printed n p u l e;
+  good = λ n p l u e. good-printed n p u l (point-new p e) ∙ ap (λ (q : List ℕ). q ++ (newline ∷ printedFrom (suc n) l)) (new-renewed p e);
+  renews = λ n p l u e. good-printed n p u l e;
   bad = λ n p l u e. bad-printed n p u l e;
   unended = λ n p u h. unended-printed n p u h;
   ended = none-printed;
@@ -218,8 +248,10 @@ module _ (held : List ℕ) (count : ℕ) (chunk : List ℕ) (long : longestLine 
         let ends : t ≡ take k chunk ++ (newline ∷ []) = ap (λ (j : ℕ). take j chunk) (add-one k) ∙ take-suc chunk k 0 g ∙ ap (λ (x : ℕ). take k chunk ++ (x ∷ [])) (newline-there chunk g) in
         let f : take (count + k + 1) left ≡ p ++ (newline ∷ []) = ap (λ (j : ℕ). take j left) q ∙ ap (take (count + length t)) (left-good held count chunk e)
         ∙ take-written held count t (omega arith) ∙ ap (λ (x : List ℕ). h ++ x) ends ∙ sym (append-assoc h (take k chunk) (newline ∷ [])) in
-        rw (is-good held count chunk e, f)
-        (ap (printedFrom n) (begun h chunk rest g) ∙ good-printed n p w _ b ∙ sym (append-snoc p newline _), omega (arith, z), omega arith, omega arith)
+        let long : oldEnd ≤ length p = past-end p b in
+        rw (is-good held count chunk e, f, anew-line p (newline ∷ []) long)
+        (ap (printedFrom n) (begun h chunk rest g) ∙ good-printed n p w _ b ∙ sym (append-snoc (renewed p) newline _), omega (arith, z), omega arith, omega arith,
+        omega (arith, length-append h (take k chunk), length-h, size-k))
 
     told-ended : Told (turnOf held count chunk)
     told-ended = go (decLt (count + k) (length held)) (flag (isPoint p))

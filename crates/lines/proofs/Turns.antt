@@ -1,6 +1,6 @@
 -- Laws of a turn: when the line that is held ends well, and what `advance` answers and leaves by its tests.
 use mathlib.Core.Path.{_≡_, sym, ap, _∙_}
-use mathlib.Core.Bool.{true, false}
+use mathlib.Core.Bool.{Bool, true, false, not}
 use mathlib.Core.List.{List, [], _∷_, _++_}
 use Prim.Native.Nat.{ℕ, _+_, _-_, _≤_, _<_, min}
 use native.Mathlib.Omega.{arith}
@@ -13,8 +13,8 @@ use Rattle.model.proofs.Octa.{length-written}
 use Rattle.text.specs.Pieces.{lineLength}
 use Rattle.text.proofs.Pieces.{length-line, newline-there}
 use Rattle.text.proofs.Writes.{written-one}
-use Rattle.lines.specs.Line.{isPoint}
-use Rattle.lines.specs.Stream.{newline, isGood, turnOf, heldAfter}
+use Rattle.lines.specs.Line.{isNew, isPoint}
+use Rattle.lines.specs.Stream.{newline, lineSoFar, isGood, turnOf, heldAfter}
 use Rattle.lines.specs.declared.stream.Turn.{Turn}
 use Rattle.lines.specs.declared.stream.Turn.the-variants.{More, Good, Bad}
 use Rattle.lines.proofs.Held.{written-next, take-written}
@@ -23,7 +23,7 @@ module _ (held : List ℕ) (count : ℕ) (chunk : List ℕ) where
   -- ---- whether the line ends well
 
   abbrev pub line : List ℕ
-  line = take count held ++ take (lineLength chunk) chunk
+  line = lineSoFar held count chunk
 
   pub good-here : lineLength chunk < length chunk → count + lineLength chunk < length held → isPoint line ≡ true → isGood held count chunk ≡ true
   unfolding isGood
@@ -47,7 +47,7 @@ module _ (held : List ℕ) (count : ℕ) (chunk : List ℕ) where
   unfolding turnOf
   is-more g = rw (not-ended g, eq-eqb (lineLength chunk) (length chunk) (omega (arith, length-line chunk)))
 
-  pub is-good : isGood held count chunk ≡ true → turnOf held count chunk ≡ Good (lineLength chunk + 1) (count + lineLength chunk + 1)
+  pub is-good : isGood held count chunk ≡ true → turnOf held count chunk ≡ Good (lineLength chunk + 1) (count + lineLength chunk + 1) (not (isNew line))
   unfolding turnOf
   is-good e = rw e
 
@@ -107,10 +107,12 @@ module _ (held : List ℕ) (count : ℕ) (chunk left : List ℕ) (end next : ℕ
           ap (λ (k : ℕ). take k left) q ∙ ap (take (count + length (take (lineLength chunk) chunk))) left-is
           ∙ take-written held count (take (lineLength chunk) chunk) (omega (arith, fits))
 
-      pub turn-good : isPoint (take next left) ≡ true → Answered (Good (end + 1) (next + 1)) (set left next newline)
-      turn-good p =
+      pub turn-good : (t : Bool) → isNew (take next left) ≡ t → isPoint (take next left) ≡ true → Answered (Good (end + 1) (next + 1) (not t)) (set left next newline)
+      turn-good t n p =
           let w : isGood held count chunk ≡ true = good-here held count chunk ends fits (sym (ap isPoint line-is) ∙ p) in
-          (ap (λ (k : ℕ). Good (k + 1) (next + 1)) e ∙ ap (λ (k : ℕ). Good (lineLength chunk + 1) (k + 1)) next-is ∙ sym (is-good held count chunk w), joined ∙ sym (left-good held count chunk w))
+          let q : t ≡ isNew (line held count chunk) = sym n ∙ ap isNew line-is in
+          (ap (λ (k : ℕ). Good (k + 1) (next + 1) (not t)) e ∙ ap (λ (k : ℕ). Good (lineLength chunk + 1) (k + 1) (not t)) next-is
+          ∙ ap (λ (u : Bool). Good (lineLength chunk + 1) (count + lineLength chunk + 1) (not u)) q ∙ sym (is-good held count chunk w), joined ∙ sym (left-good held count chunk w))
         where
           joined : set left next newline ≡ written held count (take (lineLength chunk + 1) chunk)
           joined =

@@ -1,12 +1,12 @@
 -- The form of a point's line. 02: "`(point (name 3) (octas 0100 0010) (bases ..) (state ..) (windows ..))`, one line a point, each length four
 -- digits, each base 16, bytes in one unbroken run of hexadecimal, A's before B's, `(windows )` if both are empty".
 use Prim.Native.Nat.{ℕ, zero, suc, _+_, _*_, _/_}
-use mathlib.Core.Bool.{Bool, true, false, cond, _&&_}
+use mathlib.Core.Bool.{Bool, true, false, cond, _&&_, _||_}
 use mathlib.Core.List.{List, [], _∷_, _++_}
 use lib.Dec.{leb, ltb, eqb}
-use lib.ListN.{getD, replicate}
+use lib.ListN.{getD, take, drop, replicate}
 use Rattle.model.specs.Memory.{windowMax}
-use Rattle.model.specs.Kept.{imageLength}
+use Rattle.model.specs.Kept.{imageLength, oldImageLength}
 use Rattle.text.specs.Codes.{codes}
 use Rattle.text.specs.Digits.{digitOf, numberOf}
 
@@ -66,20 +66,51 @@ octasB w l = hexAt l (24 + w) w
 unfoldable pub isForm : ℕ → ℕ → ℕ → List ℕ → Bool
 isForm w d k l = leb (octasA w l) k && (leb (octasB w l) k && fits (pointForm w d (octasA w l + octasB w l)) l)
 
--- ---- the one form
+-- ---- the forms
 
 abbrev pub lengthDigits : ℕ
 lengthDigits = 4
 
+-- two a byte; an old image's are without the mask's
 abbrev pub stateDigits : ℕ
 stateDigits = 2 * imageLength
+
+abbrev pub oldStateDigits : ℕ
+oldStateDigits = 2 * oldImageLength
 
 abbrev pub octasMax : ℕ
 octasMax = windowMax / 8
 
+-- the form that is written
+unfoldable pub isNew : List ℕ → Bool
+isNew l = isForm lengthDigits stateDigits octasMax l
+
+-- "Point lines with an old image are still read but never written"
+unfoldable pub isOld : List ℕ → Bool
+isOld l = isForm lengthDigits oldStateDigits octasMax l
+
 -- THE line of a point, its newline left out; "a length above the largest window's" makes it none
 unfoldable pub isPoint : List ℕ → Bool
-isPoint l = isForm lengthDigits stateDigits octasMax l
+isPoint l = isNew l || isOld l
+
+-- where a line has its state, and where an old one's ends
+abbrev pub stateAt : ℕ
+stateAt = 75 + 2 * lengthDigits
+
+abbrev pub oldEnd : ℕ
+oldEnd = stateAt + oldStateDigits
+
+-- sixteen digits: an empty mask
+unfoldable pub noMask : List ℕ
+noMask = codes "0000000000000000"
+
+-- an old line with these after its image's
+unfoldable pub grown : List ℕ → List ℕ
+grown l = take oldEnd l ++ (noMask ++ drop oldEnd l)
+
+-- what is written of a point's line
+unfoldable pub renewed : List ℕ → List ℕ
+renewed l = cond (isNew l) l (grown l)
 
 -- the longest one: 88 bytes are neither a length's nor the state's nor a window's
 abbrev pub longestLine : ℕ

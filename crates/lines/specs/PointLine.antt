@@ -1,13 +1,13 @@
--- A point and its line determine each other.
+-- A point and its line determine each other; a line with an old image has the point whose mask is empty, and becomes that point's line.
 use Prim.Native.Nat.{ℕ, zero, suc, _+_, _*_, _/_, _%_, _<_}
 use mathlib.Core.Path.{_≡_}
 use mathlib.Core.Bool.{true, cond}
 use mathlib.Core.List.{List, [], _∷_, _++_}
 use lib.Dec.{eqb}
 use lib.ListN.{getD, drop}
-use Rattle.model.specs.Kept.{Point, pointCount, octasOf, Fits, OfBytes}
+use Rattle.model.specs.Kept.{Point, pointCount, full, octasOf, Fits, OfBytes}
 use Rattle.text.specs.Text.{glyph}
-use Rattle.lines.specs.Line.{mark, pointForm, digitsAt, hexAt, octasA, octasB, lengthDigits, stateDigits, isPoint}
+use Rattle.lines.specs.Line.{mark, pointForm, digitsAt, hexAt, octasA, octasB, lengthDigits, stateDigits, oldStateDigits, isNew, isPoint, stateAt, renewed}
 
 -- ---- a point's line
 
@@ -44,7 +44,7 @@ bytesIn [] = []
 bytesIn (d ∷ []) = []
 bytesIn (d ∷ e ∷ ds) = (d * 16 + e) ∷ bytesIn ds
 
--- where a line has its name's digit, its bases, its state and its windows
+-- where a line has its name's digit, its bases and its windows, these after a state of d digits
 abbrev pub nameAt : ℕ
 nameAt = 13
 
@@ -54,36 +54,38 @@ baseAAt = 33 + 2 * lengthDigits
 abbrev pub baseBAt : ℕ
 baseBAt = 50 + 2 * lengthDigits
 
-abbrev pub stateAt : ℕ
-stateAt = 75 + 2 * lengthDigits
-
-abbrev pub windowsAt : ℕ
-windowsAt = 86 + 2 * lengthDigits + stateDigits
+abbrev pub windowsAt : ℕ → ℕ
+windowsAt d = 86 + 2 * lengthDigits + d
 
 unfoldable pub nameOf : List ℕ → ℕ
 nameOf l = hexAt l nameAt 1
 
--- THE point of a line
-unfoldable pub pointOf : List ℕ → Point
-pointOf l = record {
-  image = bytesIn (digitsAt l stateAt stateDigits);
+-- the point of a line whose state has d digits
+unfoldable pub pointBy : ℕ → List ℕ → Point
+pointBy d l = record {
+  image = bytesIn (digitsAt l stateAt d);
   baseA = hexAt l baseAAt 16;
   baseB = hexAt l baseBAt 16;
-  a = bytesIn (digitsAt l windowsAt (16 * octasA lengthDigits l));
-  b = bytesIn (digitsAt l (windowsAt + 16 * octasA lengthDigits l) (16 * octasB lengthDigits l));
+  a = bytesIn (digitsAt l (windowsAt d) (16 * octasA lengthDigits l));
+  b = bytesIn (digitsAt l (windowsAt d + 16 * octasA lengthDigits l) (16 * octasB lengthDigits l));
 }
+
+-- THE point of a line: "an old image is read with an empty mask"
+unfoldable pub pointOf : List ℕ → Point
+pointOf l = cond (isNew l) (pointBy stateDigits l) (full (pointBy oldStateDigits l))
 
 -- ---- THEOREM: each is the other's
 
--- a point's line is a point's line, and has that name and that point
+-- a point's line is a point's line, in the form that is written, and has that name and that point
 pub record Told (name : ℕ) (p : Point) : Type 0 where
+  pub line-new : isNew (lineOf name p) ≡ true
   pub line-good : isPoint (lineOf name p) ≡ true
   pub name-is : nameOf (lineOf name p) ≡ name
   pub point-is : pointOf (lineOf name p) ≡ p
 
--- a line is the line of its point under its name, and these are such as can be kept
+-- the line of a line's point under its name is what is written of the line, and these are such as can be kept
 pub record Read (l : List ℕ) : Type 0 where
-  pub line-is : lineOf (nameOf l) (pointOf l) ≡ l
+  pub line-is : lineOf (nameOf l) (pointOf l) ≡ renewed l
   pub name-small : nameOf l < pointCount
   pub point-fits : Fits (pointOf l)
   pub of-bytes : OfBytes (pointOf l)
@@ -91,3 +93,5 @@ pub record Read (l : List ℕ) : Type 0 where
 pub record EachOther : Type 0 where
   pub of-point : (name : ℕ) (p : Point) → name < pointCount → Fits p → OfBytes p → Told name p
   pub of-line : (l : List ℕ) → isPoint l ≡ true → Read l
+  -- and of a line in the form that is written it is that line
+  pub of-new : (l : List ℕ) → isNew l ≡ true → lineOf (nameOf l) (pointOf l) ≡ l

@@ -1,15 +1,15 @@
 -- What is printed of a stream of points' lines, and how it is carried through in chunks. 02: "A line of just this form comes out byte for byte; any
--- other [..] prints `(bad N)` in its place and ends."
+-- other [..] prints `(bad N)` in its place and ends." A line with an old image comes out with the new one, its mask empty.
 use Prim.Native.Nat.{ℕ, suc, _+_, _-_, _≤_, _<_, min}
 use mathlib.Core.Path.{_≡_}
-use mathlib.Core.Bool.{Bool, true, false, cond, _&&_}
+use mathlib.Core.Bool.{Bool, true, false, cond, _&&_, not}
 use mathlib.Core.List.{List, [], _∷_, _++_}
 use lib.Dec.{ltb, eqb}
 use lib.ListN.{length, take, drop}
 use Rattle.model.specs.Octa.{written}
 use Rattle.text.specs.Text.{badText}
 use Rattle.text.specs.Pieces.{pieces, lineLength}
-use Rattle.lines.specs.Line.{isPoint, longestLine}
+use Rattle.lines.specs.Line.{isNew, isPoint, oldEnd, grown, renewed, longestLine}
 use Rattle.lines.specs.declared.stream.Turn.{Turn}
 use Rattle.lines.specs.declared.stream.Turn.the-variants.{More, Good, Bad}
 
@@ -22,7 +22,7 @@ newline = 10
 unfoldable pub printedLines : ℕ → List (List ℕ) → List ℕ
 printedLines n [] = []
 printedLines n (p ∷ []) = cond (eqb (length p) 0) [] (badText n)
-printedLines n (p ∷ q ∷ ps) = cond (isPoint p) (p ++ (newline ∷ printedLines (suc n) (q ∷ ps))) (badText n)
+printedLines n (p ∷ q ∷ ps) = cond (isPoint p) (renewed p ++ (newline ∷ printedLines (suc n) (q ∷ ps))) (badText n)
 
 abbrev pub printedFrom : ℕ → List ℕ → List ℕ
 printedFrom n l = printedLines n (pieces l)
@@ -33,16 +33,19 @@ printed l = printedFrom 1 l
 
 -- ---- a chunk at a time: `held` has the first `count` bytes of a line, and the chunk is what follows them
 
+-- the line as far as the chunk has it
+abbrev pub lineSoFar : List ℕ → ℕ → List ℕ → List ℕ
+lineSoFar held count chunk = take count held ++ take (lineLength chunk) chunk
+
 -- the line ends within the chunk, there is room for it and its newline, and it is a point's
 unfoldable pub isGood : List ℕ → ℕ → List ℕ → Bool
 isGood held count chunk =
-    ltb (lineLength chunk) (length chunk)
-    && (ltb (count + lineLength chunk) (length held) && isPoint (take count held ++ take (lineLength chunk) chunk))
+    ltb (lineLength chunk) (length chunk) && (ltb (count + lineLength chunk) (length held) && isPoint (lineSoFar held count chunk))
 
 -- THE answer of a turn
 unfoldable pub turnOf : List ℕ → ℕ → List ℕ → Turn
 turnOf held count chunk =
-    cond (isGood held count chunk) (Good (lineLength chunk + 1) (count + lineLength chunk + 1))
+    cond (isGood held count chunk) (Good (lineLength chunk + 1) (count + lineLength chunk + 1) (not (isNew (lineSoFar held count chunk))))
     (cond (eqb (lineLength chunk) (length chunk)) (More (count + min (length chunk) (length held - count))) Bad)
 
 -- and what is held then: the line further, as far as there is room; of a good one its newline too
@@ -55,13 +58,17 @@ heldAfter held count chunk = written held count (take (lineLength chunk + cond (
 abbrev pub Unended : List ℕ → Type 0
 Unended h = lineLength h ≡ length h
 
+-- a line, with its newline, as it is printed
+unfoldable pub anew : Bool → List ℕ → List ℕ
+anew old l = cond old (grown l) l
+
 -- what a turn on `held` and `chunk`, which leaves `left`, tells of what is printed from line n on, whatever follows the chunk
 unfoldable pub Tells : ℕ → List ℕ → ℕ → List ℕ → List ℕ → List ℕ → Turn → Type 0
 Tells n held count chunk left rest (More more) =
     (printedFrom n (take count held ++ (chunk ++ rest)) ≡ printedFrom n (take more left ++ rest)) × (more ≤ length left) × Unended (take more left)
-Tells n held count chunk left rest (Good used shown) =
-    (printedFrom n (take count held ++ (chunk ++ rest)) ≡ take shown left ++ printedFrom (suc n) (drop used chunk ++ rest))
-    × (shown ≤ length left) × (0 < used) × (used ≤ length chunk)
+Tells n held count chunk left rest (Good used shown old) =
+    (printedFrom n (take count held ++ (chunk ++ rest)) ≡ anew old (take shown left) ++ printedFrom (suc n) (drop used chunk ++ rest))
+    × (shown ≤ length left) × (0 < used) × (used ≤ length chunk) × (oldEnd ≤ shown)
 Tells n held count chunk left rest Bad = printedFrom n (take count held ++ (chunk ++ rest)) ≡ badText n
 
 -- THEOREM: however reading splits a text, turns print what is printed of it: what is shown, and then what is printed of the rest
@@ -69,9 +76,11 @@ abbrev pub AnySplit : Type 0
 AnySplit = (held : List ℕ) (count : ℕ) (chunk : List ℕ) → longestLine < length held → count ≤ length held → Unended (take count held)
     → (n : ℕ) (rest : List ℕ) → Tells n held count chunk (heldAfter held count chunk) rest (turnOf held count chunk)
 
--- THEOREM: "A line of just this form comes out byte for byte; any other [..] prints `(bad N)` in its place and ends"
+-- THEOREM: "A line of just this form comes out byte for byte; any other [..] prints `(bad N)` in its place and ends"; "Point lines with an old image are
+-- still read but never written"
 pub record LineByLine : Type 0 where
-  pub good : (n : ℕ) (p l : List ℕ) → Unended p → isPoint p ≡ true → printedFrom n (p ++ (newline ∷ l)) ≡ p ++ (newline ∷ printedFrom (suc n) l)
+  pub good : (n : ℕ) (p l : List ℕ) → Unended p → isNew p ≡ true → printedFrom n (p ++ (newline ∷ l)) ≡ p ++ (newline ∷ printedFrom (suc n) l)
+  pub renews : (n : ℕ) (p l : List ℕ) → Unended p → isPoint p ≡ true → printedFrom n (p ++ (newline ∷ l)) ≡ renewed p ++ (newline ∷ printedFrom (suc n) l)
   pub bad : (n : ℕ) (p l : List ℕ) → Unended p → isPoint p ≡ false → printedFrom n (p ++ (newline ∷ l)) ≡ badText n
   pub unended : (n : ℕ) (p : List ℕ) → Unended p → 0 < length p → printedFrom n p ≡ badText n
   pub ended : (n : ℕ) → printedFrom n [] ≡ []

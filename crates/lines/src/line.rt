@@ -3,16 +3,20 @@ ghost use mathlib.Core.Path.{_≡_};
 ghost use mathlib.Core.List.{List, [], _∷_, _++_};
 ghost use Prim.Native.Nat.{ℕ, _≤_, _<_, _^_};
 ghost use lib.ListN.{replicate};
-ghost use Rattle.lines.specs.Line.{mark, fitsByte, hexAt, isForm, isPoint};
+ghost use Rattle.lines.specs.Line.{mark, fitsByte, hexAt, isForm, isNew, isOld};
 ghost use Rattle.lines.specs.Met.{met};
 
-/// Bytes of a state image, and of the largest window.
-const IMAGE_LEN: usize = 2328;
+/// Bytes of a state image, of an old one, and of the largest window.
+const IMAGE_LEN: usize = 2336;
+
+const OLD_IMAGE_LEN: usize = 2328;
 
 const WINDOW_MAX: u64 = 65536;
 
-/// Digits of a state: two a byte.
+/// Digits of a state, and of an old image: two a byte.
 const STATE_DIGITS: usize = 2 * IMAGE_LEN;
+
+const OLD_STATE_DIGITS: usize = 2 * OLD_IMAGE_LEN;
 
 /// The largest window, in octabytes.
 const OCTAS_MAX: u64 = WINDOW_MAX / 8;
@@ -23,11 +27,21 @@ const LENGTH_DIGITS: usize = 4;
 /// The longest line of a point, its newline left out: 88 bytes are neither a length's nor the state's nor a window's.
 pub const LONGEST_LINE: usize = 88 + 2 * LENGTH_DIGITS + STATE_DIGITS + 32 * OCTAS_MAX as usize;
 
-/// Whether a line, its newline left out, is a point's.
-pub fn is_point(line: &[u8]) -> bool
-    ensures { λ r. ⌜ r ≡ isPoint (now (line .entry)) ⌝ }
+/// Where the state of a line with an old image ends.
+pub const OLD_END: usize = 75 + 2 * LENGTH_DIGITS + OLD_STATE_DIGITS;
+
+/// Whether a line, its newline left out, is a point's, of the form that is written.
+pub fn is_new(line: &[u8]) -> bool
+    ensures { λ r. ⌜ r ≡ isNew (now (line .entry)) ⌝ }
 {
     is_form(line, LENGTH_DIGITS, STATE_DIGITS, OCTAS_MAX)
+}
+
+/// Whether it is one with an old image.
+pub fn is_old(line: &[u8]) -> bool
+    ensures { λ r. ⌜ r ≡ isOld (now (line .entry)) ⌝ }
+{
+    is_form(line, LENGTH_DIGITS, OLD_STATE_DIGITS, OCTAS_MAX)
 }
 
 // Whether it is one with lengths of w digits, up to k octabytes each, and a state of d digits.

@@ -4,6 +4,7 @@ pub mod Fill
 pub mod Octa
 pub mod Bytes
 pub mod Slices
+pub mod Kept
 pub mod Memory
 pub mod Apart
 pub mod Plan

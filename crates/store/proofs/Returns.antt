@@ -15,7 +15,8 @@ use Rattle.model.specs.Step.{unruledBy}
 use Rattle.model.specs.Kept.{pointCount, imageLength, oldImageLength, octasOf, Point, pointIn, atLength, full, Fits}
 use Rattle.model.specs.declared.State.{State}
 use Rattle.model.proofs.Bools.{on, and-right}
-use Rattle.model.proofs.Slices.{part-all, part-within}
+use Rattle.model.proofs.Slices.{part-within}
+use Rattle.model.proofs.Kept.{at-own}
 use Rattle.image.specs.Image.{isImage, hasRoom, stateOf}
 use Rattle.image.proofs.Coded.{either, at-most, room-new, room-old}
 use Rattle.image.proofs.RoundTrips.{keeps-length}
@@ -200,10 +201,6 @@ last-in s cs ch j q l =
 room-as : (k l : List ℕ) → isImage k ≡ true → length k ≡ length l → hasRoom k (stateOf l .mask) ≡ true
 room-as k l e n = ⊎-elim (λ a. room-new k _ a) (λ a. room-old k _ a ∙ eq-eqb _ 0 (keeps-length .old-mask l (eq-eqb (length l) oldImageLength (sym n ∙ a)))) (either k e)
 
--- and is given back whole
-same-length : (n : ℕ) (q : Point) → n ≡ length (q .image) → atLength n q ≡ q
-same-length n q e = ap (λ (i : List ℕ). pointIn i (q .baseA) (q .baseB) (q .a) (q .b)) (ap (part (q .image) 0) e ∙ part-all (q .image))
-
 module _ (s : List ℕ) (cs : List Call) (ch : Chain s cs) (j : ℕ) (q : Point) (l : TakenLast j q cs) (p : Point) (lent : LentAs q p) where
   gives-at : hasRoom (p .image) (stateOf (q .image) .mask) ≡ true
       → (n : ℕ) (t : Point) → GoneBack (lastStore s cs) j p n t
@@ -216,7 +213,7 @@ module _ (s : List ℕ) (cs : List Call) (ch : Chain s cs) (j : ℕ) (q : Point)
   gives-back : length (p .image) ≡ length (q .image) → (n : ℕ) (t : Point) → GoneBack (lastStore s cs) j p n t → (n ≡ 0) × (t ≡ q)
   gives-back e n t d =
       let g = gives-at (room-as (p .image) (q .image) (lent .image-is) e) n t d in
-      (g .0, g .1 .0 ∙ same-length (length (p .image)) q e)
+      (g .0, g .1 .0 ∙ at-own (length (p .image)) q e)
 
 pub returns : Returns
 returns = record {

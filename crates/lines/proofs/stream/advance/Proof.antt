@@ -1,13 +1,15 @@
 -- `advance` meets its contract: its tests are those by which a turn is defined.
 use mathlib.Core.Path.{_≡_, sym, _∙_}
+use mathlib.Core.Bool.{true, false}
 use Prim.Native.Nat.{_≤_}
 use native.Mathlib.Omega.{arith}
 use lib.ListN.{length}
 use lib.Seq.{length-take-le}
-use borrow.Author.Needs.{needs}
 use Rattle.text.specs.Pieces.{lineLength}
 use Rattle.text.proofs.Pieces.{length-line}
+use Rattle.lines.proofs.Forms.{point-new, point-old, point-not}
 use Rattle.lines.proofs.Turns.{turn-more, turn-good, turn-bad, turn-full}
+use borrow.Author.Needs.{needs}
 use Rattle.lines.proofs.stream.advance.Statement.{statement}
 use Rattle.lines.proofs.stream.advance.Tie as tie
 
@@ -38,16 +40,16 @@ returns c =
     let a = finding .before .before .before .args in
     turn-more (a .held .now) (a .count) (a .chunk .now) _ _ _ (ending finding) (keeping .keep .ensures .0) (keeping .keep .ensures .1) (c .if1 .taken)
 
-slice-reshare-prefix-is-point : tie.Need-slice-reshare-prefix-is-point
-slice-reshare-prefix-is-point c = search needs
+slice-reshare-prefix-is-new : tie.Need-slice-reshare-prefix-is-new
+slice-reshare-prefix-is-new c = search needs
 
-slice-aggregate-is-point : tie.Need-slice-aggregate-is-point
-slice-aggregate-is-point c =
+slice-aggregate-is-new : tie.Need-slice-aggregate-is-new
+slice-aggregate-is-new c =
     let keeping = c .before .before .before .before .before in
     sym (length-take-le (keeping .keep .result) (keeping .keep .last .1 .0) (omega arith))
 
-is-point-requires : tie.Need-is-point-requires
-is-point-requires c κs = search needs
+is-new-requires : tie.Need-is-new-requires
+is-new-requires c κs = search needs
 
 slice-write-held : tie.Need-slice-write-held
 slice-write-held c = search needs
@@ -71,26 +73,67 @@ returns-2 c =
     let keeping = fresh .before .before .before in
     let finding = keeping .before .before .before in
     let a = finding .before .before .before .args in
-    turn-good (a .held .now) (a .count) (a .chunk .now) _ _ _ (ending finding) (keeping .keep .ensures .0) (keeping .keep .ensures .1) (fresh .if1 .left) (here .if2 .taken) (sym (judging .is-point .ensures) ∙ c .if3 .taken)
+    let new = sym (judging .is-new .ensures) ∙ c .if3 .taken in
+    turn-good (a .held .now) (a .count) (a .chunk .now) _ _ _ (ending finding) (keeping .keep .ensures .0) (keeping .keep .ensures .1) (fresh .if1 .left) (here .if2 .taken)
+    true new (point-new _ new)
+
+slice-reshare-prefix-is-old : tie.Need-slice-reshare-prefix-is-old
+slice-reshare-prefix-is-old c = search needs
+
+slice-aggregate-is-old : tie.Need-slice-aggregate-is-old
+slice-aggregate-is-old c =
+    let keeping = c .before .before .before .before .before .before .before .before in
+    sym (length-take-le (keeping .keep .result) (keeping .keep .last .1 .0) (omega arith))
+
+is-old-requires : tie.Need-is-old-requires
+is-old-requires c κs = search needs
+
+slice-write-held-2 : tie.Need-slice-write-held-2
+slice-write-held-2 c = search needs
+
+add-t22 : tie.Need-add-t22
+add-t22 c =
+    let fresh = c .before .before .before .before .before .before .before in
+    omega (arith, within (fresh .before .before .before .before .before .before), fresh .if1 .left)
+
+add-t23 : tie.Need-add-t23
+add-t23 c = search needs
 
 same-length-3 : tie.Need-same-length-3
 same-length-3 c = search needs
 
 returns-3 : tie.Need-returns-3
 returns-3 c =
-    let judging = c .before in
+    let other = c .before .before .before in
+    let judging = other .before in
     let here = judging .before .before in
     let fresh = here .before in
     let keeping = fresh .before .before .before in
     let finding = keeping .before .before .before in
     let a = finding .before .before .before .args in
-    turn-bad (a .held .now) (a .count) (a .chunk .now) _ _ _ (ending finding) (keeping .keep .ensures .0) (keeping .keep .ensures .1) (fresh .if1 .left) (here .if2 .taken) (sym (judging .is-point .ensures) ∙ c .if3 .left)
+    turn-good (a .held .now) (a .count) (a .chunk .now) _ _ _ (ending finding) (keeping .keep .ensures .0) (keeping .keep .ensures .1) (fresh .if1 .left) (here .if2 .taken)
+    false (sym (judging .is-new .ensures) ∙ other .if3 .left) (point-old _ (sym (c .before .is-old .ensures) ∙ c .if4 .taken))
 
 same-length-4 : tie.Need-same-length-4
 same-length-4 c = search needs
 
 returns-4 : tie.Need-returns-4
 returns-4 c =
+    let other = c .before .before .before in
+    let judging = other .before in
+    let here = judging .before .before in
+    let fresh = here .before in
+    let keeping = fresh .before .before .before in
+    let finding = keeping .before .before .before in
+    let a = finding .before .before .before .args in
+    turn-bad (a .held .now) (a .count) (a .chunk .now) _ _ _ (ending finding) (keeping .keep .ensures .0) (keeping .keep .ensures .1) (fresh .if1 .left) (here .if2 .taken)
+    (point-not _ (sym (judging .is-new .ensures) ∙ other .if3 .left) (sym (c .before .is-old .ensures) ∙ c .if4 .left))
+
+same-length-5 : tie.Need-same-length-5
+same-length-5 c = search needs
+
+returns-5 : tie.Need-returns-5
+returns-5 c =
     let fresh = c .before in
     let keeping = fresh .before .before .before in
     let finding = keeping .before .before .before in
@@ -106,15 +149,23 @@ advance-spec =
     keep-requires
     same-length
     returns
-    slice-reshare-prefix-is-point
-    slice-aggregate-is-point
-    is-point-requires
+    slice-reshare-prefix-is-new
+    slice-aggregate-is-new
+    is-new-requires
     slice-write-held
     add-t16
     add-t17
     same-length-2
     returns-2
+    slice-reshare-prefix-is-old
+    slice-aggregate-is-old
+    is-old-requires
+    slice-write-held-2
+    add-t22
+    add-t23
     same-length-3
     returns-3
     same-length-4
-    returns-4)
+    returns-4
+    same-length-5
+    returns-5)
