@@ -2,7 +2,7 @@
 use mathlib.Core.Path.{_≡_, refl, sym, ap, _∙_}
 use mathlib.Core.Logic.{⊎-elim}
 use mathlib.Core.Bool.{true, false}
-use mathlib.Core.List.{List, [], _++_, append-assoc}
+use mathlib.Core.List.{List, _++_, append-assoc}
 use Prim.Native.Nat.{ℕ, _+_, _*_}
 use native.Mathlib.Omega.{arith}
 use lib.ListN.{length, take, drop, replicate, length-append, length-replicate, replicate-append-replicate}
@@ -18,7 +18,7 @@ use Rattle.lines.specs.PointLine.{hexOf, digitsOf, inForm, pointDigits, 
 use Rattle.lines.proofs.Forms.{which-form}
 use Rattle.lines.proofs.Marks.{marksIn, marks-append, marks-marks, in-append, length-in}
 use Rattle.lines.proofs.Hex.{length-hex, length-digits, digits-bytes}
-use Rattle.lines.proofs.LinePoint.{form, lineBy, ReadBy, read-by}
+use Rattle.lines.proofs.LinePoint.{lineBy, ReadBy, read-by}
 
 -- ---- which point, and what is written
 

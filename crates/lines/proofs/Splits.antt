@@ -249,9 +249,13 @@ module _ (held : List ℕ) (count : ℕ) (chunk : List ℕ) (long : longestLine 
         let f : take (count + k + 1) left ≡ p ++ (newline ∷ []) = ap (λ (j : ℕ). take j left) q ∙ ap (take (count + length t)) (left-good held count chunk e)
         ∙ take-written held count t (omega arith) ∙ ap (λ (x : List ℕ). h ++ x) ends ∙ sym (append-assoc h (take k chunk) (newline ∷ [])) in
         let long : oldEnd ≤ length p = past-end p b in
-        rw (is-good held count chunk e, f, anew-line p (newline ∷ []) long)
-        (ap (printedFrom n) (begun h chunk rest g) ∙ good-printed n p w _ b ∙ sym (append-snoc (renewed p) newline _), omega (arith, z), omega arith, omega arith,
-        omega (arith, length-append h (take k chunk), length-h, size-k))
+        rw (is-good held count chunk e, f, anew-line p (newline ∷ []) long) (
+          ap (printedFrom n) (begun h chunk rest g) ∙ good-printed n p w _ b ∙ sym (append-snoc (renewed p) newline _),
+          omega (arith, z),
+          omega arith,
+          omega arith,
+          omega (arith, length-append h (take k chunk), length-h, size-k),
+        )
 
     told-ended : Told (turnOf held count chunk)
     told-ended = go (decLt (count + k) (length held)) (flag (isPoint p))

@@ -110,9 +110,11 @@ module _ (held : List ℕ) (count : ℕ) (chunk left : List ℕ) (end next : ℕ
       pub turn-good : (t : Bool) → isNew (take next left) ≡ t → isPoint (take next left) ≡ true → Answered (Good (end + 1) (next + 1) (not t)) (set left next newline)
       turn-good t n p =
           let w : isGood held count chunk ≡ true = good-here held count chunk ends fits (sym (ap isPoint line-is) ∙ p) in
-          let q : t ≡ isNew (line held count chunk) = sym n ∙ ap isNew line-is in
-          (ap (λ (k : ℕ). Good (k + 1) (next + 1) (not t)) e ∙ ap (λ (k : ℕ). Good (lineLength chunk + 1) (k + 1) (not t)) next-is
-          ∙ ap (λ (u : Bool). Good (lineLength chunk + 1) (count + lineLength chunk + 1) (not u)) q ∙ sym (is-good held count chunk w), joined ∙ sym (left-good held count chunk w))
+          let q : t ≡ isNew (line held count chunk) = sym n ∙ ap isNew line-is in (
+            ap (λ (k : ℕ). Good (k + 1) (next + 1) (not t)) e ∙ ap (λ (k : ℕ). Good (lineLength chunk + 1) (k + 1) (not t)) next-is
+                ∙ ap (λ (u : Bool). Good (lineLength chunk + 1) (count + lineLength chunk + 1) (not u)) q ∙ sym (is-good held count chunk w),
+            joined ∙ sym (left-good held count chunk w),
+          )
         where
           joined : set left next newline ≡ written held count (take (lineLength chunk + 1) chunk)
           joined =

@@ -1,15 +1,16 @@
-//! The program points: lines of points on standard input, each anew on standard output; a line that is no point's is told by `(bad N)`, and ends
-//! it. A read or a write that fails is told on standard error.
+//! The program points: lines of points on standard input, each anew on standard output, one with an old image with the new; a line that is no
+//! point's is told by `(bad N)`, and ends it. A read or a write that fails is told on standard error.
 
 ghost use mathlib.Core.Path.{_≡_};
 ghost use Prim.Native.Nat.{_+_, _≤_, _<_, _^_};
 ghost use lib.ListN.{length, take};
 ghost use Rattle.text.specs.Text.{badText};
-ghost use Rattle.lines.specs.Line.{longestLine};
+ghost use Rattle.lines.specs.Line.{oldEnd, longestLine};
 ghost use Rattle.points.specs.Chunk.{inputLength, heldLength, Begun, Leaves, EndsAs, Ready};
 use libc::STDERR_FILENO;
 use libc::STDIN_FILENO;
 use libc::STDOUT_FILENO;
+use lines::line::OLD_END;
 use lines::stream::HELD_LEN;
 use lines::stream::Turn;
 
@@ -32,6 +33,22 @@ enum After {
     Ended,
 }
 
+/// A line is printed with its newline, an old one with sixteen digits 0 after its image's; false where a write fails.
+fn print_line(line: &[u8], old: bool) -> bool
+    requires { ⌜ oldEnd ≤ length (now line) ⌝ }
+{
+    if !old {
+        return io::write_all(STDOUT_FILENO, line);
+    }
+    if !io::write_all(STDOUT_FILENO, &line[..OLD_END]) {
+        return false;
+    }
+    if !io::write_all(STDOUT_FILENO, b"0000000000000000") {
+        return false;
+    }
+    io::write_all(STDOUT_FILENO, &line[OLD_END..])
+}
+
 /// The lines that end in a chunk are printed. Line n is the first, of which `first` bytes are held.
 fn print_lines(chunk: &[u8], held: &mut [u8], first: usize, n: u64) -> After
     requires { ⌜ Begun (now held) first × (n + length (now chunk) < 2 ^ 64) ⌝ }
@@ -46,8 +63,8 @@ fn print_lines(chunk: &[u8], held: &mut [u8], first: usize, n: u64) -> After
             Turn::More(more) => {
                 return After::On(more, number);
             }
-            Turn::Good(used, shown) => {
-                if !io::write_all(STDOUT_FILENO, &held[..shown]) {
+            Turn::Good(used, shown, old) => {
+                if !print_line(&held[..shown], old) {
                     os::fail(b"standard output");
                     return After::Ended;
                 }

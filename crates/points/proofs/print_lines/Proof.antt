@@ -6,7 +6,7 @@ use lib.ListN.{length}
 use lib.Seq.{length-take-le}
 use borrow.Author.Needs.{needs}
 use Rattle.points.specs.Chunk.{Leaves}
-use Rattle.points.proofs.Chunks.{Midway, at-start, at-end, lent-rest, turn-more, turn-bad, turn-good, shown-within, some-used, used-within}
+use Rattle.points.proofs.Chunks.{Midway, at-start, at-end, lent-rest, turn-more, turn-bad, turn-good, shown-within, end-within, some-used, used-within}
 use Rattle.points.proofs.print_lines.Statement.{statement}
 use Rattle.points.proofs.print_lines.Tie as tie
 
@@ -53,26 +53,34 @@ returns c =
 enum-known-turn-2 : tie.Need-enum-known-turn-2 Inv-loop μ-loop
 enum-known-turn-2 c = search needs
 
-slice-reshare-prefix-write-all : tie.Need-slice-reshare-prefix-write-all Inv-loop μ-loop
-slice-reshare-prefix-write-all c =
+slice-reshare-prefix-print-line : tie.Need-slice-reshare-prefix-print-line Inv-loop μ-loop
+slice-reshare-prefix-print-line c =
     let told = c .before in
     let turning = told .before .before .before .before in
     let at-loop = turning .before .before .before .before in
     let l = at-loop .loop in
     let a = at-loop .before .before .before .args in
-    shown-within (a .n) (a .held .now) (a .first) (a .chunk .now) (l .held) (l .at) (l .count) (l .number) (l .inv .3) _ (lent-rest (a .chunk .now) (l .at) (l .inv .0)) _ _ (turning .advance .ensures .0) (turning .advance .ensures .1) _ _ (told .turn2 .given .1)
+    shown-within (a .n) (a .held .now) (a .first) (a .chunk .now) (l .held) (l .at) (l .count) (l .number) (l .inv .3) _ (lent-rest (a .chunk .now) (l .at) (l .inv .0)) _ _ (turning .advance .ensures .0) (turning .advance .ensures .1) _ _ _ (told .turn2 .given .1)
 
-slice-aggregate-write-all : tie.Need-slice-aggregate-write-all Inv-loop μ-loop
-slice-aggregate-write-all c =
+slice-aggregate-print-line : tie.Need-slice-aggregate-print-line Inv-loop μ-loop
+slice-aggregate-print-line c =
     let told = c .before .before in
     let turning = told .before .before .before .before in
     let at-loop = turning .before .before .before .before in
     let l = at-loop .loop in
     let a = at-loop .before .before .before .args in
-    sym (length-take-le _ (turning .advance .last .1 .0) (shown-within (a .n) (a .held .now) (a .first) (a .chunk .now) (l .held) (l .at) (l .count) (l .number) (l .inv .3) _ (lent-rest (a .chunk .now) (l .at) (l .inv .0)) _ _ (turning .advance .ensures .0) (turning .advance .ensures .1) _ _ (told .turn2 .given .1)))
+    sym (length-take-le _ (turning .advance .last .1 .0) (shown-within (a .n) (a .held .now) (a .first) (a .chunk .now) (l .held) (l .at) (l .count) (l .number) (l .inv .3) _ (lent-rest (a .chunk .now) (l .at) (l .inv .0)) _ _ (turning .advance .ensures .0) (turning .advance .ensures .1) _ _ _ (told .turn2 .given .1)))
 
-write-all-requires : tie.Need-write-all-requires Inv-loop μ-loop
-write-all-requires c κs = search needs
+print-line-requires : tie.Need-print-line-requires Inv-loop μ-loop
+print-line-requires c κs =
+    let told = c .before .before in
+    let turning = told .before .before .before .before in
+    let at-loop = turning .before .before .before .before in
+    let l = at-loop .loop in
+    let a = at-loop .before .before .before .args in
+    let within = shown-within (a .n) (a .held .now) (a .first) (a .chunk .now) (l .held) (l .at) (l .count) (l .number) (l .inv .3) _ (lent-rest (a .chunk .now) (l .at) (l .inv .0)) _ _ (turning .advance .ensures .0) (turning .advance .ensures .1) _ _ _ (told .turn2 .given .1) in
+    let past = end-within (a .n) (a .held .now) (a .first) (a .chunk .now) (l .held) (l .at) (l .count) (l .number) (l .inv .3) _ (lent-rest (a .chunk .now) (l .at) (l .inv .0)) _ _ (turning .advance .ensures .0) (turning .advance .ensures .1) _ _ _ (told .turn2 .given .1) in
+    omega (arith, past, length-take-le _ (turning .advance .last .1 .0) within)
 
 slice-aggregate-fail : tie.Need-slice-aggregate-fail Inv-loop μ-loop
 slice-aggregate-fail c = search needs
@@ -94,7 +102,7 @@ add-at c =
     let at-loop = turning .before .before .before .before in
     let l = at-loop .loop in
     let a = at-loop .before .before .before .args in
-    let k = used-within (a .n) (a .held .now) (a .first) (a .chunk .now) (l .held) (l .at) (l .count) (l .number) (l .inv .3) _ (lent-rest (a .chunk .now) (l .at) (l .inv .0)) _ _ (turning .advance .ensures .0) (turning .advance .ensures .1) _ _ (told .turn2 .given .1) in
+    let k = used-within (a .n) (a .held .now) (a .first) (a .chunk .now) (l .held) (l .at) (l .count) (l .number) (l .inv .3) _ (lent-rest (a .chunk .now) (l .at) (l .inv .0)) _ _ (turning .advance .ensures .0) (turning .advance .ensures .1) _ _ _ (told .turn2 .given .1) in
     omega (arith, k)
 
 add-number : tie.Need-add-number Inv-loop μ-loop
@@ -114,8 +122,8 @@ loop-less c =
     let at-loop = turning .before .before .before .before in
     let l = at-loop .loop in
     let a = at-loop .before .before .before .args in
-    let k = used-within (a .n) (a .held .now) (a .first) (a .chunk .now) (l .held) (l .at) (l .count) (l .number) (l .inv .3) _ (lent-rest (a .chunk .now) (l .at) (l .inv .0)) _ _ (turning .advance .ensures .0) (turning .advance .ensures .1) _ _ (told .turn2 .given .1) in
-    let m = some-used (a .n) (a .held .now) (a .first) (a .chunk .now) (l .held) (l .at) (l .count) (l .number) (l .inv .3) _ (lent-rest (a .chunk .now) (l .at) (l .inv .0)) _ _ (turning .advance .ensures .0) (turning .advance .ensures .1) _ _ (told .turn2 .given .1) in
+    let k = used-within (a .n) (a .held .now) (a .first) (a .chunk .now) (l .held) (l .at) (l .count) (l .number) (l .inv .3) _ (lent-rest (a .chunk .now) (l .at) (l .inv .0)) _ _ (turning .advance .ensures .0) (turning .advance .ensures .1) _ _ _ (told .turn2 .given .1) in
+    let m = some-used (a .n) (a .held .now) (a .first) (a .chunk .now) (l .held) (l .at) (l .count) (l .number) (l .inv .3) _ (lent-rest (a .chunk .now) (l .at) (l .inv .0)) _ _ (turning .advance .ensures .0) (turning .advance .ensures .1) _ _ _ (told .turn2 .given .1) in
     omega (arith, k, m)
 
 loop-again : tie.Need-loop-again Inv-loop μ-loop
@@ -125,9 +133,9 @@ loop-again c =
     let at-loop = turning .before .before .before .before in
     let l = at-loop .loop in
     let a = at-loop .before .before .before .args in
-    let k = used-within (a .n) (a .held .now) (a .first) (a .chunk .now) (l .held) (l .at) (l .count) (l .number) (l .inv .3) _ (lent-rest (a .chunk .now) (l .at) (l .inv .0)) _ _ (turning .advance .ensures .0) (turning .advance .ensures .1) _ _ (told .turn2 .given .1) in
-    let m = some-used (a .n) (a .held .now) (a .first) (a .chunk .now) (l .held) (l .at) (l .count) (l .number) (l .inv .3) _ (lent-rest (a .chunk .now) (l .at) (l .inv .0)) _ _ (turning .advance .ensures .0) (turning .advance .ensures .1) _ _ (told .turn2 .given .1) in
-    (omega (arith, k), omega (arith, m, l .inv .1), turning .advance .kept .1 .0 ∙ l .inv .2, turn-good (a .n) (a .held .now) (a .first) (a .chunk .now) (l .held) (l .at) (l .count) (l .number) (l .inv .3) _ (lent-rest (a .chunk .now) (l .at) (l .inv .0)) _ _ (turning .advance .ensures .0) (turning .advance .ensures .1) _ _ (told .turn2 .given .1))
+    let k = used-within (a .n) (a .held .now) (a .first) (a .chunk .now) (l .held) (l .at) (l .count) (l .number) (l .inv .3) _ (lent-rest (a .chunk .now) (l .at) (l .inv .0)) _ _ (turning .advance .ensures .0) (turning .advance .ensures .1) _ _ _ (told .turn2 .given .1) in
+    let m = some-used (a .n) (a .held .now) (a .first) (a .chunk .now) (l .held) (l .at) (l .count) (l .number) (l .inv .3) _ (lent-rest (a .chunk .now) (l .at) (l .inv .0)) _ _ (turning .advance .ensures .0) (turning .advance .ensures .1) _ _ _ (told .turn2 .given .1) in
+    (omega (arith, k), omega (arith, m, l .inv .1), turning .advance .kept .1 .0 ∙ l .inv .2, turn-good (a .n) (a .held .now) (a .first) (a .chunk .now) (l .held) (l .at) (l .count) (l .number) (l .inv .3) _ (lent-rest (a .chunk .now) (l .at) (l .inv .0)) _ _ (turning .advance .ensures .0) (turning .advance .ensures .1) _ _ _ (told .turn2 .given .1))
 
 enum-told : tie.Need-enum-told Inv-loop μ-loop
 enum-told c = search needs
@@ -167,9 +175,9 @@ print-lines-spec =
     same-length
     returns
     enum-known-turn-2
-    slice-reshare-prefix-write-all
-    slice-aggregate-write-all
-    write-all-requires
+    slice-reshare-prefix-print-line
+    slice-aggregate-print-line
+    print-line-requires
     slice-aggregate-fail
     fail-requires
     same-length-2
