@@ -7,6 +7,7 @@ use Prim.Native.Nat.{ℕ, zero, suc, _+_, _-_, _*_, _^_, _≤_, _<_}
 use native.Mathlib.Omega.{arith}
 use native.Mathlib.Numerals.{add-one}
 use borrow.Author.Tests.{lt-leb, le-leb}
+use lib.Dec.{leb}
 use lib.Pow.{pow-add, pow-mono}
 use lib.ListN.{length, getD, drop, length-append, length-replicate, drop-of-length-le}
 use lib.Seq.{drop-cons}
@@ -15,7 +16,7 @@ use Rattle.model.proofs.Fill.{flag}
 use Rattle.text.specs.Codes.{codes}
 use Rattle.text.specs.Digits.{digitOf, numberOf}
 use Rattle.text.proofs.Digits.{digit-most}
-use Rattle.lines.specs.Line.{mark, fitsByte, fits, head, bases, middle, close, marks, pointForm, digitsAt, hexAt, octasA, octasB, isForm, isNew, isOld, isPoint}
+use Rattle.lines.specs.Line.{mark, fitsByte, fits, head, bases, middle, close, marks, pointForm, digitsAt, hexAt, octasA, octasB, isForm, lengthDigits, stateDigits, oldStateDigits, octasMax, isNew, isOld, isPoint}
 use Rattle.lines.specs.Met.{met}
 use Rattle.lines.specs.declared.line.Met.{Met}
 
@@ -235,3 +236,15 @@ module _ (l : List ℕ) where
   pub which-form : isPoint l ≡ true → (isNew l ≡ true) ⊎ ((isNew l ≡ false) × (isOld l ≡ true))
   unfolding isPoint
   which-form e = ⊎-elim (λ n. inl n) (λ n. inr (n, rw n at e)) (flag (isNew l))
+
+-- never of both: with the same windows one is sixteen bytes longer
+of-length : (w d k : ℕ) (l : List ℕ) → isForm w d k l ≡ true → length l ≡ 88 + 2 * w + d + 16 * (octasA w l + octasB w l)
+unfolding isForm
+of-length w d k l e =
+    length-fits (pointForm w d (octasA w l + octasB w l)) l (and-right (leb (octasB w l) k) _ (and-right (leb (octasA w l) k) _ e)) ∙ length-form w d (octasA w l + octasB w l)
+
+pub not-both : (l : List ℕ) → isOld l ≡ true → isNew l ≡ false
+unfolding isNew isOld
+not-both l e =
+    ⊎-elim (λ n. absurd (omega (arith, of-length lengthDigits stateDigits octasMax l n, of-length lengthDigits oldStateDigits octasMax l e))) (λ n. n)
+    (flag (isForm lengthDigits stateDigits octasMax l))

@@ -18,7 +18,7 @@ use Rattle.lines.proofs.Marks.{digitsIn, marksIn, form-fits, digits-aga
 use Rattle.lines.proofs.LineMarks.{form-marks}
 use Rattle.lines.proofs.Hex.{length-hex, hex-digits, number-hex, length-digits, bytes-digits, bytes-of-digits, length-at, same-front, same-rest}
 use Rattle.lines.proofs.LinePoint.{form, d-name, d-octasA, d-octasB, d-baseA, d-baseB, d-state, d-windows, d-a, d-b, line-digits, windows-digits}
-use Rattle.lines.proofs.Renewed.{new-point, new-same, read}
+use Rattle.lines.proofs.Renewed.{new-point, new-same, read, old}
 
 both : (xs ys : List ℕ) → Digits xs → Digits ys → Digits (xs ++ ys)
 both xs ys h k = All-both (λ (d : ℕ). d < 16) xs ys h k
@@ -192,4 +192,4 @@ module _ (name : ℕ) (p : Point) (n : name < pointCount) (f : Fits p) (o : OfBy
   told = record { line-new = is-new; line-good = point-new line is-new; name-is = is-name; point-is = new-point line is-new ∙ its-point }
 
 pub each-other : EachOther
-each-other = record { of-point = told; of-line = read; of-new = λ l e. read l (point-new l e) .line-is ∙ new-same l e }
+each-other = record { of-point = told; of-line = read; of-new = λ l e. read l (point-new l e) .line-is ∙ new-same l e; of-old = old }

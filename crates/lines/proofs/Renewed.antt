@@ -15,7 +15,7 @@ use Rattle.text.specs.Codes.{codes}
 use Rattle.text.specs.Text.{glyph}
 use Rattle.lines.specs.Line.{mark, head, bases, middle, close, marks, pointForm, lengthDigits, stateDigits, oldStateDigits, isNew, isOld, isPoint, oldEnd, noMask, grown, renewed}
 use Rattle.lines.specs.PointLine.{hexOf, digitsOf, inForm, pointDigits, lineOf, nameOf, pointBy, pointOf, Read}
-use Rattle.lines.proofs.Forms.{which-form}
+use Rattle.lines.proofs.Forms.{which-form, not-both}
 use Rattle.lines.proofs.Marks.{marksIn, marks-append, marks-marks, in-append, length-in}
 use Rattle.lines.proofs.Hex.{length-hex, length-digits, digits-bytes}
 use Rattle.lines.proofs.LinePoint.{lineBy, ReadBy, read-by}
@@ -168,3 +168,6 @@ read-old l d e =
 
 pub read : (l : List ℕ) → isPoint l ≡ true → Read l
 read l e = ⊎-elim (λ n. read-new l n) (λ n. read-old l (n .0) (n .1)) (which-form l e)
+
+pub old : (l : List ℕ) → isOld l ≡ true → (pointOf l ≡ full (pointBy oldStateDigits l)) × (lineOf (nameOf l) (pointOf l) ≡ grown l)
+old l e = let n : isNew l ≡ false = not-both l e in (old-point l n, read-old l n e .line-is ∙ old-grown l n)

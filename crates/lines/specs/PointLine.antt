@@ -7,7 +7,7 @@ use lib.Dec.{eqb}
 use lib.ListN.{getD, drop}
 use Rattle.model.specs.Kept.{Point, pointCount, full, octasOf, Fits, OfBytes}
 use Rattle.text.specs.Text.{glyph}
-use Rattle.lines.specs.Line.{mark, pointForm, digitsAt, hexAt, octasA, octasB, lengthDigits, stateDigits, oldStateDigits, isNew, isPoint, stateAt, renewed}
+use Rattle.lines.specs.Line.{mark, pointForm, digitsAt, hexAt, octasA, octasB, lengthDigits, stateDigits, oldStateDigits, isNew, isOld, isPoint, stateAt, grown, renewed}
 
 -- ---- a point's line
 
@@ -95,3 +95,5 @@ pub record EachOther : Type 0 where
   pub of-line : (l : List ℕ) → isPoint l ≡ true → Read l
   -- and of a line in the form that is written it is that line
   pub of-new : (l : List ℕ) → isNew l ≡ true → lineOf (nameOf l) (pointOf l) ≡ l
+  -- one with an old image has an empty mask's digits more
+  pub of-old : (l : List ℕ) → isOld l ≡ true → (pointOf l ≡ full (pointBy oldStateDigits l)) × (lineOf (nameOf l) (pointOf l) ≡ grown l)

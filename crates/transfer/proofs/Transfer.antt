@@ -8,22 +8,34 @@ use mathlib.Core.List.{List, [], _∷_}
 use lib.Dec.{eqb}
 use lib.ListN.{length, getD, List·getD-eq-default}
 use Rattle.model.specs.Octa.{part, written}
-use Rattle.model.specs.Kept.{Point, pointCount, imageLength, Fits, OfBytes}
+use Rattle.model.specs.Kept.{Point, pointCount, imageLength, oldImageLength, full, Fits, OfBytes}
 use Rattle.model.proofs.Fill.{lt-or-le}
 use Rattle.model.proofs.Bytes.{value-below, getD-part}
 use Rattle.model.proofs.Slices.{length-part, written-again}
+use Rattle.model.proofs.Kept.{at-own, full-bytes}
 use Rattle.machine.specs.Octabytes.{flat, octas}
-use Rattle.image.proofs.RoundTrips.{flat-octas}
-use Rattle.lines.specs.Line.{isPoint}
-use Rattle.lines.specs.PointLine.{lineOf, nameOf, Told, Read}
+use Rattle.model.specs.declared.State.{State}
+use Rattle.image.specs.Image.{stateOf}
+use Rattle.image.proofs.RoundTrips.{flat-octas, keeps-length}
+use Rattle.image.proofs.Fronts.{state-full}
+use borrow.Author.Tests.{eq-eqb}
+use Rattle.lines.specs.Line.{digitsAt, oldStateDigits, isNew, isOld, isPoint, stateAt, renewed}
+use Rattle.lines.specs.PointLine.{lineOf, nameOf, pointBy, Told, Read}
 use Rattle.lines.specs.PointLine as line
+use Rattle.lines.proofs.Forms.{point-new, point-old}
+use Rattle.lines.proofs.Hex.{length-bytes, length-at}
+use Rattle.lines.proofs.Renewed.{new-same}
 use Rattle.lines.proofs.PointLine.{each-other}
-use Rattle.store.specs.Store.{numbersAt, aAt, bAt, roomLength, storeLength, numbersOf, numberAt, filled, roomOf, taken, takeReply, Took}
+use Rattle.store.specs.Store.{numbersAt, aAt, bAt, roomLength, storeLength, numbersOf, numberAt, filled, roomOf, taken, takeReply, maskIn, Took}
 use Rattle.store.specs.Store as room
 use Rattle.store.proofs.Rooms.{point-back, filled-again}
 use Rattle.store.proofs.Stores.{length-room, room-same, room-other, beyond}
 use Rattle.store.proofs.Returns.{Passed, passed, fits}
 use Rattle.transfer.specs.Transfer.{lineFrom, filledBy, lineIn, storeWith, Keeps, Shows, RoomTold, LineTold, Transfers}
+
+-- what fits has the mask
+full-own : (p : Point) → Fits p → full p ≡ p
+full-own p f = at-own imageLength p (sym (f .image-long))
 
 -- ---- a room
 
@@ -128,8 +140,8 @@ module _ (r : List ℕ) (h : Shows r) where
 
 -- ---- a store
 
-of-take : (s : List ℕ) (k : ℕ) (p : Point) (t : List ℕ) → Took s k p 0 t → OfBytes p → Keeps (roomOf t k) p
-of-take s k p t h o =
+of-take-full : (s : List ℕ) (k : ℕ) (p : Point) (t : List ℕ) → Took s k p 0 t → OfBytes p → Keeps (roomOf t k) (full p)
+of-take-full s k p t h o =
     let z : takeReply s k p ≡ 0 = sym (h .reply-is) in
     let g : Passed s k p = passed s k p z in
     let is : t ≡ taken s k p = h .store-is ∙ ap (λ (m : ℕ). cond (eqb m 0) (taken s k p) s) z in
@@ -138,14 +150,29 @@ of-take s k p t h o =
       long = length-room s k;
       room-is = ap (λ (l : List ℕ). roomOf l k) is ∙ room-same s k p (g .long) (g .named);
       fits = fits s k p g;
-      of-bytes = o;
+      of-bytes = full-bytes p o;
     }
+
+of-take : (s : List ℕ) (k : ℕ) (p : Point) (t : List ℕ) → Took s k p 0 t → OfBytes p → length (p .image) ≡ imageLength → Keeps (roomOf t k) p
+of-take s k p t h o n = let e : full p ≡ p = at-own imageLength p (sym n) in rw e at (of-take-full s k p t h o)
+
+its-image : (r : List ℕ) → room.pointOf r .image ≡ part r 0 imageLength
+unfolding room.pointOf
+its-image r = refl
+
+old-image : (l : List ℕ) → length (pointBy oldStateDigits l .image) ≡ oldImageLength
+unfolding pointBy
+old-image l = length-bytes oldImageLength (digitsAt l stateAt oldStateDigits) (length-at l stateAt oldStateDigits)
+
+-- a room into which a point that fits was taken
+same-room : (s : List ℕ) (k : ℕ) (p : Point) → storeLength ≤ length s → k < pointCount → Fits p → roomOf (taken s k p) k ≡ filled (roomOf s k) p
+same-room s k p n b f = room-same s k p n b ∙ ap (filled (roomOf s k)) (full-own p f)
 
 -- a store into which the point of its own room k is taken
 taken-again : (s : List ℕ) (k : ℕ) (p : Point) → storeLength ≤ length s → k < pointCount → Keeps (roomOf s k) p → taken s k p ≡ s
 unfolding taken roomOf
 taken-again s k p n b h =
-    let e : filled (roomOf s k) p ≡ roomOf s k = kept-again (roomOf s k) p h in
+    let e : filled (roomOf s k) (full p) ≡ roomOf s k = ap (filled (roomOf s k)) (full-own p (h .fits)) ∙ kept-again (roomOf s k) p h in
     ap (written s (k * roomLength)) e
     ∙ written-again s (k * roomLength) (roomOf s k) (omega (arith, length-room s k)) (ap (part s (k * roomLength)) (length-room s k))
 
@@ -159,17 +186,38 @@ by-own-line s u k p b h =
 store-left : (s : List ℕ) (k : ℕ) (p : Point) → storeLength ≤ length s → k < pointCount → Keeps (roomOf s k) p → storeWith s (lineIn s k) ≡ s
 store-left s k p n b h = by-own-line s s k p b h ∙ taken-again s k p n b h
 
-line-left : (s l : List ℕ) → storeLength ≤ length s → isPoint l ≡ true → lineIn (storeWith s l) (nameOf l) ≡ l
-unfolding storeWith lineIn filledBy
-line-left s l n g =
-    ap (lineFrom (nameOf l)) (room-same s (nameOf l) (line.pointOf l) n (each-other .of-line l g .name-small))
-    ∙ of-line l (roomOf s (nameOf l)) g (length-room s (nameOf l)) .line-is
+-- the room that a line's point is put into
+line-room : (s l : List ℕ) → storeLength ≤ length s → isPoint l ≡ true → roomOf (storeWith s l) (nameOf l) ≡ filledBy (roomOf s (nameOf l)) l
+unfolding storeWith filledBy
+line-room s l n g = let r : Read l = each-other .of-line l g in same-room s (nameOf l) (line.pointOf l) n (r .name-small) (r .point-fits)
+
+line-renewed : (s l : List ℕ) → storeLength ≤ length s → isPoint l ≡ true → lineIn (storeWith s l) (nameOf l) ≡ renewed l
+unfolding lineIn
+line-renewed s l n g = ap (lineFrom (nameOf l)) (line-room s l n g) ∙ of-line l (roomOf s (nameOf l)) g (length-room s (nameOf l)) .line-is
+
+line-left : (s l : List ℕ) → storeLength ≤ length s → isNew l ≡ true → lineIn (storeWith s l) (nameOf l) ≡ l
+line-left s l n g = line-renewed s l n (point-new l g) ∙ new-same l g
+
+-- an old image's point
+old-mask : (l : List ℕ) → isOld l ≡ true → stateOf (part (pointBy oldStateDigits l .image) 0 imageLength) .mask ≡ 0
+old-mask l e =
+    ap (λ (s : State). s .mask) (state-full (pointBy oldStateDigits l .image))
+    ∙ keeps-length .old-mask (pointBy oldStateDigits l .image) (eq-eqb _ oldImageLength (old-image l))
+
+old-in : (s l : List ℕ) → storeLength ≤ length s → isOld l ≡ true
+    → (room.pointOf (roomOf (storeWith s l) (nameOf l)) ≡ full (pointBy oldStateDigits l)) × (maskIn (roomOf (storeWith s l) (nameOf l)) ≡ 0)
+unfolding maskIn
+old-in s l n e =
+    let g : isPoint l ≡ true = point-old l e in
+    let p : room.pointOf (roomOf (storeWith s l) (nameOf l)) ≡ full (pointBy oldStateDigits l)
+    = ap room.pointOf (line-room s l n g) ∙ of-line l (roomOf s (nameOf l)) g (length-room s (nameOf l)) .point-is ∙ each-other .of-old l e .0 in
+    (p, ap (λ (i : List ℕ). stateOf i .mask) (sym (its-image _) ∙ ap (λ (q : Point). q .image) p) ∙ old-mask l e)
 
 moved : (s u : List ℕ) (k : ℕ) (p : Point) → storeLength ≤ length u → k < pointCount → Keeps (roomOf s k) p → Keeps (roomOf (storeWith u (lineIn s k)) k) p
 moved s u k p n b h = record {
   before = roomOf u k;
   long = length-room u k;
-  room-is = ap (λ (l : List ℕ). roomOf l k) (by-own-line s u k p b h) ∙ room-same u k p n b;
+  room-is = ap (λ (l : List ℕ). roomOf l k) (by-own-line s u k p b h) ∙ same-room u k p n b (h .fits);
   fits = h .fits;
   of-bytes = h .of-bytes;
 }
@@ -188,8 +236,11 @@ transfers = record {
   of-line = of-line;
   by-bytes = by-bytes;
   of-take = of-take;
+  of-take-full = of-take-full;
   store-left = store-left;
   line-left = line-left;
+  line-renewed = line-renewed;
+  old-in = old-in;
   moved = moved;
   others = others;
   behind = behind;

@@ -1,5 +1,5 @@
 -- A taken point and its line determine each other, so that a host can move a store by lines: each point written as a line, each line's point put into
--- the other store. What lies in a room behind its windows is no part of a point: it is left.
+-- the other store. What lies in a room behind its windows is no part of a point: it is left. "Older stores move over by their lines", which have an old image.
 use Prim.Native.Nat.{ℕ, _*_, _≤_, _<_}
 use mathlib.Core.Path.{_≡_}
 use mathlib.Core.Logic.{_≢_}
@@ -7,11 +7,11 @@ use mathlib.Core.Bool.{true}
 use mathlib.Core.List.{List}
 use lib.ListN.{length, getD}
 use Rattle.model.specs.Memory.{windowMax}
-use Rattle.model.specs.Kept.{Point, pointCount, Fits, OfBytes}
-use Rattle.lines.specs.Line.{isPoint}
-use Rattle.lines.specs.PointLine.{lineOf, nameOf}
+use Rattle.model.specs.Kept.{Point, pointCount, imageLength, full, Fits, OfBytes}
+use Rattle.lines.specs.Line.{oldStateDigits, isNew, isOld, isPoint, renewed}
+use Rattle.lines.specs.PointLine.{lineOf, nameOf, pointBy}
 use Rattle.lines.specs.PointLine as line
-use Rattle.store.specs.Store.{roomLength, storeLength, filled, numberAt, roomOf, taken, Took}
+use Rattle.store.specs.Store.{roomLength, storeLength, filled, numberAt, roomOf, taken, maskIn, Took}
 use Rattle.store.specs.Store as room
 
 -- ---- each from the other
@@ -57,23 +57,28 @@ pub record RoomTold (k : ℕ) (r : List ℕ) (p : Point) : Type 0 where
   pub point-is : line.pointOf (lineFrom k r) ≡ room.pointOf r
   pub room-left : filledBy r (lineFrom k r) ≡ r
 
--- any room that is filled from a line keeps the line's point, and its line is that line
+-- any room that is filled from a line keeps the line's point, and its line is what is written of that line
 pub record LineTold (l r : List ℕ) : Type 0 where
   pub keeps : Keeps (filledBy r l) (line.pointOf l)
   pub point-is : room.pointOf (filledBy r l) ≡ line.pointOf l
-  pub line-is : lineFrom (nameOf l) (filledBy r l) ≡ l
+  pub line-is : lineFrom (nameOf l) (filledBy r l) ≡ renewed l
 
 pub record Transfers : Type 0 where
   pub of-room : (k : ℕ) (r : List ℕ) (p : Point) → k < pointCount → Keeps r p → RoomTold k r p
   pub of-line : (l r : List ℕ) → isPoint l ≡ true → length r ≡ roomLength → LineTold l r
   -- a point is kept where the bytes show it, whoever wrote them
   pub by-bytes : (r : List ℕ) → Shows r → Keeps r (room.pointOf r)
-  -- and a point of bytes that was taken is
-  pub of-take : (s : List ℕ) (k : ℕ) (p : Point) (t : List ℕ) → Took s k p 0 t → OfBytes p → Keeps (roomOf t k) p
+  -- and a point of bytes that was taken is, one with an old image with the mask empty
+  pub of-take : (s : List ℕ) (k : ℕ) (p : Point) (t : List ℕ) → Took s k p 0 t → OfBytes p → length (p .image) ≡ imageLength → Keeps (roomOf t k) p
+  pub of-take-full : (s : List ℕ) (k : ℕ) (p : Point) (t : List ℕ) → Took s k p 0 t → OfBytes p → Keeps (roomOf t k) (full p)
   -- a store is as it was after its own line
   pub store-left : (s : List ℕ) (k : ℕ) (p : Point) → storeLength ≤ length s → k < pointCount → Keeps (roomOf s k) p → storeWith s (lineIn s k) ≡ s
-  -- the line of a point that came by a line is that line
-  pub line-left : (s l : List ℕ) → storeLength ≤ length s → isPoint l ≡ true → lineIn (storeWith s l) (nameOf l) ≡ l
+  -- the line of a point that came by a line is that line, and of one that came by a line with an old image what is written of that
+  pub line-left : (s l : List ℕ) → storeLength ≤ length s → isNew l ≡ true → lineIn (storeWith s l) (nameOf l) ≡ l
+  pub line-renewed : (s l : List ℕ) → storeLength ≤ length s → isPoint l ≡ true → lineIn (storeWith s l) (nameOf l) ≡ renewed l
+  -- such a one is in the store with the mask empty
+  pub old-in : (s l : List ℕ) → storeLength ≤ length s → isOld l ≡ true
+      → (room.pointOf (roomOf (storeWith s l) (nameOf l)) ≡ full (pointBy oldStateDigits l)) × (maskIn (roomOf (storeWith s l) (nameOf l)) ≡ 0)
   -- moved from the store s to the store u: there it is the same point, and other points and bytes behind the sixteenth are untouched
   pub moved : (s u : List ℕ) (k : ℕ) (p : Point) → storeLength ≤ length u → k < pointCount → Keeps (roomOf s k) p → Keeps (roomOf (storeWith u (lineIn s k)) k) p
   pub others : (s l : List ℕ) → storeLength ≤ length s → isPoint l ≡ true → (j : ℕ) → j < pointCount → j ≢ nameOf l → roomOf (storeWith s l) j ≡ roomOf s j
