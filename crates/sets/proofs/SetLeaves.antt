@@ -1,17 +1,17 @@
--- What each number of a set leaves, and what every set keeps.
+-- What each number of a set leaves, that no mask moves it, and what every set keeps.
 use mathlib.Core.Path.{_≡_, refl, ap, _∙_}
 use mathlib.Core.Logic.{_⊎_, inl, inr, ⊎-elim, _≢_}
 use mathlib.Core.Bool.{Bool, true, false}
 use mathlib.Core.List.{List, [], _∷_}
 use Prim.Native.Nat.{ℕ, suc, _+_, _^_, _≤_, _<_}
 use native.Mathlib.Omega.{arith}
-use lib.Dec.{eqb}
+use lib.Dec.{ltb, eqb}
 use lib.ListN.{length}
 use borrow.Author.Tests.{eqb-true, eqb-false}
-use Rattle.model.specs.Registers.{rG, rL, rA, Sized, Words, admissible, MarginalZero, halted, withSpecial}
+use Rattle.model.specs.Registers.{rG, rL, rA, sp, Sized, Words, admissible, MarginalZero, masked, halted, withSpecial, cleared, putLocals, putGlobals}
 use Rattle.model.specs.System.{putRefusal, putState}
 use Rattle.model.specs.declared.State.{State}
-use Rattle.model.proofs.Bools.{on}
+use Rattle.model.proofs.Bools.{on, on-both}
 use Rattle.model.proofs.ArmAnswers.{Range, put-bound, put-global}
 use Rattle.model.proofs.Invariants.{good-keeps}
 use Rattle.model.proofs.ItemInvariant.{Keeps}
@@ -19,8 +19,9 @@ use Rattle.model.proofs.MarginalKept.{Calm, calm-keeps}
 use Rattle.model.proofs.WordsKept.{halted-words, special-words, locals-words, globals-words}
 use Rattle.model.proofs.AdmissibleKept.{Good, adm-of}
 use Rattle.sets.specs.Sets.{Pair, SetOutcome, setSays, putPairs, allOrNone, pairsMax, putSetOf}
-use Rattle.sets.specs.SetMeant.{SetLeaves, SetsLeave, EmptySucceeds, ValueWords, SetsKeep}
-use Rattle.sets.proofs.JudgedFirst.{set-open, sized-put}
+use Rattle.sets.specs.SetMeant.{IgnoresMask, SetLeaves, SetsLeave, EmptySucceeds, ValueWords, SetsKeep}
+use Rattle.sets.specs.Judged.{refusalAt}
+use Rattle.sets.proofs.JudgedFirst.{refusal-same, set-open, sized-put}
 use Rattle.sets.proofs.SetMeant.{RestSame, put-rest, put-kept, good-of, set-cases}
 
 -- ---- what each number leaves
@@ -33,7 +34,7 @@ record PairsLeave (s : State) (ps : List Pair) (i : ℕ) (o : SetOutcome) : Type
   rest : RestSame s (o .state)
 
 joined : (s t u : State) → RestSame s t → RestSame t u → RestSame s u
-joined s t u a b = record { pc-same = b .pc-same ∙ a .pc-same; halt-same = b .halt-same ∙ a .halt-same; marks-same = b .marks-same ∙ a .marks-same }
+joined s t u a b = record { pc-same = b .pc-same ∙ a .pc-same; halt-same = b .halt-same ∙ a .halt-same; marks-same = b .marks-same ∙ a .marks-same; mask-same = b .mask-same ∙ a .mask-same }
 
 pairs-leave : (ps : List Pair) (s : State) (i : ℕ) → PairsLeave s ps i (putPairs s i ps)
 unfolding putPairs
@@ -41,7 +42,7 @@ pairs-leave [] s i = record {
   among = inl refl;
   fails-at = λ d. absurd (d refl);
   done-at = λ e. refl;
-  rest = record { pc-same = refl; halt-same = refl; marks-same = refl };
+  rest = record { pc-same = refl; halt-same = refl; marks-same = refl; mask-same = refl };
 }
 pairs-leave (p ∷ ps) s i =
     let t : State = putState s (p .register) (p .value) in
@@ -57,7 +58,7 @@ pairs-leave (p ∷ ps) s i =
       among = put-bound s (p .register) (p .value);
       fails-at = λ d. omega arith;
       done-at = λ e. absurd (eqb-false _ _ z e);
-      rest = record { pc-same = refl; halt-same = refl; marks-same = refl };
+      rest = record { pc-same = refl; halt-same = refl; marks-same = refl; mask-same = refl };
     })
 
 pub sets-leave : SetsLeave
@@ -73,6 +74,7 @@ sets-leave s ps =
       done = λ e. absurd (omega arith);
       pc-unmoved = refl;
       marks-same = refl;
+      mask-same = refl;
     })
     (λ a m. record {
       among = inr (inr (inr refl));
@@ -82,6 +84,7 @@ sets-leave s ps =
       done = λ e. absurd (omega arith);
       pc-unmoved = refl;
       marks-same = refl;
+      mask-same = refl;
     })
     (λ a z. record {
       among = inl z;
@@ -91,6 +94,7 @@ sets-leave s ps =
       done = λ e. (h .done-at z, h .rest .halt-same);
       pc-unmoved = h .rest .pc-same;
       marks-same = h .rest .marks-same;
+      mask-same = h .rest .mask-same;
     })
     (λ a d.
     let r : (7 ≤ putPairs s 0 ps .reply) × (putPairs s 0 ps .reply ≤ 11) = ⊎-elim (λ e. absurd (d e)) (λ q. q) (h .among) in
@@ -104,10 +108,42 @@ sets-leave s ps =
       done = λ e. absurd (d e);
       pc-unmoved = refl;
       marks-same = refl;
+      mask-same = refl;
     })
 
 pub empty-succeeds : EmptySucceeds
 empty-succeeds s e = set-open s [] e (omega arith) ∙ unfold allOrNone putPairs in refl
+
+-- ---- the mask is not looked at
+
+-- an outcome under the mask m
+abbrev under : ℕ → SetOutcome → SetOutcome
+under m o = setSays (o .reply) (o .place) (masked (o .state) m)
+
+put-masked : (s : State) (m x v : ℕ) → putState (masked s m) x v ≡ masked (putState s x v) m
+unfolding putState putLocals putGlobals withSpecial cleared
+put-masked s m x v =
+    on-both (λ (t u : State). t ≡ masked u m) (eqb x rL) (λ e. refl) (λ e. on-both (λ (t u : State). t ≡ masked u m) (eqb x rG) (λ f. refl) (λ f. refl))
+
+pairs-masked : (ps : List Pair) (s : State) (m i : ℕ) → putPairs (masked s m) i ps ≡ under m (putPairs s i ps)
+unfolding putPairs
+pairs-masked [] s m i = refl
+pairs-masked (p ∷ ps) s m i =
+    rw (refusal-same (masked s m) p, refusal-same s p)
+    (on-both (λ (a b : SetOutcome). a ≡ under m b) (eqb (refusalAt (sp s rL) p) 0)
+    (λ z. ap (λ (t : State). putPairs t (suc i) ps) (put-masked s m (p .register) (p .value)) ∙ pairs-masked ps (putState s (p .register) (p .value)) m (suc i))
+    (λ z. refl))
+
+all-masked : (s : State) (m : ℕ) (o : SetOutcome) → allOrNone (masked s m) (under m o) ≡ under m (allOrNone s o)
+unfolding allOrNone halted
+all-masked s m o = on-both (λ (a b : SetOutcome). a ≡ under m b) (eqb (o .reply) 0) (λ z. refl) (λ z. refl)
+
+pub ignores-mask : IgnoresMask
+unfolding putSetOf
+ignores-mask s m ps e f =
+    rw (e, f)
+    (on-both (λ (a b : SetOutcome). a ≡ under m b) (ltb pairsMax (length ps)) (λ z. refl)
+    (λ z. ap (allOrNone (masked s m)) (pairs-masked ps s m 0) ∙ all-masked s m (putPairs s 0 ps)))
 
 -- ---- what every set keeps
 

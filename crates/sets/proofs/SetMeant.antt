@@ -8,12 +8,12 @@ use native.Mathlib.Omega.{arith}
 use lib.Dec.{ltb, eqb}
 use lib.ListN.{length, length-append}
 use borrow.Author.Tests.{eqb-true, eqb-false, ltb-true, ne-eqb}
-use Rattle.model.specs.Registers.{rG, rL, rA, sp, reg, Sized, admissible, goes, next, halted, withSpecial, cleared, putLocals, putGlobals}
+use Rattle.model.specs.Registers.{rG, rL, rA, sp, reg, hides, Sized, admissible, goes, next, halted, withSpecial, cleared, putLocals, putGlobals}
 use Rattle.model.specs.Memory.{Windows}
 use Rattle.model.specs.Plan.{Outcome, perform}
 use Rattle.model.specs.Opcodes.{opPUT, opPUTI, armOf}
 use Rattle.model.specs.NoMemory.{Said, tell}
-use Rattle.model.specs.System.{putRefusal, putState, putSpecial}
+use Rattle.model.specs.System.{putRefusal, putState, unlessHidden, putSpecial}
 use Rattle.model.specs.Step.{refusalOf, planOf, stepOf}
 use Rattle.model.specs.Order.{Passes}
 use Rattle.model.specs.declared.State.{State}
@@ -42,17 +42,18 @@ put-kept P k s x v p h =
     last el eg true ea = rw (eqb-true x rA ea) (k .status s v (put-status s v (rw (eqb-true x rA ea) at p)) h)
     last el eg false ea = k .other s x v (eqb-swap x rG eg) (eqb-swap x rL el) (eqb-swap x rA ea) h
 
--- PUT itself moves neither PC nor halt code nor marks
+-- PUT itself moves neither PC nor halt code, marks nor mask
 pub record RestSame (s t : State) : Type 0 where
   pub pc-same : t .pc ≡ s .pc
   pub halt-same : t .halt ≡ s .halt
   pub marks-same : t .marks ≡ s .marks
+  pub mask-same : t .mask ≡ s .mask
 
 pub put-rest : (s : State) (x v : ℕ) → RestSame s (putState s x v)
 unfolding putState putLocals putGlobals withSpecial cleared
 put-rest s x v =
-    on (RestSame s) (eqb x rL) (λ e. record { pc-same = refl; halt-same = refl; marks-same = refl })
-    (λ e. on (RestSame s) (eqb x rG) (λ f. record { pc-same = refl; halt-same = refl; marks-same = refl }) (λ f. record { pc-same = refl; halt-same = refl; marks-same = refl }))
+    on (RestSame s) (eqb x rL) (λ e. record { pc-same = refl; halt-same = refl; marks-same = refl; mask-same = refl })
+    (λ e. on (RestSame s) (eqb x rG) (λ f. record { pc-same = refl; halt-same = refl; marks-same = refl; mask-same = refl }) (λ f. record { pc-same = refl; halt-same = refl; marks-same = refl; mask-same = refl }))
 
 -- ---- one pair
 
@@ -89,23 +90,23 @@ module _ (s : State) (p : Pair) (e : admissible s ≡ true) where
       go false z = ap (λ (o : SetOutcome). o .reply) (single-refused z)
 
 -- PUT of a value that is v
-put-but : (w : Windows) (s : State) (op x y z v : ℕ) → admissible s ≡ true → stepOf w s op x y z ≡ performOn w s (tell (putSpecial s x v))
+put-but : (w : Windows) (s : State) (op x y z v : ℕ) → admissible s ≡ true → hides (s .mask) x ≡ false → stepOf w s op x y z ≡ performOn w s (tell (putSpecial s x v))
     → ButPc w s (putSetOf s (pair x v ∷ [])) (stepOf w s op x y z)
-put-but w s op x y z v e f = rw f (go (eqb (putRefusal s x v) 0) refl)
+put-but w s op x y z v e u f = rw f (go (eqb (putRefusal s x v) 0) refl)
   where
     go : (b : Bool) → eqb (putRefusal s x v) 0 ≡ b → ButPc w s (putSetOf s (pair x v ∷ [])) (performOn w s (tell (putSpecial s x v)))
-    go true z = unfold putSpecial tell in
-        (rw (z, single-done s (pair x v) e (eqb-true _ _ z), said w s (next (putState s x v)) 0)
+    go true z = unfold putSpecial unlessHidden tell in
+        (rw (u, z, single-done s (pair x v) e (eqb-true _ _ z), said w s (next (putState s x v)) 0)
         (record { reply-is = refl; place-is = refl; state-is = unfold goes in (λ i. goes (putState s x v) (put-rest s x v .pc-same i)); memory-is = refl }))
-    go false z = unfold putSpecial tell in
-        (rw (z, single-refused s (pair x v) e z, said w s (halted s) (putRefusal s x v))
+    go false z = unfold putSpecial unlessHidden tell in
+        (rw (u, z, single-refused s (pair x v) e z, said w s (halted s) (putRefusal s x v))
         (unfold goes halted in record { reply-is = refl; place-is = refl; state-is = refl; memory-is = refl }))
 
 pub one-pair : OnePair
 unfolding planOf refusalOf armOf
 one-pair = record {
-  put = λ w s x y z h. put-but w s opPUT x y z (reg s z) (h .admitted) (step-open w s opPUT x y z (h .admitted) (passing w s h) refl);
-  put-immediate = λ w s x y z h. put-but w s opPUTI x y z z (h .admitted) (step-open w s opPUTI x y z (h .admitted) (passing w s h) refl);
+  put = λ w s x y z h u. put-but w s opPUT x y z (reg s z) (h .admitted) u (step-open w s opPUT x y z (h .admitted) (passing w s h) refl);
+  put-immediate = λ w s x y z h u. put-but w s opPUTI x y z z (h .admitted) u (step-open w s opPUTI x y z (h .admitted) (passing w s h) refl);
 }
 
 -- ---- one after another

@@ -1,4 +1,4 @@
--- Theorems. What a set is: one pair is PUT but for PC; a set that passes is its pairs one after another; the first pair that fails; what each number leaves;
+-- Theorems. What a set is: one pair is PUT but for PC, where the register is not hidden: a set ignores the mask; a set that passes is its pairs one after another; the first pair that fails; what each number leaves;
 -- what every set keeps.
 use Prim.Native.Nat.{ℕ, _^_, _≤_, _<_}
 use mathlib.Core.Path.{_≡_}
@@ -6,7 +6,7 @@ use mathlib.Core.Logic.{_⊎_, _≢_}
 use mathlib.Core.Bool.{true, false}
 use mathlib.Core.List.{List, [], _∷_, _++_}
 use lib.ListN.{length}
-use Rattle.model.specs.Registers.{reg, Sized, Words, admissible, MarginalZero, goes, halted}
+use Rattle.model.specs.Registers.{reg, hides, Sized, Words, admissible, MarginalZero, masked, goes, halted}
 use Rattle.model.specs.Memory.{Windows}
 use Rattle.model.specs.Plan.{Outcome}
 use Rattle.model.specs.Opcodes.{opPUT, opPUTI}
@@ -24,10 +24,16 @@ pub record ButPc (w : Windows) (s : State) (o : SetOutcome) (d : Outcome State W
   pub state-is : o .state ≡ goes (d .state) (s .pc)
   pub memory-is : d .memory ≡ w
 
--- "PUT's value is $Z, PUTI's Z"; X is a byte, so these are the pairs with a number below 256, and any windows serve that 2 and 22 pass
+-- "PUT's value is $Z, PUTI's Z"; X is a byte, so these are the pairs with a number below 256, and any windows serve that 2 and 22 pass; where the
+-- register is hidden, PUT is 31 and the pair takes effect
 pub record OnePair : Type 0 where
-  pub put : (w : Windows) (s : State) (x y z : ℕ) → Passes w s → ButPc w s (putSetOf s (pair x (reg s z) ∷ [])) (stepOf w s opPUT x y z)
-  pub put-immediate : (w : Windows) (s : State) (x y z : ℕ) → Passes w s → ButPc w s (putSetOf s (pair x z ∷ [])) (stepOf w s opPUTI x y z)
+  pub put : (w : Windows) (s : State) (x y z : ℕ) → Passes w s → hides (s .mask) x ≡ false → ButPc w s (putSetOf s (pair x (reg s z) ∷ [])) (stepOf w s opPUT x y z)
+  pub put-immediate : (w : Windows) (s : State) (x y z : ℕ) → Passes w s → hides (s .mask) x ≡ false → ButPc w s (putSetOf s (pair x z ∷ [])) (stepOf w s opPUTI x y z)
+
+-- "the list of change 10 ignores the mask": under any that a state may have, the set is as under another, and the state keeps its own
+abbrev pub IgnoresMask : Type 0
+IgnoresMask = (s : State) (m : ℕ) (ps : List Pair) → admissible s ≡ true → admissible (masked s m) ≡ true
+    → putSetOf (masked s m) ps ≡ setSays (putSetOf s ps .reply) (putSetOf s ps .place) (masked (putSetOf s ps .state) m)
 
 -- ---- one after another
 
@@ -71,6 +77,7 @@ pub record SetLeaves (s : State) (ps : List Pair) (o : SetOutcome) : Type 0 wher
   -- "PC doesn't move"
   pub pc-unmoved : o .state .pc ≡ s .pc
   pub marks-same : o .state .marks ≡ s .marks
+  pub mask-same : o .state .mask ≡ s .mask
 
 abbrev pub SetsLeave : Type 0
 SetsLeave = (s : State) (ps : List Pair) → SetLeaves s ps (putSetOf s ps)

@@ -6,7 +6,7 @@ use mathlib.Core.List.{List, [], _∷_, _++_}
 use lib.Dec.{eqb}
 use lib.ListN.{replicate}
 use Rattle.model.specs.Octa.{bytesOf}
-use Rattle.model.specs.Registers.{rB, rJ, rC, rN, rG, rL, rA, halted, withSpecial, stored}
+use Rattle.model.specs.Registers.{rB, rJ, rR, rBB, rC, rN, rG, rL, rA, rF, masked, halted, withSpecial, stored}
 use Rattle.model.specs.Bench.{sameState, start}
 use Rattle.model.specs.declared.State.{State}
 use Rattle.sets.specs.Sets.{Pair, pair, SetOutcome, putSetOf, pairsOf, pairsIn}
@@ -61,6 +61,10 @@ setPoints =
     ∷ refuses start (pair (2 ^ 63) 0 ∷ []) 7 0
     ∷ does start (replicate 32 (pair rB 1)) (withSpecial start rB 1)
     ∷ refuses start (replicate 31 (pair rB 1) ++ (pair rC 0 ∷ [])) 8 31
+    -- what is hidden is set like any other, and its own number refuses it
+    ∷ does (masked start 0xF047F380) (pair rBB 1 ∷ pair rF 2 ∷ []) (masked (withSpecial (withSpecial start rBB 1) rF 2) 0xF047F380)
+    ∷ refuses (masked start 0xF047F380) (pair rBB 1 ∷ pair rC 0 ∷ []) 8 1
+    ∷ leaves (masked start (2 ^ rR)) (pair rB 1 ∷ []) 1
     -- 1, then 30, whatever the pairs are
     ∷ leaves start (replicate 33 (pair rC 0)) 30
     ∷ leaves (withSpecial start rG 31) (replicate 33 (pair rB 1)) 1

@@ -83,15 +83,16 @@ pub fn put_set(
     special: &mut [u64; 32],
     halt: &mut u64,
     marks: u64,
+    mask: u64,
     pairs: &[u64],
     place: &mut u64,
 ) -> Reply
     ensures { λ r. ⌜ ((pc : ℕ) → PutSet
-        (made (now (general .entry)) (now (special .entry)) pc (now (halt .entry)) marks) (pairsOf (now (pairs .entry))) (numberOf r) (now (place .exit))
-        (made (now (general .exit)) (now (special .exit)) pc (now (halt .exit)) marks)) ⌝ }
+        (made (now (general .entry)) (now (special .entry)) pc (now (halt .entry)) marks mask) (pairsOf (now (pairs .entry))) (numberOf r) (now (place .exit))
+        (made (now (general .exit)) (now (special .exit)) pc (now (halt .exit)) marks mask)) ⌝ }
 {
     *place = 0;
-    if !machine::registers::admissible(&*special, marks) {
+    if !machine::registers::admissible(&*special, marks, mask) {
         return Reply::NotAdmissible;
     }
     if PAIRS_MAX < pairs.len() / 2 {
@@ -116,16 +117,17 @@ fn put_read(
     special: &mut [u64; 32],
     halt: &mut u64,
     marks: u64,
+    mask: u64,
     bytes: &[u8],
     octas: &mut [u64],
     place: &mut u64,
 ) -> Reply
-    ensures { λ r. ⌜ ((pc : ℕ) → PutSet (made (now (general .entry)) (now (special .entry)) pc (now (halt .entry)) marks)
+    ensures { λ r. ⌜ ((pc : ℕ) → PutSet (made (now (general .entry)) (now (special .entry)) pc (now (halt .entry)) marks mask)
         (pairsOf (loadedOctas (now (bytes .entry)) 0 (now (octas .entry)))) (numberOf r) (now (place .exit))
-        (made (now (general .exit)) (now (special .exit)) pc (now (halt .exit)) marks)) ⌝ }
+        (made (now (general .exit)) (now (special .exit)) pc (now (halt .exit)) marks mask)) ⌝ }
 {
     machine::octabytes::load_octas(bytes, 0, &mut *octas);
-    put_set(general, special, halt, marks, &*octas, place)
+    put_set(general, special, halt, marks, mask, &*octas, place)
 }
 
 /// The same with the pairs as bytes, 16 a pair, high byte first.
@@ -134,12 +136,13 @@ pub fn put_set_bytes(
     special: &mut [u64; 32],
     halt: &mut u64,
     marks: u64,
+    mask: u64,
     bytes: &[u8],
     place: &mut u64,
 ) -> Reply
     ensures { λ r. ⌜ ((pc : ℕ) → PutSet
-        (made (now (general .entry)) (now (special .entry)) pc (now (halt .entry)) marks) (pairsIn (now (bytes .entry))) (numberOf r) (now (place .exit))
-        (made (now (general .exit)) (now (special .exit)) pc (now (halt .exit)) marks)) ⌝ }
+        (made (now (general .entry)) (now (special .entry)) pc (now (halt .entry)) marks mask) (pairsIn (now (bytes .entry))) (numberOf r) (now (place .exit))
+        (made (now (general .exit)) (now (special .exit)) pc (now (halt .exit)) marks mask)) ⌝ }
 {
     let mut octas = [0u64; READ_MAX];
     let count = machine::number::least((bytes.len() / 8) as u64, READ_MAX as u64) as usize;
@@ -148,6 +151,7 @@ pub fn put_set_bytes(
         special,
         halt,
         marks,
+        mask,
         bytes,
         &mut octas[0..count],
         place,

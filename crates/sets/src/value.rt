@@ -23,6 +23,7 @@ pub fn put_set(state: State, pairs: &[u64]) -> SetAnswer
         &mut special,
         &mut halt,
         state.marks,
+        state.mask,
         pairs,
         &mut place,
     );
@@ -32,6 +33,7 @@ pub fn put_set(state: State, pairs: &[u64]) -> SetAnswer
         pc: state.pc,
         halt: halt,
         marks: state.marks,
+        mask: state.mask,
     };
     SetAnswer {
         reply: reply,

@@ -18,7 +18,7 @@ returns c =
     let judged = c .before in
     let a = judged .before .before .before .args in
     λ pc.
-    let s = made (a .general .now) (a .special .now) pc (a .halt .now) (a .marks) in
+    let s = made (a .general .now) (a .special .now) pc (a .halt .now) (a .marks) (a .mask) in
     not-admissible s (pairsOf (a .pairs .now)) (denied _ _ (judged .admissible .ensures (a .general .now) pc (a .halt .now)) (c .if1 .taken))
 
 returns-2 : tie.Need-returns-2
@@ -27,7 +27,7 @@ returns-2 c =
     let judged = passed .before in
     let a = judged .before .before .before .args in
     λ pc.
-    let s = made (a .general .now) (a .special .now) pc (a .halt .now) (a .marks) in
+    let s = made (a .general .now) (a .special .now) pc (a .halt .now) (a .marks) (a .mask) in
     too-many s (pairsOf (a .pairs .now)) (granted _ _ (judged .admissible .ensures (a .general .now) pc (a .halt .now)) (passed .if1 .left))
     (omega (arith, pairs-count (a .pairs .now)))
 
@@ -56,7 +56,7 @@ returns-3 c =
     let judged = passed .before in
     let a = judged .before .before .before .args in
     λ pc.
-    let s = made (a .general .now) (a .special .now) pc (a .halt .now) (a .marks) in
+    let s = made (a .general .now) (a .special .now) pc (a .halt .now) (a .marks) (a .mask) in
     all-put s (pairsOf (a .pairs .now)) (record { generals = count .counted .ensures .0; specials = count .counted .ensures .1 })
     (granted _ _ (judged .admissible .ensures (a .general .now) pc (a .halt .now)) (passed .if1 .left))
     (omega (arith, pairs-count (a .pairs .now)))
@@ -72,7 +72,7 @@ returns-4 c =
     let judged = passed .before in
     let a = judged .before .before .before .args in
     λ pc.
-    let s = made (a .general .now) (a .special .now) pc (a .halt .now) (a .marks) in
+    let s = made (a .general .now) (a .special .now) pc (a .halt .now) (a .marks) (a .mask) in
     none-put s (pairsOf (a .pairs .now)) (record { generals = count .counted .ensures .0; specials = count .counted .ensures .1 })
     (granted _ _ (judged .admissible .ensures (a .general .now) pc (a .halt .now)) (passed .if1 .left))
     (omega (arith, pairs-count (a .pairs .now)))
