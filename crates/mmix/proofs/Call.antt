@@ -1,9 +1,11 @@
 -- One call of a C function on what a host holds: it is no or one step or exception, or a run's fetched instructions, on the state that is held.
 use mathlib.Core.Path.{_≡_, refl, sym, ap, subst, _∙_}
 use mathlib.Core.Logic.{_⊎_, inl, inr}
+use mathlib.Core.Bool.{Bool, true, false, cond, _&&_, _||_}
 use mathlib.Core.List.{List, [], _∷_}
-use Prim.Native.Nat.{ℕ, _≤_}
+use Prim.Native.Nat.{ℕ, suc, _≤_}
 use native.Mathlib.Omega.{arith}
+use lib.Dec.{eqb}
 use lib.ListN.{length}
 use Rattle.model.specs.Memory.{Windows, both}
 use Rattle.model.specs.Plan.{perform, worst, puts}
@@ -15,12 +17,13 @@ use Rattle.model.specs.Run.{runOf}
 use Rattle.model.specs.declared.State.{State}
 use Rattle.model.proofs.Numbers.{step-number, run-number}
 use Rattle.model.proofs.Leaves.{replies-leave}
-use Rattle.model.specs.Kept.{imageLength}
-use Rattle.image.specs.Image.{imageOf, stateOf}
-use Rattle.mmix.specs.Calls.{Held, image, struct, heldState, HeldIs, HeldFits, Entry, on-image, run-image, on-lent, on-parts, run-parts, decode, encode, triedItems, triedAnswers, askedBy, answeredBy, MovedBy, ImageCall, StateCall, AsImage, AsStruct, MeetsBy}
-use Rattle.mmix.specs.Entries.{RanImage, RanState}
-use Rattle.image.proofs.RoundTrips.{round-trips}
-use Rattle.image.proofs.Coded.{if-image}
+use Rattle.model.specs.Kept.{imageLength, oldImageLength}
+use Rattle.image.specs.Image.{imageOf, oldImageOf, isImage, hasRoom, imageAs, stateOf}
+use Rattle.mmix.specs.Calls.{Held, image, struct, heldState, HeldIs, HeldFits, Entry, on-image, run-image, on-lent, on-parts, run-parts, decode, encode, triedItems, triedAnswers, askedBy, answeredBy, MovedBy, ImageCall, StateCall, EncodedInto, AsImage, AsStruct, MeetsBy}
+use Rattle.mmix.specs.Entries.{Stepped, Raised, RanImage, RanState}
+use Rattle.model.proofs.Invariants.{items-keep}
+use Rattle.image.proofs.RoundTrips.{round-trips, keeps-length}
+use Rattle.image.proofs.Coded.{room-image, if-other, if-image, of-image, chosen, stored-is}
 use Rattle.mmix.proofs.Tried.{RunListed, run-tried}
 
 -- ---- what is held
@@ -36,17 +39,37 @@ unfolding HeldFits HeldIs heldState
 intact (image l) h = record {
   sized = round-trips .state-sized l;
   words = round-trips .state-words l (h .byte);
-  back = sym (round-trips .image-state l (h .long) (h .byte));
+  back = (sym (keeps-length .as-state l (h .long) (h .byte)), keeps-length .room-again l _ (h .long) refl);
 }
 intact (struct s) h = record { sized = h .0; words = h .1; back = refl }
 
-long-of : (l : List ℕ) → Intact (image l) → length l ≡ imageLength
+long-of : (l : List ℕ) → Intact (image l) → isImage l ≡ true
 unfolding HeldIs heldState
-long-of l h = ap length (h .back) ∙ round-trips .image-length (stateOf l) (h .sized)
+long-of l h = room-image l _ (h .back .1)
+
+-- images of one length are alike to a state
+pub as-same : (l m : List ℕ) (s : State) → length m ≡ length l → imageAs l s ≡ imageAs m s
+unfolding imageAs
+as-same l m s e = ap (λ (n : ℕ). cond (eqb n oldImageLength) (oldImageOf s) (imageOf s)) (sym e)
+
+pub image-same : (l m : List ℕ) → length m ≡ length l → isImage m ≡ isImage l
+unfolding isImage
+image-same l m e = ap (λ (n : ℕ). eqb n imageLength || eqb n oldImageLength) e
+
+pub room-same : (l m : List ℕ) (k : ℕ) → length m ≡ length l → hasRoom l k ≡ hasRoom m k
+unfolding hasRoom
+room-same l m k e = ap (λ (n : ℕ). eqb n imageLength || (eqb n oldImageLength && eqb k 0)) (sym e)
+
+-- an image with a state put into it
+held-as : (l m : List ℕ) (s : State) → hasRoom l (s .mask) ≡ true → Sized s → m ≡ imageAs l s → HeldIs (image m) s
+unfolding HeldIs
+held-as l m s e z d =
+    let n : length m ≡ length l = ap length d ∙ keeps-length .as-length l s (room-image l (s .mask) e) z in
+    (d ∙ as-same l m s n, sym (room-same l m (s .mask) n) ∙ e)
 
 pub held-state : (g : Held) (s : State) → HeldIs g s → Sized s → Words s → heldState g ≡ s
 unfolding HeldIs heldState
-held-state (image l) s e z w = ap stateOf e ∙ round-trips .state-image s z w
+held-state (image l) s e z w = ap stateOf (e .0) ∙ keeps-length .state-as l s z w (e .1)
 held-state (struct t) s e z w = e
 
 pub intact-of : (g : Held) (s : State) → HeldIs g s → Sized s → Words s → Intact g
@@ -62,7 +85,7 @@ pub record Left (s : State) (w : Windows) (i : Item) (r : ℕ) (k : Held) (v : W
   pub held-is : HeldIs k (stepOn both mmix s w i .state)
   pub window-is : v ≡ stepOn both mmix s w i .memory
 
-pub few : (n : ℕ) → (n ≡ 0) ⊎ ((n ≡ 1) ⊎ (n ≡ 19)) → (n ≤ 20) ⊎ ((n ≡ 22) ⊎ (n ≡ 29))
+pub few : (n : ℕ) → (n ≡ 0) ⊎ ((n ≡ 1) ⊎ (n ≡ 19)) → (n ≤ 20) ⊎ ((n ≡ 22) ⊎ ((n ≡ 29) ⊎ (n ≡ 31)))
 few n (inl e) = inl (omega arith)
 few n (inr (inl e)) = inl (omega arith)
 few n (inr (inr e)) = inl (omega arith)
@@ -82,8 +105,8 @@ state-left s w (exception f op x y z a b) r t v n g = record {
 state-left s w fetched r t v n g = absurd g
 
 -- a call on an image is one on its state
-image-state : (l : List ℕ) (w : Windows) (i : Item) (r : ℕ) (m : List ℕ) (v : Windows) → length l ≡ imageLength → ImageCall l w i r m v
-    → StateCall (stateOf l) w i r (stepOn both mmix (stateOf l) w i .state) v × (m ≡ imageOf (stepOn both mmix (stateOf l) w i .state))
+image-state : (l : List ℕ) (w : Windows) (i : Item) (r : ℕ) (m : List ℕ) (v : Windows) → isImage l ≡ true → ImageCall l w i r m v
+    → StateCall (stateOf l) w i r (stepOn both mmix (stateOf l) w i .state) v × (m ≡ imageAs l (stepOn both mmix (stateOf l) w i .state))
 unfolding ImageCall StateCall stepOn mmix itemPlan both stepOf tell perform worst puts
 image-state l w (step op x y z) r m v n g = (
   record { reply-is = g .reply-is ∙ sym (if-image l n _ _); state-is = refl; window-is = g .window-is ∙ sym (if-image l n _ _) },
@@ -95,12 +118,22 @@ image-state l w (exception f op x y z a b) r m v n g = (
 )
 image-state l w fetched r m v n g = absurd g
 
-pub image-left : (l : List ℕ) (w : Windows) (i : Item) (r : ℕ) (m : List ℕ) (v : Windows) → length l ≡ imageLength → ImageCall l w i r m v → Left (stateOf l) w i r (image m) v
+pub image-left : (l : List ℕ) (w : Windows) (i : Item) (r : ℕ) (m : List ℕ) (v : Windows) → isImage l ≡ true → ImageCall l w i r m v → Left (stateOf l) w i r (image m) v
 unfolding HeldIs
 image-left l w i r m v n g =
     let e = image-state l w i r m v n g in
     let h = state-left (stateOf l) w i r _ v (round-trips .state-sized l) (e .0) in
-    record { reply-is = h .reply-is; held-is = e .1; window-is = h .window-is }
+    let t : State = stepOn both mmix (stateOf l) w i .state in
+    let z : Sized t = items-keep .sized w (stateOf l) i (round-trips .state-sized l) in
+    record {
+      reply-is = h .reply-is;
+      held-is = held-as l m t (keeps-length .room-again l (t .mask) n (items-keep .mask w (stateOf l) i)) z (e .1);
+      window-is = h .window-is;
+    }
+
+-- what it leaves in the image
+pub image-as : (l : List ℕ) (w : Windows) (i : Item) (r : ℕ) (m : List ℕ) (v : Windows) → isImage l ≡ true → ImageCall l w i r m v → m ≡ imageAs l (stepOn both mmix (stateOf l) w i .state)
+image-as l w i r m v n g = image-state l w i r m v n g .1
 
 -- ---- a run
 
@@ -113,8 +146,8 @@ pub state-counted : (s : State) (w : Windows) (grant r n : ℕ) (t : State) (v :
 state-counted s w grant r n t v z g = record { reply-is = g .reply-is ∙ run-number _ (replies-leave .by-run w s grant z .most); count-is = g .count-is }
 
 -- a run on an image is one on its state
-pub image-ran : (l : List ℕ) (w : Windows) (grant r n : ℕ) (m : List ℕ) (v : Windows) → length l ≡ imageLength → RanImage l w grant r n m v
-    → RanState w (stateOf l) grant r n (runOf w (stateOf l) grant .state) v × (m ≡ imageOf (runOf w (stateOf l) grant .state))
+pub image-ran : (l : List ℕ) (w : Windows) (grant r n : ℕ) (m : List ℕ) (v : Windows) → isImage l ≡ true → RanImage l w grant r n m v
+    → RanState w (stateOf l) grant r n (runOf w (stateOf l) grant .state) v × (m ≡ imageAs l (runOf w (stateOf l) grant .state))
 image-ran l w grant r n m v e g = (
   record {
     reply-is = g .reply-is ∙ sym (if-image l e _ _);
@@ -124,6 +157,29 @@ image-ran l w grant r n m v e g = (
   },
   g .image-is ∙ sym (if-image l e _ _),
 )
+
+-- what every list of items keeps, a run does
+runs-sized : (is : List Item) (s : State) (w : Windows) → Sized s → Sized (runs both mmix s w is .state)
+unfolding runs
+runs-sized [] s w z = z
+runs-sized (i ∷ is) s w z = runs-sized is (stepOn both mmix s w i .state) (stepOn both mmix s w i .memory) (items-keep .sized w s i z)
+
+runs-mask : (is : List Item) (s : State) (w : Windows) → runs both mmix s w is .state .mask ≡ s .mask
+unfolding runs
+runs-mask [] s w = refl
+runs-mask (i ∷ is) s w = runs-mask is (stepOn both mmix s w i .state) (stepOn both mmix s w i .memory) ∙ items-keep .mask w s i
+
+pub run-sized : (s : State) (w : Windows) (grant : ℕ) → Sized s → Sized (runOf w s grant .state)
+run-sized s w grant z = subst Sized (run-tried w s grant z .state-is) (runs-sized _ s w z)
+
+pub run-mask : (s : State) (w : Windows) (grant : ℕ) → Sized s → runOf w s grant .state .mask ≡ s .mask
+run-mask s w grant z = ap (λ (t : State). t .mask) (sym (run-tried w s grant z .state-is)) ∙ runs-mask _ s w
+
+-- an image after a run
+ran-held : (l : List ℕ) (w : Windows) (grant : ℕ) (m : List ℕ) → isImage l ≡ true → m ≡ imageAs l (runOf w (stateOf l) grant .state) → HeldIs (image m) (runOf w (stateOf l) grant .state)
+ran-held l w grant m n e =
+    let z : Sized (stateOf l) = round-trips .state-sized l in
+    held-as l m _ (keeps-length .room-again l _ n (run-mask (stateOf l) w grant z)) (run-sized (stateOf l) w grant z) e
 
 -- ---- one call
 
@@ -152,17 +208,18 @@ after-run s w grant r n k v z c h e =
 
 pub after-call : (g : Held) (w : Windows) (e : Entry) (r n : ℕ) (k : Held) (v : Windows) → Intact g → MeetsBy g w e r n k v → After (heldState g) w e r n k v
 unfolding MeetsBy AsImage AsStruct askedBy answeredBy MovedBy heldState HeldIs StateCall runs
-after-call (image l) w (on-image i) r n (image m) v h c =
-    let t = image-left l w i r m v (long-of l h) c in
+after-call (image l) w (on-image b i) r n (image m) v h c =
+    let t = image-left l w i r m v (long-of l h) (c .1) in
     record { answers-are = ap (λ (q : ℕ). q ∷ []) (t .reply-is); moved = tt; held-is = t .held-is; window-is = t .window-is }
-after-call (image l) w (on-image i) r n (struct t) v h c = absurd c
-after-call (struct s) w (on-image i) r n k v h c = absurd c
-after-call (image l) w (run-image grant) r n (image m) v h c =
-    let e = image-ran l w grant r n m v (long-of l h) c in
-    let t : AfterRun (stateOf l) w r n (image m) v = after-run (stateOf l) w grant r n (image m) v (h .sized) (state-counted _ w grant r n _ v (h .sized) (e .0)) (e .1) (e .0 .window-is) in
+after-call (image l) w (on-image b i) r n (struct t) v h c = absurd (c .1)
+after-call (struct s) w (on-image b i) r n k v h c = absurd c
+after-call (image l) w (run-image b grant) r n (image m) v h c =
+    let e = image-ran l w grant r n m v (long-of l h) (c .1) in
+    let t : AfterRun (stateOf l) w r n (image m) v
+    = after-run (stateOf l) w grant r n (image m) v (h .sized) (state-counted _ w grant r n _ v (h .sized) (e .0)) (ran-held l w grant m (long-of l h) (e .1)) (e .0 .window-is) in
     record { answers-are = t .answers-are; moved = tt; held-is = t .held-is; window-is = t .window-is }
-after-call (image l) w (run-image grant) r n (struct t) v h c = absurd c
-after-call (struct s) w (run-image grant) r n k v h c = absurd c
+after-call (image l) w (run-image b grant) r n (struct t) v h c = absurd (c .1)
+after-call (struct s) w (run-image b grant) r n k v h c = absurd c
 after-call (image l) w (on-lent op x y z) r n k v h c = absurd c
 after-call (struct s) w (on-lent op x y z) r n (image m) v h c = absurd c
 after-call (struct s) w (on-lent op x y z) r n (struct t) v h c =
@@ -186,23 +243,22 @@ after-call (image l) w decode r n (struct t) v h c = record {
   window-is = c .1;
 }
 after-call (struct s) w decode r n k v h c = absurd (c .0)
-after-call (image l) w encode r n k v h c = absurd (c .0)
-after-call (struct s) w encode r n (struct t) v h c = absurd (c .0)
-after-call (struct s) w encode r n (image m) v h c =
-    let e : length (c .0 .before) ≡ imageLength = c .0 .long in
+after-call (image l) w (encode b) r n k v h c = absurd (c .0)
+after-call (struct s) w (encode b) r n (struct t) v h c = absurd (c .0)
+after-call (struct s) w (encode b) r n (image m) v h c =
     record {
       answers-are = refl;
-      moved = c .0 .contract .reply-is ∙ sym (if-image (c .0 .before) e _ _);
-      held-is = c .0 .contract .image-is ∙ sym (if-image (c .0 .before) e _ _);
+      moved = c .0 .contract .reply-is ∙ sym (chosen _ _ _ (c .0 .room));
+      held-is = held-as (c .0 .before) m s (c .0 .room) (h .sized) (c .0 .contract .image-is ∙ stored-is (c .0 .before) s (c .0 .room));
       window-is = c .1;
     }
 
 -- a run's reply and count
-pub image-counted : (g : Held) (w : Windows) (grant r n : ℕ) (k : Held) (v : Windows) → Intact g → MeetsBy g w (run-image grant) r n k v → Counted (heldState g) w grant r n
+pub image-counted : (g : Held) (w : Windows) (b grant r n : ℕ) (k : Held) (v : Windows) → Intact g → MeetsBy g w (run-image b grant) r n k v → Counted (heldState g) w grant r n
 unfolding MeetsBy AsImage heldState
-image-counted (image l) w grant r n (image m) v h c = state-counted (stateOf l) w grant r n _ v (h .sized) (image-ran l w grant r n m v (long-of l h) c .0)
-image-counted (image l) w grant r n (struct t) v h c = absurd c
-image-counted (struct s) w grant r n k v h c = absurd c
+image-counted (image l) w b grant r n (image m) v h c = state-counted (stateOf l) w grant r n _ v (h .sized) (image-ran l w grant r n m v (long-of l h) (c .1) .0)
+image-counted (image l) w b grant r n (struct t) v h c = absurd (c .1)
+image-counted (struct s) w b grant r n k v h c = absurd c
 
 pub parts-counted : (g : Held) (w : Windows) (grant r n : ℕ) (k : Held) (v : Windows) → Intact g → MeetsBy g w (run-parts grant) r n k v → Counted (heldState g) w grant r n
 unfolding MeetsBy AsStruct heldState
@@ -210,50 +266,70 @@ parts-counted (struct s) w grant r n (struct t) v h c = state-counted s w grant 
 parts-counted (struct s) w grant r n (image m) v h c = absurd c
 parts-counted (image l) w grant r n k v h c = absurd c
 
--- what is held after it: 0 for an image, 1 for a struct
+-- what is held after it: 0 for a struct, else one more than the image's length
 unfoldable pub form : Held → ℕ
-form (image l) = 0
-form (struct s) = 1
+form (image l) = suc (length l)
+form (struct s) = 0
 
 unfoldable pub formAfter : Entry → ℕ
-formAfter (on-image i) = 0
-formAfter (run-image grant) = 0
-formAfter (on-lent op x y z) = 1
-formAfter (on-parts i) = 1
-formAfter (run-parts grant) = 1
-formAfter decode = 1
-formAfter encode = 0
+formAfter (on-image b i) = suc b
+formAfter (run-image b grant) = suc b
+formAfter (on-lent op x y z) = 0
+formAfter (on-parts i) = 0
+formAfter (run-parts grant) = 0
+formAfter decode = 0
+formAfter (encode b) = suc b
 
-on-image-form : (k : Held) (P : List ℕ → Type 0) → AsImage k P → form k ≡ 0
-unfolding AsImage form
-on-image-form (image l) P h = refl
-on-image-form (struct s) P h = absurd h
-
-on-struct-form : (k : Held) (P : State → Type 0) → AsStruct k P → form k ≡ 1
+on-struct-form : (k : Held) (P : State → Type 0) → AsStruct k P → form k ≡ 0
 unfolding AsStruct form
 on-struct-form (image l) P h = absurd h
 on-struct-form (struct s) P h = refl
 
-pub form-after : (g : Held) (w : Windows) (e : Entry) (r n : ℕ) (k : Held) (v : Windows) → MeetsBy g w e r n k v → form k ≡ formAfter e
-unfolding MeetsBy AsImage AsStruct formAfter
-form-after (image l) w (on-image i) r n k v c = on-image-form k _ c
-form-after (struct s) w (on-image i) r n k v c = absurd c
-form-after (image l) w (run-image grant) r n k v c = on-image-form k _ c
-form-after (struct s) w (run-image grant) r n k v c = absurd c
-form-after (image l) w (on-lent op x y z) r n k v c = absurd c
-form-after (struct s) w (on-lent op x y z) r n k v c = on-struct-form k _ c
-form-after (image l) w (on-parts i) r n k v c = absurd c
-form-after (struct s) w (on-parts i) r n k v c = on-struct-form k _ c
-form-after (image l) w (run-parts grant) r n k v c = absurd c
-form-after (struct s) w (run-parts grant) r n k v c = on-struct-form k _ c
-form-after (image l) w decode r n k v c = on-struct-form k _ (c .0)
-form-after (struct s) w decode r n k v c = absurd (c .0)
-form-after (image l) w encode r n k v c = absurd (c .0)
-form-after (struct s) w encode r n k v c = on-image-form k _ (c .0)
+-- an image of any length keeps it
+same-length : (l m : List ℕ) (t : State) → Sized t → m ≡ cond (isImage l) (imageAs l t) l → length m ≡ length l
+same-length l m t z e = go (isImage l) refl
+  where
+    go : (b : Bool) → isImage l ≡ b → length m ≡ length l
+    go true n = ap length (of-image l n _ _ _ e) ∙ keeps-length .as-length l t n z
+    go false n = ap length (e ∙ sym (if-other l n _ _))
+
+item-length : (l : List ℕ) (w : Windows) (i : Item) (r : ℕ) (m : List ℕ) (v : Windows) → ImageCall l w i r m v → length m ≡ length l
+unfolding ImageCall stepOn mmix itemPlan both stepOf tell perform worst puts
+item-length l w (step op x y z) r m v g = same-length l m _ (items-keep .sized w (stateOf l) (step op x y z) (round-trips .state-sized l)) (g .image-is)
+item-length l w (exception f op x y z a b) r m v g = same-length l m _ (items-keep .sized w (stateOf l) (exception f op x y z a b) (round-trips .state-sized l)) (g .0 .image-is)
+item-length l w fetched r m v g = absurd g
+
+run-length : (l : List ℕ) (w : Windows) (grant r n : ℕ) (m : List ℕ) (v : Windows) → RanImage l w grant r n m v → length m ≡ length l
+run-length l w grant r n m v g = same-length l m _ (run-sized (stateOf l) w grant (round-trips .state-sized l)) (g .image-is)
+
+encoded-length : (b : ℕ) (s : State) (r : ℕ) (m : List ℕ) → Sized s → EncodedInto b s r m → length m ≡ b
+encoded-length b s r m z g =
+    let e : m ≡ imageAs (g .before) s = g .contract .image-is ∙ stored-is (g .before) s (g .room) in
+    ap length e ∙ keeps-length .as-length (g .before) s (room-image (g .before) (s .mask) (g .room)) z ∙ g .long
+
+pub form-after : (g : Held) (w : Windows) (e : Entry) (r n : ℕ) (k : Held) (v : Windows) → Sized (heldState g) → MeetsBy g w e r n k v → form k ≡ formAfter e
+unfolding MeetsBy AsImage AsStruct heldState form formAfter
+form-after (image l) w (on-image b i) r n (image m) v z c = ap suc (item-length l w i r m v (c .1) ∙ c .0)
+form-after (image l) w (on-image b i) r n (struct t) v z c = absurd (c .1)
+form-after (struct s) w (on-image b i) r n k v z c = absurd c
+form-after (image l) w (run-image b grant) r n (image m) v z c = ap suc (run-length l w grant r n m v (c .1) ∙ c .0)
+form-after (image l) w (run-image b grant) r n (struct t) v z c = absurd (c .1)
+form-after (struct s) w (run-image b grant) r n k v z c = absurd c
+form-after (image l) w (on-lent op x y o) r n k v z c = absurd c
+form-after (struct s) w (on-lent op x y o) r n k v z c = on-struct-form k _ c
+form-after (image l) w (on-parts i) r n k v z c = absurd c
+form-after (struct s) w (on-parts i) r n k v z c = on-struct-form k _ c
+form-after (image l) w (run-parts grant) r n k v z c = absurd c
+form-after (struct s) w (run-parts grant) r n k v z c = on-struct-form k _ c
+form-after (image l) w decode r n k v z c = on-struct-form k _ (c .0)
+form-after (struct s) w decode r n k v z c = absurd (c .0)
+form-after (image l) w (encode b) r n k v z c = absurd (c .0)
+form-after (struct s) w (encode b) r n (image m) v z c = ap suc (encoded-length b s r m z (c .0))
+form-after (struct s) w (encode b) r n (struct t) v z c = absurd (c .0)
 
 pub same-held : (g k : Held) (s : State) → HeldIs g s → HeldIs k s → form g ≡ form k → g ≡ k
 unfolding HeldIs form
-same-held (image l) (image m) s e f h = ap image (e ∙ sym f)
+same-held (image l) (image m) s e f h = ap image (e .0 ∙ as-same l m s (omega arith) ∙ sym (f .0))
 same-held (image l) (struct t) s e f h = absurd (omega arith)
 same-held (struct s) (image m) u e f h = absurd (omega arith)
 same-held (struct s) (struct t) u e f h = ap struct (e ∙ sym f)

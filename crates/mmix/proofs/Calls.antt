@@ -50,23 +50,23 @@ no-step r n op x y z =
 
 asked-step : (e : Entry) (r n q m op x y z : ℕ) → askedBy e r n ≡ step op x y z ∷ [] → askedBy e q m ≡ step op x y z ∷ []
 unfolding askedBy
-asked-step (on-image i) r n q m op x y z a = a
-asked-step (run-image g) r n q m op x y z a = absurd (no-step r n op x y z a)
+asked-step (on-image b i) r n q m op x y z a = a
+asked-step (run-image b g) r n q m op x y z a = absurd (no-step r n op x y z a)
 asked-step (on-lent f o p t) r n q m op x y z a = a
 asked-step (on-parts i) r n q m op x y z a = a
 asked-step (run-parts g) r n q m op x y z a = absurd (no-step r n op x y z a)
 asked-step decode r n q m op x y z a = a
-asked-step encode r n q m op x y z a = a
+asked-step (encode b) r n q m op x y z a = a
 
 answered-step : (e : Entry) (r n op x y z : ℕ) → askedBy e r n ≡ step op x y z ∷ [] → answeredBy e r n ≡ r ∷ []
 unfolding askedBy answeredBy
-answered-step (on-image i) r n op x y z a = refl
-answered-step (run-image g) r n op x y z a = absurd (no-step r n op x y z a)
+answered-step (on-image b i) r n op x y z a = refl
+answered-step (run-image b g) r n op x y z a = absurd (no-step r n op x y z a)
 answered-step (on-lent f p q t) r n op x y z a = refl
 answered-step (on-parts i) r n op x y z a = refl
 answered-step (run-parts g) r n op x y z a = absurd (no-step r n op x y z a)
 answered-step decode r n op x y z a = absurd (omega (arith, ap length a))
-answered-step encode r n op x y z a = absurd (omega (arith, ap length a))
+answered-step (encode b) r n op x y z a = absurd (omega (arith, ap length a))
 
 step-made : (g : Held) (w : Windows) (c : Made) (op x y z : ℕ) → Intact g → Bytes w → asked c ≡ step op x y z ∷ []
     → InstructionFits op x y z → Meets g w c → StepMade g w op x y z (c .reply) (c .held) (c .window)
@@ -161,7 +161,8 @@ demand3-calls w g k c x y z a b cs ds hg hk hw f fs alike ea eb es ga gb done pc
       replies-same = same .replies-same;
       counts-same = same .counts-same;
       held-same = same-held _ _ _ (ca .held-is) (subst (HeldIs (lastHeld (b .held) ds)) (sym (d .state-same)) (cb .held-is))
-          (same-form (a .held) (b .held) (a .window) (b .window) cs ds es (ga .1) (gb .1) (form-after g w (a .entry) _ _ _ _ (ga .0) ∙ ap formAfter (sym eb) ∙ sym (form-after k w (b .entry) _ _ _ _ (gb .0))));
+          (same-form (a .held) (b .held) (a .window) (b .window) cs ds (p .whole) (q .whole) (p .bytes) (q .bytes) fs (subst AllFit (same .items-same) fs) es (ga .1) (gb .1)
+          (form-after g w (a .entry) _ _ _ _ (intact g hg .sized) (ga .0) ∙ ap formAfter (sym eb) ∙ sym (form-after k w (b .entry) _ _ _ _ (intact k hk .sized) (gb .0))));
       window-same = subst (λ (v : Windows). SameOutside (Within (sp s rO) h) v (lastWindow (b .window) ds)) (sym (ca .window-is))
           (subst (λ (v : Windows). SameOutside (Within (sp s rO) h) (after o is .memory) v) (sym (cb .window-is)) (d .window-same));
       first-back = λ l. returns h s _ _ (after o is) (ra .whole) (ra .bytes) (ca .state-is) (ca .window-is) (d .first-back (at-pop l));

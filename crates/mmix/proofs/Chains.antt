@@ -114,12 +114,12 @@ ran-same grant s v t u r n q m z c d h =
 same-call : (e : Entry) (g k i j : Held) (v u w x : Windows) (r n q m : ℕ) → Intact g → Intact k → MeetsBy g v e r n i w → MeetsBy k u e q m j x
     → Twins (heldState g) v (heldState k) u (askedBy e r n) → SameCall e r n q m
 unfolding askedBy answeredBy MovedBy countedBy Twins runs
-same-call (on-image f) g k i j v u w x r n q m hg hk c d h =
-    let a = after-call g v (on-image f) r n i w hg c in
-    let b = after-call k u (on-image f) q m j x hk d in
-    record { reply-same = head-eq-of-cons-eq (a .answers-are) ∙ h .1 ∙ sym (head-eq-of-cons-eq (b .answers-are)); count-same = refl; items-same = refl }
-same-call (run-image grant) g k i j v u w x r n q m hg hk c d h =
-    let e = ran-same grant (heldState g) v (heldState k) u r n q m (hg .sized) (image-counted g v grant r n i w hg c) (image-counted k u grant q m j x hk d) h in
+same-call (on-image b f) g k i j v u w x r n q m hg hk c d h =
+    let a = after-call g v (on-image b f) r n i w hg c in
+    let p = after-call k u (on-image b f) q m j x hk d in
+    record { reply-same = head-eq-of-cons-eq (a .answers-are) ∙ h .1 ∙ sym (head-eq-of-cons-eq (p .answers-are)); count-same = refl; items-same = refl }
+same-call (run-image b grant) g k i j v u w x r n q m hg hk c d h =
+    let e = ran-same grant (heldState g) v (heldState k) u r n q m (hg .sized) (image-counted g v b grant r n i w hg c) (image-counted k u b grant q m j x hk d) h in
     record { reply-same = e .0; count-same = ap (λ (p : ℕ). p ∷ []) (e .1); items-same = λ p. triedItems (e .0 p) (e .1 p) }
 same-call (on-lent op y z o) g k i j v u w x r n q m hg hk c d h =
     let a = after-call g v (on-lent op y z o) r n i w hg c in
@@ -136,10 +136,10 @@ same-call decode g k i j v u w x r n q m hg hk c d h =
     let a = after-call g v decode r n i w hg c in
     let b = after-call k u decode q m j x hk d in
     record { reply-same = a .moved ∙ sym (b .moved); count-same = refl; items-same = refl }
-same-call encode g k i j v u w x r n q m hg hk c d h =
-    let a = after-call g v encode r n i w hg c in
-    let b = after-call k u encode q m j x hk d in
-    record { reply-same = a .moved ∙ sym (b .moved); count-same = refl; items-same = refl }
+same-call (encode b) g k i j v u w x r n q m hg hk c d h =
+    let a = after-call g v (encode b) r n i w hg c in
+    let p = after-call k u (encode b) q m j x hk d in
+    record { reply-same = a .moved ∙ sym (p .moved); count-same = refl; items-same = refl }
 
 pub twins-at : (is : List Item) (s p : State) (v w : Windows) (t q : State) (u x : Windows) → p ≡ s → w ≡ v → q ≡ t → x ≡ u → Twins s v t u is → Twins p w q x is
 twins-at is s p v w t q u x a b c d h =
@@ -184,17 +184,22 @@ same-calls g k v u (c ∷ cs) (d ∷ ds) hg hk bv bu f e m n h =
           ∙ ap (λ (l : List ℕ). countedBy (d .entry) (d .count) ++ l) (r .counts-same);
     }
 
--- whether an image or a struct is held at the end
+-- what is held at the end: a struct, or an image of which length
 unfoldable lastForm : ℕ → List Entry → ℕ
 lastForm n [] = n
 lastForm n (e ∷ es) = lastForm (formAfter e) es
 
-last-form : (g : Held) (w : Windows) (cs : List Made) → Chain g w cs → form (lastHeld g cs) ≡ lastForm (form g) (entries cs)
-unfolding Chain lastHeld lastForm entries
-last-form g w [] c = refl
-last-form g w (c ∷ cs) m =
-    last-form (c .held) (c .window) cs (m .1) ∙ ap (λ (n : ℕ). lastForm n (entries cs)) (form-after g w (c .entry) (c .reply) (c .count) (c .held) (c .window) (m .0))
+last-form : (g : Held) (w : Windows) (cs : List Made) → Intact g → Bytes w → AllFit (items cs) → Chain g w cs → form (lastHeld g cs) ≡ lastForm (form g) (entries cs)
+unfolding Chain items lastHeld lastForm entries
+last-form g w [] h b f c = refl
+last-form g w (c ∷ cs) h b f m =
+    let fs = fit-both (asked c) (items cs) f in
+    let k : Kept (heldState g) w (asked c) (c .held) (c .window)
+    = kept g w (c .entry) (c .reply) (c .count) (c .held) (c .window) h b (fs .0) (after-call g w (c .entry) (c .reply) (c .count) (c .held) (c .window) h (m .0)) in
+    last-form (c .held) (c .window) cs (k .whole) (k .bytes) (fs .1) (m .1)
+    ∙ ap (λ (n : ℕ). lastForm n (entries cs)) (form-after g w (c .entry) (c .reply) (c .count) (c .held) (c .window) (h .sized) (m .0))
 
-pub same-form : (g k : Held) (v w : Windows) (cs ds : List Made) → entries ds ≡ entries cs → Chain g v cs → Chain k w ds → form g ≡ form k
-    → form (lastHeld g cs) ≡ form (lastHeld k ds)
-same-form g k v w cs ds e c d f = last-form g v cs c ∙ ap (λ (n : ℕ). lastForm n (entries cs)) f ∙ ap (lastForm (form k)) (sym e) ∙ sym (last-form k w ds d)
+pub same-form : (g k : Held) (v w : Windows) (cs ds : List Made) → Intact g → Intact k → Bytes v → Bytes w → AllFit (items cs) → AllFit (items ds)
+    → entries ds ≡ entries cs → Chain g v cs → Chain k w ds → form g ≡ form k → form (lastHeld g cs) ≡ form (lastHeld k ds)
+same-form g k v w cs ds hg hk bv bw fc fd e c d f =
+    last-form g v cs hg bv fc c ∙ ap (λ (n : ℕ). lastForm n (entries cs)) f ∙ ap (lastForm (form k)) (sym e) ∙ sym (last-form k w ds hk bw fd d)

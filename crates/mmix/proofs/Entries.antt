@@ -1,9 +1,8 @@
 -- What the exported functions come to, from what their calls leave.
-use mathlib.Core.Path.{_≡_, sym, ap, _∙_}
-use mathlib.Core.Bool.{Bool, cond}
+use mathlib.Core.Path.{_≡_, sym, ap, subst, _∙_}
+use mathlib.Core.Bool.{true, false}
 use mathlib.Core.List.{List}
 use Prim.Native.Nat.{ℕ}
-use lib.ListN.{length}
 use Rattle.model.specs.Registers.{fresh}
 use Rattle.model.specs.Memory.{Windows}
 use Rattle.model.specs.NoMemory.{Said}
@@ -17,9 +16,9 @@ use Rattle.model.specs.declared.Reply.{Reply}
 use Rattle.model.specs.declared.Reach.{Reach}
 use Rattle.exceptions.specs.Told.{Told}
 use Rattle.instruction.specs.StepAnswer.{Numbered, RunNumbered}
-use Rattle.model.specs.Kept.{imageLength}
-use Rattle.image.specs.Image.{isImage, imageOf, stateOf, Encoded}
+use Rattle.image.specs.Image.{isImage, imageAs, storedIn, stateOf, Encoded}
 use Rattle.image.proofs.Coded.{if-other, if-image}
+use Rattle.image.proofs.RoundTrips.{keeps-length}
 use Rattle.sets.specs.Sets.{Pair, SetOutcome, putSetOf, PutSet}
 use Rattle.mmix.specs.Entries.{Initialized, Stepped, SteppedState, RanImage, RanState, Raised, RaisedState, SetImage, FieldTold}
 
@@ -40,7 +39,7 @@ set-numbered s ps q i t g r e = rw e g
 
 -- ---- on an image of another length
 
-module _ (l : List ℕ) (h : length l ≡ imageLength → ⊥) where
+module _ (l : List ℕ) (h : isImage l ≡ false) where
   pub stepped-else : (w : Windows) (op x y z : ℕ) → Stepped l w op x y z 1 l w
   stepped-else w op x y z = record { reply-is = if-other l h _ _; image-is = if-other l h _ _; window-is = if-other l h _ _ }
 
@@ -55,54 +54,58 @@ module _ (l : List ℕ) (h : length l ≡ imageLength → ⊥) where
 
 -- ---- on an image
 
-module _ (l : List ℕ) (n : length l ≡ imageLength) where
+module _ (l : List ℕ) (n : isImage l ≡ true) where
+  -- a state with the image's mask has room in it
+  again : (s t : State) → s ≡ stateOf l → t .mask ≡ s .mask → (m : List ℕ) → m ≡ storedIn l t → m ≡ imageAs l t
+  again s t e q m k = k ∙ keeps-length .stored-again l t n (q ∙ ap (λ (u : State). u .mask) e)
+
   pub stepped : (w : Windows) (op x y z : ℕ) (s : State) → s ≡ stateOf l
       → (r : ℕ) (t : State) (v : Windows) → SteppedState w s op x y z r t v
-      → (m : List ℕ) → m ≡ imageOf t → Stepped l w op x y z r m v
-  stepped w op x y z s e r t v g m k =
+      → t .mask ≡ s .mask → (m : List ℕ) → m ≡ storedIn l t → Stepped l w op x y z r m v
+  stepped w op x y z s e r t v g q m k =
       let d : stepOf w s op x y z ≡ stepOf w (stateOf l) op x y z = ap (λ (a : State). stepOf w a op x y z) e in
       record {
         reply-is = g .reply-is ∙ ap (λ (o : Outcome State Windows). numberOf (replyOf (o .reply))) d ∙ if-image l n _ _;
-        image-is = k ∙ ap imageOf (g .state-is) ∙ ap (λ (o : Outcome State Windows). imageOf (o .state)) d ∙ if-image l n _ _;
+        image-is = again s t e q m k ∙ ap (imageAs l) (g .state-is) ∙ ap (λ (o : Outcome State Windows). imageAs l (o .state)) d ∙ if-image l n _ _;
         window-is = g .window-is ∙ ap (λ (o : Outcome State Windows). o .memory) d ∙ if-image l n _ _;
       }
 
   pub ran : (w : Windows) (grant : ℕ) (s : State) → s ≡ stateOf l
       → (r i : ℕ) (t : State) (v : Windows) → RanState w s grant r i t v
-      → (m : List ℕ) → m ≡ imageOf t → RanImage l w grant r i m v
-  ran w grant s e r i t v g m k =
+      → t .mask ≡ s .mask → (m : List ℕ) → m ≡ storedIn l t → RanImage l w grant r i m v
+  ran w grant s e r i t v g q m k =
       let d : runOf w s grant ≡ runOf w (stateOf l) grant = ap (λ (a : State). runOf w a grant) e in
       record {
         reply-is = g .reply-is ∙ ap (λ (o : Stopped State Windows). numberOf (replyOf (o .reply))) d ∙ if-image l n _ _;
         count-is = g .count-is ∙ ap (λ (o : Stopped State Windows). o .done) d ∙ if-image l n _ _;
-        image-is = k ∙ ap imageOf (g .state-is) ∙ ap (λ (o : Stopped State Windows). imageOf (o .state)) d ∙ if-image l n _ _;
+        image-is = again s t e q m k ∙ ap (imageAs l) (g .state-is) ∙ ap (λ (o : Stopped State Windows). imageAs l (o .state)) d ∙ if-image l n _ _;
         window-is = g .window-is ∙ ap (λ (o : Stopped State Windows). o .memory) d ∙ if-image l n _ _;
       }
 
   pub raised : (c op x y z a b : ℕ) (s : State) → s ≡ stateOf l
       → (r : ℕ) (t : State) → RaisedState s c op x y z a b r t
-      → (m : List ℕ) → m ≡ imageOf t → Raised l c op x y z a b r m
-  raised c op x y z a b s e r t g m k =
+      → t .mask ≡ s .mask → (m : List ℕ) → m ≡ storedIn l t → Raised l c op x y z a b r m
+  raised c op x y z a b s e r t g q m k =
       let d : exceptionOf s c op x y z a b ≡ exceptionOf (stateOf l) c op x y z a b = ap (λ (u : State). exceptionOf u c op x y z a b) e in
       record {
         reply-is = g .reply-is ∙ ap (λ (o : Said). numberOf (replyOf (o .reply))) d ∙ if-image l n _ _;
-        image-is = k ∙ ap imageOf (g .state-is) ∙ ap (λ (o : Said). imageOf (o .state)) d ∙ if-image l n _ _;
+        image-is = again s t e q m k ∙ ap (imageAs l) (g .state-is) ∙ ap (λ (o : Said). imageAs l (o .state)) d ∙ if-image l n _ _;
       }
 
   pub set-put : (ps : List Pair) (s : State) → s ≡ stateOf l
       → (r i : ℕ) (t : State) → PutSet s ps r i t
-      → (m : List ℕ) → m ≡ imageOf t → SetImage l ps r i m
-  set-put ps s e r i t g m k =
+      → t .mask ≡ s .mask → (m : List ℕ) → m ≡ storedIn l t → SetImage l ps r i m
+  set-put ps s e r i t g q m k =
       let d : putSetOf s ps ≡ putSetOf (stateOf l) ps = ap (λ (u : State). putSetOf u ps) e in
       record {
         reply-is = g .reply-is ∙ ap (λ (o : SetOutcome). o .reply) d ∙ if-image l n _ _;
         place-is = g .place-is ∙ ap (λ (o : SetOutcome). o .place) d ∙ if-image l n _ _;
-        image-is = k ∙ ap imageOf (g .state-is) ∙ ap (λ (o : SetOutcome). imageOf (o .state)) d ∙ if-image l n _ _;
+        image-is = again s t e q m k ∙ ap (imageAs l) (g .state-is) ∙ ap (λ (o : SetOutcome). imageAs l (o .state)) d ∙ if-image l n _ _;
       }
 
 -- the image of the fresh state
 pub initialized : (s : State) → s ≡ fresh → (l : List ℕ) (r : ℕ) (m : List ℕ) → Encoded s l r m → Initialized l r m
-initialized s e l r m g = record { reply-is = g .reply-is; image-is = g .image-is ∙ ap (λ (t : State). cond (isImage l) (imageOf t) l) e }
+initialized s e l r m g = subst (λ (t : State). Encoded t l r m) e g
 
 -- ---- a field
 

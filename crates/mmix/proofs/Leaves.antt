@@ -5,8 +5,7 @@ use mathlib.Core.List.{List, []}
 use Prim.Native.Nat.{ℕ, _≤_, _<_}
 use native.Mathlib.Omega.{arith}
 use mathlib.Core.Bool.{Bool, true, false}
-use borrow.Author.Tests.{eqb-true, eqb-false}
-use lib.ListN.{length, getD}
+use lib.ListN.{getD}
 use Rattle.model.specs.Memory.{Windows, both}
 use Rattle.model.specs.Plan.{Outcome, perform, worst, puts}
 use Rattle.model.specs.Lists.{stepOn}
@@ -22,62 +21,62 @@ use Rattle.model.proofs.Leaves.{replies-leave}
 use Rattle.model.proofs.Invariants.{items-keep}
 use Rattle.model.proofs.Numbers.{unhalting, step-number}
 use Rattle.model.specs.declared.State.{State}
-use Rattle.model.specs.Kept.{imageLength}
-use Rattle.image.specs.Image.{isImage, imageOf, stateOf}
+use Rattle.image.specs.Image.{isImage, imageAs, stateOf}
 use Rattle.mmix.specs.Entries.{lentAt, Stepped, Raised, SteppedState, RaisedState, ContextAt, FieldTold}
 use Rattle.mmix.specs.Leaves.{StepCallLeaves, ExceptionCallLeaves, ContextCallLeaves, CallsLeave}
-use Rattle.mmix.specs.Calls.{image, HeldIs, ImageCall}
-use Rattle.image.proofs.RoundTrips.{round-trips}
+use Rattle.mmix.specs.Calls.{image, ImageCall}
+use Rattle.image.proofs.RoundTrips.{round-trips, keeps-length}
 use Rattle.image.proofs.Coded.{if-other}
-use Rattle.mmix.proofs.Call.{Left, image-left, few}
+use Rattle.mmix.proofs.Call.{Left, image-left, image-as, few}
 use Rattle.mmix.proofs.ImageLeaves.{halt-same, halted-same, tripped-image, not-loaded, trapped-image}
 use Rattle.mmix.proofs.RunLeaves.{by-run, by-state-run}
 use Rattle.mmix.proofs.SetLeaves.{by-set, by-state-set}
 
 -- ---- a step and an exception on an image
 
-module _ (l : List ℕ) (back : imageOf (stateOf l) ≡ l) where
+module _ (l : List ℕ) (n : isImage l ≡ true) (back : imageAs l (stateOf l) ≡ l) where
   abbrev s : State
   s = stateOf l
 
   abbrev zs : Sized s
   zs = round-trips .state-sized l
 
-  step-leaves : (w : Windows) (op x y z r : ℕ) (m : List ℕ) (v : Windows) → Left s w (step op x y z) r (image m) v → StepCallLeaves l w op x y z r m v
-  unfolding HeldIs stepOn mmix itemPlan both stepOf
-  step-leaves w op x y z r m v g =
+  step-leaves : (w : Windows) (op x y z r : ℕ) (m : List ℕ) (v : Windows) → m ≡ imageAs l (stepOf w s op x y z .state) → Left s w (step op x y z) r (image m) v → StepCallLeaves l w op x y z r m v
+  unfolding stepOn mmix itemPlan both stepOf
+  step-leaves w op x y z r m v i g =
       let o : Outcome State Windows = stepOf w s op x y z in
       let k : StepLeaves w s op x y z o = replies-leave .by-step w s op x y z zs in
       let zt : Sized (o .state) = items-keep .sized w s (step op x y z) zs in
       let e : r ≡ o .reply = g .reply-is in
       record {
-        most = subst (λ (n : ℕ). (n ≤ 20) ⊎ ((n ≡ 22) ⊎ (n ≡ 29))) (sym e) (k .most);
-        early = λ p. let h = k .early (subst Early e p) in (g .held-is ∙ ap imageOf (h .0) ∙ back, g .window-is ∙ h .1);
-        lost = λ p. let h = k .lost (omega (arith, e)) in (g .held-is ∙ ap imageOf (h .0) ∙ back, g .window-is ∙ h .1);
-        halting = λ p. let h = k .halting (subst Halting e p) in (halted-same l back m (o .state) (g .held-is) (h .0), g .window-is ∙ h .1);
-        nineteen = λ p. not-loaded l back w op x y z o m v zt (g .held-is) (g .window-is) (k .nineteen (sym e ∙ p));
-        twenty = λ p. let h = k .twenty (sym e ∙ p) in (trapped-image l back (wordOf op x y z) y z (o .state) m zt (g .held-is) (h .0), g .window-is ∙ h .1);
+        most = subst (λ (q : ℕ). (q ≤ 20) ⊎ ((q ≡ 22) ⊎ ((q ≡ 29) ⊎ (q ≡ 31)))) (sym e) (k .most);
+        early = λ p. let h = k .early (subst Early e p) in (i ∙ ap (imageAs l) (h .0) ∙ back, g .window-is ∙ h .1);
+        lost = λ p. let h = k .lost (omega (arith, e)) in (i ∙ ap (imageAs l) (h .0) ∙ back, g .window-is ∙ h .1);
+        halting = λ p. let h = k .halting (subst Halting e p) in (halted-same l n back m (o .state) i (h .0), g .window-is ∙ h .1);
+        nineteen = λ p. not-loaded l n back w op x y z o m v zt i (g .window-is) (k .nineteen (sym e ∙ p));
+        twenty = λ p. let h = k .twenty (sym e ∙ p) in (trapped-image l n back (wordOf op x y z) y z (o .state) m zt i (h .0), g .window-is ∙ h .1);
         shared = λ p. k .shared (sym e ∙ p);
-        done = λ p. halt-same l back m (o .state) (g .held-is) zt (k .done (sym e ∙ p));
+        done = λ p. halt-same l n back m (o .state) i zt (k .done (sym e ∙ p));
       }
 
-  exception-leaves : (w : Windows) (f op x y z u v r : ℕ) (m : List ℕ) → Left s w (exception f op x y z u v) r (image m) w → ExceptionCallLeaves l f op x y z u v r m
-  unfolding HeldIs stepOn mmix itemPlan both tell perform worst puts
-  exception-leaves w f op x y z u v r m g =
+  exception-leaves : (w : Windows) (f op x y z u v r : ℕ) (m : List ℕ) → m ≡ imageAs l (exceptionOf s f op x y z u v .state)
+      → Left s w (exception f op x y z u v) r (image m) w → ExceptionCallLeaves l f op x y z u v r m
+  unfolding stepOn mmix itemPlan both tell perform worst puts
+  exception-leaves w f op x y z u v r m i g =
       let d : Said = exceptionOf s f op x y z u v in
       let k : ExceptionLeaves s f op x y z u v d = replies-leave .by-exception s f op x y z u v zs in
       let zt : Sized (d .state) = items-keep .sized w s (exception f op x y z u v) zs in
       let e : r ≡ d .reply = g .reply-is in
       record {
         among = subst (λ (q : ℕ). (q ≡ 0) ⊎ ((q ≡ 1) ⊎ (q ≡ 19))) (sym e) (k .among);
-        refused = λ p. g .held-is ∙ ap imageOf (k .inadmissible (sym e ∙ p)) ∙ back;
-        nineteen = λ p. g .held-is ∙ tripped-image l back f (wordOf op x y z) u v (d .state) zt (k .not-loaded (sym e ∙ p));
-        done = λ p. halt-same l back m (d .state) (g .held-is) zt (k .done (sym e ∙ p));
+        refused = λ p. i ∙ ap (imageAs l) (k .inadmissible (sym e ∙ p)) ∙ back;
+        nineteen = λ p. i ∙ tripped-image l n back f (wordOf op x y z) u v (d .state) zt (k .not-loaded (sym e ∙ p));
+        done = λ p. halt-same l n back m (d .state) i zt (k .done (sym e ∙ p));
       }
 
 -- ---- the theorem
 
-other-step : (l : List ℕ) (w : Windows) (op x y z r : ℕ) (m : List ℕ) (v : Windows) → (length l ≡ imageLength → ⊥) → Stepped l w op x y z r m v → StepCallLeaves l w op x y z r m v
+other-step : (l : List ℕ) (w : Windows) (op x y z r : ℕ) (m : List ℕ) (v : Windows) → isImage l ≡ false → Stepped l w op x y z r m v → StepCallLeaves l w op x y z r m v
 other-step l w op x y z r m v h g =
     let e : r ≡ 1 = g .reply-is ∙ sym (if-other l h _ _) in
     record {
@@ -91,7 +90,7 @@ other-step l w op x y z r m v h g =
       done = λ p. absurd (omega arith);
     }
 
-other-exception : (l : List ℕ) (f op x y z u v r : ℕ) (m : List ℕ) → (length l ≡ imageLength → ⊥) → Raised l f op x y z u v r m → ExceptionCallLeaves l f op x y z u v r m
+other-exception : (l : List ℕ) (f op x y z u v r : ℕ) (m : List ℕ) → isImage l ≡ false → Raised l f op x y z u v r m → ExceptionCallLeaves l f op x y z u v r m
 other-exception l f op x y z u v r m h g =
     let e : r ≡ 1 = g .reply-is ∙ sym (if-other l h _ _) in
     record {
@@ -103,18 +102,17 @@ other-exception l f op x y z u v r m h g =
 
 by-step : (l : List ℕ) (w : Windows) (op x y z r : ℕ) (m : List ℕ) (v : Windows) → ((i : ℕ) → getD l i 0 < 256)
     → Stepped l w op x y z r m v → StepCallLeaves l w op x y z r m v
-unfolding ImageCall
+unfolding ImageCall stepOn mmix itemPlan both stepOf
 by-step l w op x y z r m v b g = go (isImage l) refl
   where
     go : (t : Bool) → isImage l ≡ t → StepCallLeaves l w op x y z r m v
     go true e =
-        let n : length l ≡ imageLength = eqb-true (length l) imageLength e in
-        step-leaves l (round-trips .image-state l n b) w op x y z r m v (image-left l w (step op x y z) r m v n g)
-    go false e = other-step l w op x y z r m v (eqb-false (length l) imageLength e) g
+        step-leaves l e (keeps-length .as-state l e b) w op x y z r m v (image-as l w (step op x y z) r m v e g) (image-left l w (step op x y z) r m v e g)
+    go false e = other-step l w op x y z r m v e g
 
 by-exception : (l : List ℕ) (f op x y z u v r : ℕ) (m : List ℕ) → ((i : ℕ) → getD l i 0 < 256)
     → Raised l f op x y z u v r m → ExceptionCallLeaves l f op x y z u v r m
-unfolding ImageCall
+unfolding ImageCall stepOn mmix itemPlan both tell perform worst puts
 by-exception l f op x y z u v r m b g = go (isImage l) refl
   where
     no-window : Windows
@@ -122,9 +120,9 @@ by-exception l f op x y z u v r m b g = go (isImage l) refl
 
     go : (t : Bool) → isImage l ≡ t → ExceptionCallLeaves l f op x y z u v r m
     go true e =
-        let n : length l ≡ imageLength = eqb-true (length l) imageLength e in
-        exception-leaves l (round-trips .image-state l n b) no-window f op x y z u v r m (image-left l no-window (exception f op x y z u v) r m no-window n (g, refl))
-    go false e = other-exception l f op x y z u v r m (eqb-false (length l) imageLength e) g
+        exception-leaves l e (keeps-length .as-state l e b) no-window f op x y z u v r m (image-as l no-window (exception f op x y z u v) r m no-window e (g, refl))
+        (image-left l no-window (exception f op x y z u v) r m no-window e (g, refl))
+    go false e = other-exception l f op x y z u v r m e g
 
 by-state-step : (w : Windows) (s : State) (op x y z r : ℕ) (t : State) (v : Windows) → Sized s → SteppedState w s op x y z r t v
     → StepLeaves w s op x y z (record { reply = r; state = t; memory = v })

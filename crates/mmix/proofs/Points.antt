@@ -20,6 +20,8 @@ chain s (c ∷ cs) h = (meets s c (h .0), chain (leftBy s (onStore c)) cs (h .1)
 pub points-return : PointsReturn
 points-return = record {
   gives-back = λ s cs h. returns .gives-back s (onStores cs) (chain s cs h);
+  gives-at = λ s cs h. returns .gives-at s (onStores cs) (chain s cs h);
+  gives-not = λ s cs h. returns .gives-not s (onStores cs) (chain s cs h);
   untouched = λ s cs h. returns .untouched s (onStores cs) (chain s cs h);
   behind = λ s cs h. returns .behind s (onStores cs) (chain s cs h);
   long = λ s cs h. returns .long s (onStores cs) (chain s cs h);

@@ -1,15 +1,14 @@
 -- What each number leaves of a run: of an image's bytes, and of a struct.
 use mathlib.Core.Path.{_≡_, refl, sym, ap, subst, _∙_}
 use mathlib.Core.Logic.{_⊎_, inl, inr, _≢_, ⊎-elim}
-use mathlib.Core.Bool.{Bool, true, false}
+use mathlib.Core.Bool.{Bool, true, false, true≢false}
 use mathlib.Core.List.{List}
 use Prim.Native.Nat.{ℕ, _≤_, _<_}
 use native.Mathlib.Omega.{arith}
-use borrow.Author.Tests.{eqb-true, eqb-false}
 use lib.ListN.{length, getD}
 use Rattle.model.specs.Memory.{Windows, shapesOf}
 use Rattle.model.specs.Plan.{Outcome}
-use Rattle.model.specs.Registers.{Sized, Words, admissible}
+use Rattle.model.specs.Registers.{Sized, Words, isMarginal, admissible, withSpecial, cleared, claimLocal}
 use Rattle.model.specs.Step.{claims, opcodeIn, xIn, yIn, zIn, claimedBy, tetraOf, claimedAt}
 use Rattle.model.specs.Run.{Stopped, grantMost, runOf}
 use Rattle.model.specs.RunMeant.{CallPasses}
@@ -26,60 +25,67 @@ use Rattle.model.proofs.WordsKept.{claim-words}
 use Rattle.model.proofs.Numbers.{run-number}
 use Rattle.model.proofs.RunMeant.{Ready, run-open, run-ready, run-is-meant, call-by}
 use Rattle.model.proofs.Leaves.{replies-leave}
-use Rattle.model.specs.Kept.{imageLength}
-use Rattle.image.specs.Image.{isImage, imageOf, stateOf}
+use Rattle.image.specs.Image.{isImage, hasRoom, imageAs, stateOf}
 use Rattle.mmix.specs.Entries.{RanImage, RanState}
 use Rattle.mmix.specs.Leaves.{NotLoadedLeaves, tetraIn, TetraCallLeaves, LastCallLeaves, OfCall, RunCallLeaves}
-use Rattle.image.proofs.RoundTrips.{round-trips}
-use Rattle.image.proofs.Coded.{if-other}
+use Rattle.image.proofs.RoundTrips.{round-trips, keeps-length}
+use Rattle.image.proofs.Coded.{if-other, stored-is}
 use Rattle.mmix.proofs.Entries.{ran}
 use Rattle.mmix.proofs.Tried.{InRange, run-range}
-use Rattle.mmix.proofs.Call.{Counted, state-counted, image-ran}
+use Rattle.mmix.proofs.Call.{as-same, image-same, run-mask, Counted, state-counted, image-ran}
 use Rattle.mmix.proofs.OwnNumbers.{fetched-own}
 use Rattle.mmix.proofs.ImageLeaves.{halt-same, halted-same, not-loaded, trapped-image}
 
 -- ---- the last instruction
 
--- what a claim leaves is in range
-record Held (s : State) : Type 0 where
+-- what a claim leaves is in range, under the same mask
+record Held (m : ℕ) (s : State) : Type 0 where
   sized : Sized s
   words : Words s
+  mask-is : s .mask ≡ m
 
-claimed-held : (s : State) (op x : ℕ) → Sized s → Words s → admissible s ≡ true → Held (claimedBy s op x)
+claim-mask : (s : State) (x : ℕ) → claimLocal s x .mask ≡ s .mask
+unfolding claimLocal withSpecial cleared
+claim-mask s x = on (λ (t : State). t .mask ≡ s .mask) (isMarginal s x) (λ e. refl) (λ e. refl)
+
+claimed-held : (s : State) (op x : ℕ) → Sized s → Words s → admissible s ≡ true → Held (s .mask) (claimedBy s op x)
 unfolding claimedBy
 claimed-held s op x z h a =
-    on Held (claims op) (λ b. record { sized = claim-good s x (record { size = z; admits = adm s a }) .size; words = claim-words s x h })
-    (λ b. record { sized = z; words = h })
+    on (Held (s .mask)) (claims op) (λ b. record { sized = claim-good s x (record { size = z; admits = adm s a }) .size; words = claim-words s x h; mask-is = claim-mask s x })
+    (λ b. record { sized = z; words = h; mask-is = refl })
 
-module _ (l : List ℕ) (back : imageOf (stateOf l) ≡ l) (words : Words (stateOf l)) (admitted : admissible (stateOf l) ≡ true) where
+module _ (l : List ℕ) (n : isImage l ≡ true) (back : imageAs l (stateOf l) ≡ l) (words : Words (stateOf l)) (admitted : admissible (stateOf l) ≡ true) where
   abbrev found : State
   found = stateOf l
 
   -- 19, of the claimed image
-  claimed-loaded : (w : Windows) (op x y z : ℕ) (c : State) (o : Outcome State Windows) (m : List ℕ) (v : Windows) → Held c → Sized (o .state) → m ≡ imageOf (o .state) → v ≡ o .memory
-      → TripLeaves w c op x y z o ⊎ (StoreLeaves w c op x y z o ⊎ ArithmeticLeaves w c op x y z o) → NotLoadedLeaves (imageOf c) w op x y z m v
+  claimed-loaded : (w : Windows) (op x y z : ℕ) (c : State) (o : Outcome State Windows) (m : List ℕ) (v : Windows) → Held (found .mask) c → Sized (o .state) → m ≡ imageAs l (o .state) → v ≡ o .memory
+      → TripLeaves w c op x y z o ⊎ (StoreLeaves w c op x y z o ⊎ ArithmeticLeaves w c op x y z o) → NotLoadedLeaves (imageAs l c) w op x y z m v
   claimed-loaded w op x y z c o m v h zt em ev k =
-      let e : stateOf (imageOf c) ≡ c = round-trips .state-image c (h .sized) (h .words) in
-      not-loaded (imageOf c) (ap imageOf e) w op x y z o m v zt em ev
+      let i : List ℕ = imageAs l c in
+      let room : hasRoom l (c .mask) ≡ true = keeps-length .room-again l (c .mask) n (h .mask-is) in
+      let long : length i ≡ length l = keeps-length .as-length l c n (h .sized) in
+      let e : stateOf i ≡ c = keeps-length .state-as l c (h .sized) (h .words) room in
+      not-loaded i (image-same l i long ∙ n) (ap (imageAs i) e ∙ sym (as-same l i c long)) w op x y z o m v zt (em ∙ as-same l i (o .state) long) ev
       (subst (λ (q : State). TripLeaves w q op x y z o ⊎ (StoreLeaves w q op x y z o ⊎ ArithmeticLeaves w q op x y z o)) (sym e) k)
 
   tetra-leaves : (w : Windows) (t : ℕ) (o : Outcome State Windows) (r : ℕ) (m : List ℕ) (v : Windows) → TetraLeaves w found (claimedAt w found) t o → Sized (o .state)
-      → r ≡ o .reply → m ≡ imageOf (o .state) → v ≡ o .memory → TetraCallLeaves l w t r m v
+      → r ≡ o .reply → m ≡ imageAs l (o .state) → v ≡ o .memory → TetraCallLeaves l w t r m v
   tetra-leaves w t o r m v k zt e em ev = record {
-    most = subst (λ (n : ℕ). (n ≤ 20) ⊎ ((n ≡ 22) ⊎ ((n ≡ 24) ⊎ (n ≡ 29)))) (sym e) (k .most);
-    early = λ p. let h = k .early (subst Early e p) in (em ∙ ap imageOf (h .0) ∙ back, ev ∙ h .1);
-    missed = λ p. let h = k .missed (subst Missed e p) in (em ∙ ap imageOf (h .0) ∙ back, ev ∙ h .1);
-    halting = λ p. let h = k .halting (subst Halting e p) in (halted-same l back m (o .state) em (h .0), ev ∙ h .1);
+    most = subst (λ (n : ℕ). (n ≤ 20) ⊎ ((n ≡ 22) ⊎ ((n ≡ 24) ⊎ ((n ≡ 29) ⊎ (n ≡ 31))))) (sym e) (k .most);
+    early = λ p. let h = k .early (subst Early e p) in (em ∙ ap (imageAs l) (h .0) ∙ back, ev ∙ h .1);
+    missed = λ p. let h = k .missed (subst Missed e p) in (em ∙ ap (imageAs l) (h .0) ∙ back, ev ∙ h .1);
+    halting = λ p. let h = k .halting (subst Halting e p) in (halted-same l n back m (o .state) em (h .0), ev ∙ h .1);
     nineteen = λ p. claimed-loaded w (opcodeIn t) (xIn t) (yIn t) (zIn t) (claimedAt w found) o m v
         (claimed-held found (opcodeIn (tetraOf w found)) (xIn (tetraOf w found)) (round-trips .state-sized l) words admitted) zt em ev (k .nineteen (sym e ∙ p));
-    twenty = λ p. let h = k .twenty (sym e ∙ p) in (trapped-image l back (wordOf (opcodeIn t) (xIn t) (yIn t) (zIn t)) (yIn t) (zIn t) (o .state) m zt em (h .0), ev ∙ h .1);
+    twenty = λ p. let h = k .twenty (sym e ∙ p) in (trapped-image l n back (wordOf (opcodeIn t) (xIn t) (yIn t) (zIn t)) (yIn t) (zIn t) (o .state) m zt em (h .0), ev ∙ h .1);
     shared = λ p. k .shared (sym e ∙ p);
     unfetched = λ p. k .unfetched (sym e ∙ p);
   }
 
 -- ---- a run on an image
 
-module _ (l : List ℕ) (n : length l ≡ imageLength) (b : (i : ℕ) → getD l i 0 < 256) (w : Windows) (bw : Bytes w) (grant : ℕ) where
+module _ (l : List ℕ) (n : isImage l ≡ true) (b : (i : ℕ) → getD l i 0 < 256) (w : Windows) (bw : Bytes w) (grant : ℕ) where
   abbrev s : State
   s = stateOf l
 
@@ -89,14 +95,15 @@ module _ (l : List ℕ) (n : length l ≡ imageLength) (b : (i : ℕ) → getD l
   range : InRange s w
   range = record { sized = round-trips .state-sized l; words = round-trips .state-words l b; bytes = bw }
 
-  back : imageOf s ≡ l
-  back = round-trips .image-state l n b
+  back : imageAs l s ≡ l
+  back = keeps-length .as-state l n b
 
   -- what the count reached
   record Reached (k : LastLeaves w s stop) : Type 0 where
     sized : Sized (k .reached)
     words : Words (k .reached)
     passes : Passes (k .lent) (k .reached)
+    mask-is : k .reached .mask ≡ s .mask
 
   reached : CallPasses w s grant → stop .reply ≢ 0 → (k : LastLeaves w s stop) → Reached k
   reached c f k =
@@ -106,15 +113,22 @@ module _ (l : List ℕ) (n : length l ≡ imageLength) (b : (i : ℕ) → getD l
       let e = run-open w s (stop .done) (record { passes = c .passes; granted = omega arith }) in
       let q : Ready (k .lent) (k .reached)
       = subst (λ (p : Stopped State Windows). Ready (p .memory) (p .state)) (sym e ∙ k .reached-is) (run-ready (stop .done) w s (record { sized = range .sized; passes = c .passes })) in
-      record { sized = h .sized; words = h .words; passes = q .passes }
+      record {
+        sized = h .sized;
+        words = h .words;
+        passes = q .passes;
+        mask-is = ap (λ (p : Stopped State Windows). p .state .mask) (sym (k .reached-is)) ∙ run-mask s w (stop .done) (range .sized);
+      }
 
-  last-leaves : (r d : ℕ) (m : List ℕ) (v : Windows) → r ≡ stop .reply → d ≡ stop .done → m ≡ imageOf (stop .state) → v ≡ stop .memory → CallPasses w s grant → r ≢ 0
+  last-leaves : (r d : ℕ) (m : List ℕ) (v : Windows) → r ≡ stop .reply → d ≡ stop .done → m ≡ imageAs l (stop .state) → v ≡ stop .memory → CallPasses w s grant → r ≢ 0
       → LastCallLeaves l w r d m v
   last-leaves r d m v er ed em ev c f =
       let k : LastLeaves w s stop = replies-leave .by-run w s grant (range .sized) .refused c (λ q. f (er ∙ q)) in
       let h : Reached k = reached c (λ q. f (er ∙ q)) k in
-      let i : List ℕ = imageOf (k .reached) in
-      let e : stateOf i ≡ k .reached = round-trips .state-image (k .reached) (h .sized) (h .words) in
+      let i : List ℕ = imageAs l (k .reached) in
+      let long : length i ≡ length l = keeps-length .as-length l (k .reached) n (h .sized) in
+      let room : hasRoom l (k .reached .mask) ≡ true = keeps-length .room-again l (k .reached .mask) n (h .mask-is) in
+      let e : stateOf i ≡ k .reached = keeps-length .state-as l (k .reached) (h .sized) (h .words) room in
       let o : Outcome State Windows = record { reply = stop .reply; state = stop .state; memory = stop .memory } in
       let at : runOf w s d ≡ record { done = stop .done; reply = 0; state = k .reached; memory = k .lent } = ap (runOf w s) ed ∙ k .reached-is in
       record {
@@ -125,10 +139,10 @@ module _ (l : List ℕ) (n : length l ≡ imageLength) (b : (i : ℕ) → getD l
           count-is = ed ∙ ap (λ (p : Stopped State Windows). p .done) (sym at);
           state-is = ap (λ (p : Stopped State Windows). p .state) (sym at);
           window-is = ap (λ (p : Stopped State Windows). p .memory) (sym at);
-        }) i refl;
-        leaves = tetra-leaves i (ap imageOf e) (subst Words (sym e) (h .words)) (ap admissible e ∙ h .passes .admitted) (k .lent) (tetraIn (k .lent) i) o r m v
-            (subst (λ (p : State). TetraLeaves (k .lent) p (claimedAt (k .lent) p) (tetraOf (k .lent) p) o) (sym e) (k .leaves)) (run-range w s grant range .sized) er em ev;
-        halt-kept = halt-same l back i (k .reached) refl (h .sized) (k .halt-kept);
+        }) (h .mask-is) i (sym (stored-is l (k .reached) room));
+        leaves = tetra-leaves i (image-same l i long ∙ n) (ap (imageAs i) e ∙ sym (as-same l i (k .reached) long)) (subst Words (sym e) (h .words)) (ap admissible e ∙ h .passes .admitted) (k .lent) (tetraIn (k .lent) i) o r m v
+            (subst (λ (p : State). TetraLeaves (k .lent) p (claimedAt (k .lent) p) (tetraOf (k .lent) p) o) (sym e) (k .leaves)) (run-range w s grant range .sized) er (em ∙ as-same l i (stop .state) long) ev;
+        halt-kept = halt-same l n back i (k .reached) refl (h .sized) (k .halt-kept);
       }
 
   -- no instruction on the way is refused by a number of the call
@@ -145,11 +159,11 @@ module _ (l : List ℕ) (n : length l ≡ imageLength) (b : (i : ℕ) → getD l
       let c : Counted s w grant r d = state-counted s w grant r d (stop .state) v (range .sized) (e .0) in
       let k : RunLeaves w s grant stop = replies-leave .by-run w s grant (range .sized) in
       record {
-        most = subst (λ (q : ℕ). (q ≤ 20) ⊎ ((q ≡ 22) ⊎ ((q ≡ 24) ⊎ ((q ≡ 25) ⊎ (q ≡ 29))))) (sym (c .reply-is)) (k .most);
-        whole = λ f. let h = unpassed (f n) in (subst OfCall (sym (c .reply-is)) (h .0), c .count-is ∙ h .1 .0, e .1 ∙ ap imageOf (h .1 .1) ∙ back, e .0 .window-is ∙ h .1 .2);
-        whole-by = λ f. let h = as-found (subst OfCall (c .reply-is) f) in (c .count-is ∙ h .0, e .1 ∙ ap imageOf (h .1) ∙ back, e .0 .window-is ∙ h .2);
+        most = subst (λ (q : ℕ). (q ≤ 20) ⊎ ((q ≡ 22) ⊎ ((q ≡ 24) ⊎ ((q ≡ 25) ⊎ ((q ≡ 29) ⊎ (q ≡ 31)))))) (sym (c .reply-is)) (k .most);
+        whole = λ f. let h = unpassed (f n) in (subst OfCall (sym (c .reply-is)) (h .0), c .count-is ∙ h .1 .0, e .1 ∙ ap (imageAs l) (h .1 .1) ∙ back, e .0 .window-is ∙ h .1 .2);
+        whole-by = λ f. let h = as-found (subst OfCall (c .reply-is) f) in (c .count-is ∙ h .0, e .1 ∙ ap (imageAs l) (h .1) ∙ back, e .0 .window-is ∙ h .2);
         refused = λ _ p f. last-leaves r d m v (c .reply-is) (c .count-is) (e .1) (e .0 .window-is) p f;
-        spent = λ p. halt-same l back m (stop .state) (e .1) (run-range w s grant range .sized) (k .spent (sym (c .reply-is) ∙ p));
+        spent = λ p. halt-same l n back m (stop .state) (e .1) (run-range w s grant range .sized) (k .spent (sym (c .reply-is) ∙ p));
       }
     where
       Untouched : Stopped State Windows → Type 0
@@ -168,14 +182,14 @@ module _ (l : List ℕ) (n : length l ≡ imageLength) (b : (i : ℕ) → getD l
 
 -- ---- the theorem's part
 
-other-run : (l : List ℕ) (w : Windows) (grant r n : ℕ) (m : List ℕ) (v : Windows) → (length l ≡ imageLength → ⊥) → RanImage l w grant r n m v → RunCallLeaves l w grant r n m v
+other-run : (l : List ℕ) (w : Windows) (grant r n : ℕ) (m : List ℕ) (v : Windows) → isImage l ≡ false → RanImage l w grant r n m v → RunCallLeaves l w grant r n m v
 other-run l w grant r n m v h g =
     let e : r ≡ 1 = g .reply-is ∙ sym (if-other l h _ _) in
     record {
       most = inl (omega arith);
       whole = λ f. (inl e, g .count-is ∙ sym (if-other l h _ _), g .image-is ∙ sym (if-other l h _ _), g .window-is ∙ sym (if-other l h _ _));
       whole-by = λ f. (g .count-is ∙ sym (if-other l h _ _), g .image-is ∙ sym (if-other l h _ _), g .window-is ∙ sym (if-other l h _ _));
-      refused = λ q. absurd (h q);
+      refused = λ q. absurd (true≢false (sym q ∙ h));
       spent = λ p. absurd (omega arith);
     }
 
@@ -184,8 +198,8 @@ pub by-run : (l : List ℕ) (w : Windows) (grant r n : ℕ) (m : List ℕ) (v : 
 by-run l w grant r n m v b bw g = go (isImage l) refl
   where
     go : (t : Bool) → isImage l ≡ t → RunCallLeaves l w grant r n m v
-    go true e = run-leaves l (eqb-true (length l) imageLength e) b w bw grant r n m v g
-    go false e = other-run l w grant r n m v (eqb-false (length l) imageLength e) g
+    go true e = run-leaves l e b w bw grant r n m v g
+    go false e = other-run l w grant r n m v e g
 
 pub by-state-run : (w : Windows) (s : State) (grant r n : ℕ) (t : State) (v : Windows) → Sized s → RanState w s grant r n t v
     → RunLeaves w s grant (record { done = n; reply = r; state = t; memory = v })

@@ -54,7 +54,7 @@ large-listed w s = record { answers-are = refl; state-is = refl; memory-is = ref
 below-large : (w : Windows) (s : State) (grant : ℕ) → Sized s → CallPasses w s grant → runOf w s grant .reply ≢ 25
 below-large w s grant n c e =
     let k = replies-leave .by-run w s grant n .refused c (λ q. let z : _≡_ {A = ℕ} 0 25 = sym q ∙ e in omega arith) .leaves .most in
-    ⊎-elim (λ l. omega (arith, e, l)) (⊎-elim (λ q. omega (arith, e, q)) (⊎-elim (λ q. omega (arith, e, q)) (λ q. omega (arith, e, q)))) k
+    ⊎-elim (λ l. omega (arith, e, l)) (⊎-elim (λ q. omega (arith, e, q)) (⊎-elim (λ q. omega (arith, e, q)) (⊎-elim (λ q. omega (arith, e, q)) (λ q. omega (arith, e, q))))) k
 
 passed-listed : (w : Windows) (s : State) (grant : ℕ) → Sized s → CallPasses w s grant → RunListed w s (runOf w s grant)
 unfolding triedItems triedAnswers

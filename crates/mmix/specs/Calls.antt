@@ -5,7 +5,7 @@
 -- `Stepped`, `Raised`, `RanImage`, `SteppedState`, `RaisedState`, `RanState`, `Decoded` and `Encoded` are the functions' contracts.
 use Prim.Native.Nat.{ℕ, suc, _+_, _<_}
 use mathlib.Core.Path.{_≡_}
-use mathlib.Core.Bool.{cond}
+use mathlib.Core.Bool.{true, cond}
 use mathlib.Core.List.{List, [], _∷_, _++_}
 use lib.Dec.{eqb}
 use lib.ListN.{length, getD, replicate}
@@ -19,8 +19,7 @@ use Rattle.model.specs.Step.{Item, step, exception, fetched, mmix}
 use Rattle.model.specs.Invariants.{InstructionFits, Fits, Bytes}
 use Rattle.model.specs.Demand.{Within, Call, opcodeOf, Alike, SameOutside, AtPop}
 use Rattle.model.specs.declared.State.{State}
-use Rattle.model.specs.Kept.{imageLength}
-use Rattle.image.specs.Image.{imageOf, stateOf, Decoded, Encoded}
+use Rattle.image.specs.Image.{isImage, hasRoom, imageAs, stateOf, Decoded, Encoded}
 use Rattle.mmix.specs.Entries.{Stepped, Raised, RanImage, SteppedState, RaisedState, RanState}
 
 -- ---- what a host holds
@@ -33,14 +32,14 @@ unfoldable pub heldState : Held → State
 heldState (image l) = stateOf l
 heldState (struct s) = s
 
--- it is this state
+-- it is this state: an image of either length is, where it has room for the mask
 unfoldable pub HeldIs : Held → State → Type 0
-HeldIs (image l) s = l ≡ imageOf s
+HeldIs (image l) s = (l ≡ imageAs l s) × (hasRoom l (s .mask) ≡ true)
 HeldIs (struct t) s = t ≡ s
 
--- 2,328 bytes
+-- 2,336 bytes, or an old image's 2,328
 pub record ImageBytes (l : List ℕ) : Type 0 where
-  pub long : length l ≡ imageLength
+  pub long : isImage l ≡ true
   pub byte : (i : ℕ) → getD l i 0 < 256
 
 -- what C's types give
@@ -50,16 +49,16 @@ HeldFits (struct s) = Sized s × Words s
 
 -- ---- one call
 
--- which function is called, and with what beside what is held: mmix_step or mmix_exceptions; mmix_run, with its grant; mmix_step_lent;
--- mmix_step_parts or mmix_exceptions_parts; mmix_run_parts, with its grant; mmix_decode; mmix_encode
+-- which function is called, and with what beside what is held: mmix_step or mmix_exceptions, with the image's length; mmix_run, with that and its
+-- grant; mmix_step_lent; mmix_step_parts or mmix_exceptions_parts; mmix_run_parts, with its grant; mmix_decode; mmix_encode, with the length
 pub data Entry : Type 0 where
-  on-image : Item → Entry
-  run-image : ℕ → Entry
+  on-image : ℕ → Item → Entry
+  run-image : ℕ → ℕ → Entry
   on-lent : ℕ → ℕ → ℕ → ℕ → Entry
   on-parts : Item → Entry
   run-parts : ℕ → Entry
   decode : Entry
-  encode : Entry
+  encode : ℕ → Entry
 
 -- a call that was made: the function with its arguments, its reply and, of a run, its count, and what is held and the windows after it
 pub record Made : Type 0 where
@@ -81,46 +80,46 @@ triedAnswers r n = cond (eqb r 25) [] (replicate n 0 ++ cond (eqb r 0) [] (r ∷
 -- what function e asks for where it replies r, with the count n of a run: a step, an exception, fetched instructions; mmix_decode and
 -- mmix_encode ask for nothing
 unfoldable pub askedBy : Entry → ℕ → ℕ → List Item
-askedBy (on-image i) r n = i ∷ []
-askedBy (run-image g) r n = triedItems r n
+askedBy (on-image b i) r n = i ∷ []
+askedBy (run-image b g) r n = triedItems r n
 askedBy (on-lent op x y z) r n = step op x y z ∷ []
 askedBy (on-parts i) r n = i ∷ []
 askedBy (run-parts g) r n = triedItems r n
 askedBy decode r n = []
-askedBy encode r n = []
+askedBy (encode b) r n = []
 
 abbrev pub asked : Made → List Item
 asked c = askedBy (c .entry) (c .reply) (c .count)
 
 -- the answers to what is asked for
 unfoldable pub answeredBy : Entry → ℕ → ℕ → List ℕ
-answeredBy (on-image i) r n = r ∷ []
-answeredBy (run-image g) r n = triedAnswers r n
+answeredBy (on-image b i) r n = r ∷ []
+answeredBy (run-image b g) r n = triedAnswers r n
 answeredBy (on-lent op x y z) r n = r ∷ []
 answeredBy (on-parts i) r n = r ∷ []
 answeredBy (run-parts g) r n = triedAnswers r n
 answeredBy decode r n = []
-answeredBy encode r n = []
+answeredBy (encode b) r n = []
 
 -- mmix_decode and mmix_encode reply 0
 unfoldable pub MovedBy : Entry → ℕ → Type 0
-MovedBy (on-image i) r = Unit {0}
-MovedBy (run-image g) r = Unit {0}
+MovedBy (on-image b i) r = Unit {0}
+MovedBy (run-image b g) r = Unit {0}
 MovedBy (on-lent op x y z) r = Unit {0}
 MovedBy (on-parts i) r = Unit {0}
 MovedBy (run-parts g) r = Unit {0}
 MovedBy decode r = r ≡ 0
-MovedBy encode r = r ≡ 0
+MovedBy (encode b) r = r ≡ 0
 
 -- the count, of a run
 unfoldable pub countedBy : Entry → ℕ → List ℕ
-countedBy (on-image i) n = []
-countedBy (run-image g) n = n ∷ []
+countedBy (on-image b i) n = []
+countedBy (run-image b g) n = n ∷ []
 countedBy (on-lent op x y z) n = []
 countedBy (on-parts i) n = []
 countedBy (run-parts g) n = n ∷ []
 countedBy decode n = []
-countedBy encode n = []
+countedBy (encode b) n = []
 
 -- what a function's contract says of a call on an image, and of one on a struct; an exception is given no window, and no function fetches one
 -- instruction but a run
@@ -134,14 +133,15 @@ StateCall s w (step op x y z) r t v = SteppedState w s op x y z r t v
 StateCall s w (exception f op x y z a b) r t v = RaisedState s f op x y z a b r t × (v ≡ w)
 StateCall s w fetched r t v = ⊥
 
--- mmix_decode into a struct, whatever it held; mmix_encode into an image, whatever its bytes were
+-- mmix_decode into a struct, whatever it held; mmix_encode into an image of b bytes that has room for the mask, whatever they were
 pub record DecodedInto (l : List ℕ) (r : ℕ) (t : State) : Type 0 where
   pub before : State
   pub contract : Decoded l before r t
 
-pub record EncodedInto (s : State) (r : ℕ) (m : List ℕ) : Type 0 where
+pub record EncodedInto (b : ℕ) (s : State) (r : ℕ) (m : List ℕ) : Type 0 where
   pub before : List ℕ
-  pub long : length before ≡ imageLength
+  pub long : length before ≡ b
+  pub room : hasRoom before (s .mask) ≡ true
   pub contract : Encoded s before r m
 
 -- what is held is an image of which P holds, or a struct
@@ -155,13 +155,13 @@ AsStruct (struct s) P = P s
 
 -- the contract of a call that found g and w, replied r with the count n and left k and v
 unfoldable pub MeetsBy : Held → Windows → Entry → ℕ → ℕ → Held → Windows → Type 0
-MeetsBy g w (on-image i) r n k v = AsImage g (λ l. AsImage k (λ m. ImageCall l w i r m v))
-MeetsBy g w (run-image grant) r n k v = AsImage g (λ l. AsImage k (λ m. RanImage l w grant r n m v))
+MeetsBy g w (on-image b i) r n k v = AsImage g (λ l. (length l ≡ b) × AsImage k (λ m. ImageCall l w i r m v))
+MeetsBy g w (run-image b grant) r n k v = AsImage g (λ l. (length l ≡ b) × AsImage k (λ m. RanImage l w grant r n m v))
 MeetsBy g w (on-lent op x y z) r n k v = AsStruct g (λ s. AsStruct k (λ t. SteppedState w s op x y z r t v))
 MeetsBy g w (on-parts i) r n k v = AsStruct g (λ s. AsStruct k (λ t. StateCall s w i r t v))
 MeetsBy g w (run-parts grant) r n k v = AsStruct g (λ s. AsStruct k (λ t. RanState w s grant r n t v))
 MeetsBy g w decode r n k v = AsImage g (λ l. AsStruct k (λ t. DecodedInto l r t)) × (v ≡ w)
-MeetsBy g w encode r n k v = AsStruct g (λ s. AsImage k (λ m. EncodedInto s r m)) × (v ≡ w)
+MeetsBy g w (encode b) r n k v = AsStruct g (λ s. AsImage k (λ m. EncodedInto b s r m)) × (v ≡ w)
 
 abbrev pub Meets : Held → Windows → Made → Type 0
 Meets g w c = MeetsBy g w (c .entry) (c .reply) (c .count) (c .held) (c .window)

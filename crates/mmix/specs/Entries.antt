@@ -1,5 +1,5 @@
--- What the exported functions answer, and every byte of image and windows afterwards. An image that is not 2,328 bytes long is 1, judged
--- first, and then nothing changes.
+-- What the exported functions answer, and every byte of image and windows afterwards. An image, 2,336 bytes or an old one's 2,328, keeps its length; one of
+-- another length is 1, judged first, and then nothing changes.
 use Prim.Native.Nat.{ℕ}
 use mathlib.Core.Path.{_≡_}
 use mathlib.Core.Bool.{cond}
@@ -13,7 +13,7 @@ use Rattle.model.specs.Reader.{readContext}
 use Rattle.model.specs.Numbers.{numberOf, replyOf}
 use Rattle.model.specs.Field.{FieldAnswer}
 use Rattle.model.specs.declared.State.{State}
-use Rattle.image.specs.Image.{isImage, imageOf, stateOf, Encoded}
+use Rattle.image.specs.Image.{isImage, stateOf, imageAs, Encoded}
 use Rattle.sets.specs.Sets.{Pair, putSetOf}
 
 -- the two windows as C lends them: the base of each, and its bytes
@@ -25,25 +25,25 @@ Initialized l r m = Encoded fresh l r m
 
 pub record Stepped (l : List ℕ) (w : Windows) (op x y z r : ℕ) (m : List ℕ) (v : Windows) : Type 0 where
   pub reply-is : r ≡ cond (isImage l) (numberOf (replyOf (stepOf w (stateOf l) op x y z .reply))) 1
-  pub image-is : m ≡ cond (isImage l) (imageOf (stepOf w (stateOf l) op x y z .state)) l
+  pub image-is : m ≡ cond (isImage l) (imageAs l (stepOf w (stateOf l) op x y z .state)) l
   pub window-is : v ≡ cond (isImage l) (stepOf w (stateOf l) op x y z .memory) w
 
 -- a run: the reply, and n instructions were done; "0 where the call is refused whole", an image of another length too
 pub record RanImage (l : List ℕ) (w : Windows) (grant r n : ℕ) (m : List ℕ) (v : Windows) : Type 0 where
   pub reply-is : r ≡ cond (isImage l) (numberOf (replyOf (runOf w (stateOf l) grant .reply))) 1
   pub count-is : n ≡ cond (isImage l) (runOf w (stateOf l) grant .done) 0
-  pub image-is : m ≡ cond (isImage l) (imageOf (runOf w (stateOf l) grant .state)) l
+  pub image-is : m ≡ cond (isImage l) (imageAs l (runOf w (stateOf l) grant .state)) l
   pub window-is : v ≡ cond (isImage l) (runOf w (stateOf l) grant .memory) w
 
 pub record Raised (l : List ℕ) (f op x y z u v r : ℕ) (m : List ℕ) : Type 0 where
   pub reply-is : r ≡ cond (isImage l) (numberOf (replyOf (exceptionOf (stateOf l) f op x y z u v .reply))) 1
-  pub image-is : m ≡ cond (isImage l) (imageOf (exceptionOf (stateOf l) f op x y z u v .state)) l
+  pub image-is : m ≡ cond (isImage l) (imageAs l (exceptionOf (stateOf l) f op x y z u v .state)) l
 
 -- a set of pairs; the place is 0 unless a pair fails, with an image of another length too. On a state in parts: `PutSet` of crate sets
 pub record SetImage (l : List ℕ) (ps : List Pair) (r place : ℕ) (m : List ℕ) : Type 0 where
   pub reply-is : r ≡ cond (isImage l) (putSetOf (stateOf l) ps .reply) 1
   pub place-is : place ≡ cond (isImage l) (putSetOf (stateOf l) ps .place) 0
-  pub image-is : m ≡ cond (isImage l) (imageOf (putSetOf (stateOf l) ps .state)) l
+  pub image-is : m ≡ cond (isImage l) (imageAs l (putSetOf (stateOf l) ps .state)) l
 
 -- a state lent whole or in parts
 pub record SteppedState (w : Windows) (s : State) (op x y z r : ℕ) (t : State) (v : Windows) : Type 0 where

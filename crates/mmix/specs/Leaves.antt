@@ -25,14 +25,13 @@ use Rattle.model.specs.Numbers.{Early, Lost, Missed, Halting}
 use Rattle.model.specs.Field.{fieldOf, answerOf}
 use Rattle.model.specs.Leaves.{Sharing, StepLeaves, RunLeaves, ExceptionLeaves, FieldLeaves}
 use Rattle.model.specs.declared.State.{State}
-use Rattle.model.specs.Kept.{imageLength}
-use Rattle.image.specs.Image.{stateOf, imageOf}
+use Rattle.image.specs.Image.{isImage, stateOf, imageAs}
 use Rattle.sets.specs.Sets.{Pair, setSays, PutSet}
 use Rattle.sets.specs.SetMeant.{SetLeaves}
 use Rattle.mmix.specs.Entries.{Stepped, RanImage, Raised, SetImage, SteppedState, RanState, RaisedState, ContextAt, FieldTold}
 use Rattle.model.specs.declared.Operation.{Operation}
 
--- the image with octabytes replaced, one after another: by its number among the 291, and what it becomes
+-- the image with octabytes replaced, one after another: by its number among the 292, of which an old image has 291, and what it becomes
 unfoldable pub replaced : List ℕ → List (ℕ × ℕ) → List ℕ
 replaced l [] = l
 replaced l (p ∷ ps) = replaced (written l (8 * p .0) (bytesOf (p .1))) ps
@@ -83,7 +82,7 @@ pub record ArithmeticCallLeaves (l : List ℕ) (w : Windows) (op x y z : ℕ) (m
   pub first : Operand
   pub last : Operand
   pub arm-is : armOf op ≡ arithmetic operation first last
-  pub image-is : m ≡ replaced (imageOf (raisedIn (stateOf l) operation first last x y z))
+  pub image-is : m ≡ replaced (imageAs l (raisedIn (stateOf l) operation first last x y z))
       (tripOctas (raisedIn (stateOf l) operation first last x y z) (wordOf op x y z) (operandOf (stateOf l) first y) (operandOf (stateOf l) last z))
   pub window-is : v ≡ w
 
@@ -93,11 +92,11 @@ NotLoadedLeaves l w op x y z m v = TripCallLeaves l w op x y z m v ⊎ (StoreCal
 
 -- what mmix_step leaves
 pub record StepCallLeaves (l : List ℕ) (w : Windows) (op x y z r : ℕ) (m : List ℕ) (v : Windows) : Type 0 where
-  pub most : (r ≤ 20) ⊎ ((r ≡ 22) ⊎ (r ≡ 29))
+  pub most : (r ≤ 20) ⊎ ((r ≡ 22) ⊎ ((r ≡ 29) ⊎ (r ≡ 31)))
   -- 1 to 6 and 22
   pub early : Early r → (m ≡ l) × (v ≡ w)
   pub lost : Lost r → (m ≡ l) × (v ≡ w)
-  -- 7 to 18 and 29
+  -- 7 to 18, 29 and 31
   pub halting : Halting r → (m ≡ replaced l ((atHalt, 1) ∷ [])) × (v ≡ w)
   pub nineteen : r ≡ 19 → NotLoadedLeaves l w op x y z m v
   pub twenty : r ≡ 20 → (m ≡ replaced l (trapOctas (stateOf l) (wordOf op x y z) (reg (stateOf l) y) (reg (stateOf l) z))) × (v ≡ w)
@@ -109,15 +108,15 @@ abbrev pub tetraIn : Windows → List ℕ → ℕ
 tetraIn w l = tetraOf w (stateOf l)
 
 abbrev pub claimedImage : Windows → List ℕ → List ℕ
-claimedImage w l = imageOf (claimedAt w (stateOf l))
+claimedImage w l = imageAs l (claimedAt w (stateOf l))
 
 -- what the last instruction of a run leaves, t its tetra, l and w the image and the windows that it found
 pub record TetraCallLeaves (l : List ℕ) (w : Windows) (t r : ℕ) (m : List ℕ) (v : Windows) : Type 0 where
-  pub most : (r ≤ 20) ⊎ ((r ≡ 22) ⊎ ((r ≡ 24) ⊎ (r ≡ 29)))
+  pub most : (r ≤ 20) ⊎ ((r ≡ 22) ⊎ ((r ≡ 24) ⊎ ((r ≡ 29) ⊎ (r ≡ 31))))
   -- 1 to 5 and 22; 6 and 24: the halt code too
   pub early : Early r → (m ≡ l) × (v ≡ w)
   pub missed : Missed r → (m ≡ l) × (v ≡ w)
-  -- 7 to 18 and 29: the claim is taken back
+  -- 7 to 18, 29 and 31: the claim is taken back
   pub halting : Halting r → (m ≡ replaced l ((atHalt, 1) ∷ [])) × (v ≡ w)
   -- 19 keeps it
   pub nineteen : r ≡ 19 → NotLoadedLeaves (claimedImage w l) w (opcodeIn t) (xIn t) (yIn t) (zIn t) m v
@@ -142,11 +141,11 @@ OfCall r = (r ≡ 1) ⊎ ((r ≡ 2) ⊎ ((r ≡ 22) ⊎ (r ≡ 25)))
 
 -- what mmix_run leaves
 pub record RunCallLeaves (l : List ℕ) (w : Windows) (grant r n : ℕ) (m : List ℕ) (v : Windows) : Type 0 where
-  pub most : (r ≤ 20) ⊎ ((r ≡ 22) ⊎ ((r ≡ 24) ⊎ ((r ≡ 25) ⊎ (r ≡ 29))))
+  pub most : (r ≤ 20) ⊎ ((r ≡ 22) ⊎ ((r ≡ 24) ⊎ ((r ≡ 25) ⊎ ((r ≡ 29) ⊎ (r ≡ 31)))))
   -- refused whole: by the image's length, 1, 2, 22 or 25; and these numbers alone say so, since no instruction that is fetched on the way has one of them
-  pub whole : (length l ≡ imageLength → CallPasses w (stateOf l) grant → ⊥) → OfCall r × (n ≡ 0) × (m ≡ l) × (v ≡ w)
+  pub whole : (isImage l ≡ true → CallPasses w (stateOf l) grant → ⊥) → OfCall r × (n ≡ 0) × (m ≡ l) × (v ≡ w)
   pub whole-by : OfCall r → (n ≡ 0) × (m ≡ l) × (v ≡ w)
-  pub refused : length l ≡ imageLength → CallPasses w (stateOf l) grant → r ≢ 0 → LastCallLeaves l w r n m v
+  pub refused : isImage l ≡ true → CallPasses w (stateOf l) grant → r ≢ 0 → LastCallLeaves l w r n m v
   pub spent : r ≡ 0 → haltBytes m ≡ haltBytes l
 
 -- what mmix_exceptions leaves; with 19, rA's additions too

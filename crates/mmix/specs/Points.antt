@@ -3,10 +3,12 @@
 -- Going back is no item of demand 3's list: "Going back rewinds history, so protection of a frame then starts from calls made after the return".
 use Prim.Native.Nat.{ℕ, _≤_, _<_}
 use mathlib.Core.Path.{_≡_}
+use mathlib.Core.Bool.{true, false}
 use mathlib.Core.List.{List, [], _∷_}
 use lib.ListN.{length, getD}
 use Rattle.model.specs.Memory.{Windows}
-use Rattle.model.specs.Kept.{pointCount, Point}
+use Rattle.model.specs.Kept.{pointCount, Point, atLength}
+use Rattle.image.specs.Image.{hasRoom, stateOf}
 use Rattle.store.specs.Store.{storeLength, roomOf, Took, GoneBack}
 use Rattle.store.specs.Returns.{Call, took, back, other, leftBy, lastStore, NoneTaken, TakenLast, LentAs}
 use Rattle.mmix.specs.Calls.{Held, Made, Meets}
@@ -44,8 +46,18 @@ PointChain s (c ∷ cs) = MeetsPoint s c × PointChain (leftBy s (onStore c)) cs
 
 -- THEOREM: "While only these calls write the store, going back gives exactly what was taken last under that name, and other points are untouched"
 pub record PointsReturn : Type 0 where
+  -- byte for byte, into an image as long as that which was taken
   pub gives-back : (s : List ℕ) (cs : List PointCall) → PointChain s cs → (j : ℕ) (q : Point) → TakenLast j q (onStores cs)
-      → (p : Point) → LentAs q p → (r : ℕ) (t : Point) → GoneBack (lastStore s (onStores cs)) j p r t → (r ≡ 0) × (t ≡ q)
+      → (p : Point) → LentAs q p → length (p .image) ≡ length (q .image)
+      → (r : ℕ) (t : Point) → GoneBack (lastStore s (onStores cs)) j p r t → (r ≡ 0) × (t ≡ q)
+  -- into an image of the other length: the same windows and state where that has room there, else 1 and nothing changes
+  pub gives-at : (s : List ℕ) (cs : List PointCall) → PointChain s cs → (j : ℕ) (q : Point) → TakenLast j q (onStores cs)
+      → (p : Point) → LentAs q p → hasRoom (p .image) (stateOf (q .image) .mask) ≡ true
+      → (r : ℕ) (t : Point) → GoneBack (lastStore s (onStores cs)) j p r t
+      → (r ≡ 0) × ((t ≡ atLength (length (p .image)) q) × (stateOf (t .image) ≡ stateOf (q .image)))
+  pub gives-not : (s : List ℕ) (cs : List PointCall) → PointChain s cs → (j : ℕ) (q : Point) → TakenLast j q (onStores cs)
+      → (p : Point) → LentAs q p → hasRoom (p .image) (stateOf (q .image) .mask) ≡ false
+      → (r : ℕ) (t : Point) → GoneBack (lastStore s (onStores cs)) j p r t → (r ≡ 1) × (t ≡ p)
   pub untouched : (s : List ℕ) (cs : List PointCall) → PointChain s cs → (j : ℕ) → j < pointCount → NoneTaken j (onStores cs)
       → roomOf (lastStore s (onStores cs)) j ≡ roomOf s j
   pub behind : (s : List ℕ) (cs : List PointCall) → PointChain s cs → (i : ℕ) → storeLength ≤ i → getD (lastStore s (onStores cs)) i 0 ≡ getD s i 0

@@ -1,4 +1,4 @@
-//! The C library: what a relay host calls, on numbers and byte slices. 0 is done; 1 to 30 are the refusals.
+//! The C library: what a relay host calls, on numbers and byte slices. 0 is done; 1 to 31 are the refusals.
 
 ghost use Rattle.model.specs.Control.{branchFields, jumpFields};
 ghost use Rattle.model.specs.Field.{fieldOf, answerOf};
@@ -9,14 +9,13 @@ ghost use Rattle.store.specs.Store.{Took, GoneBack};
 ghost use Rattle.sets.specs.Sets.{pairsOf, pairsIn, PutSet};
 ghost use Rattle.mmix.specs.Entries.{lentAt, Initialized, Stepped, SteppedState, RanImage, RanState, Raised, RaisedState, SetImage, ContextAt, FieldTold};
 use image::Answer;
-use image::IMAGE_LEN;
 use image::Rest;
 use model::Bases;
 use model::Reach;
 use model::Reply;
 use model::State;
 
-/// The image becomes that of the fresh state; 1 where it is not 2,328 bytes long.
+/// The image becomes that of the fresh state; 1 where it is as long as neither image.
 #[no_mangle]
 pub extern "C" fn mmix_initialize(image: &mut [u8]) -> u64
     ensures { λ r. ⌜ Initialized (now (image .entry)) r (now (image .exit)) ⌝ }
@@ -25,7 +24,7 @@ pub extern "C" fn mmix_initialize(image: &mut [u8]) -> u64
     image::encode(fresh, image)
 }
 
-/// The lent state becomes that of the image; 1 where the image is not 2,328 bytes long, and then the state is left as it was.
+/// The lent state becomes that of the image; 1 where it is as long as neither image, and then the state is left as it was.
 #[no_mangle]
 pub extern "C" fn mmix_decode(image: &[u8], state: &mut State) -> u64
     ensures { λ r. ⌜ Decoded (now (image .entry)) (now (state .entry)) r (now (state .exit)) ⌝ }
@@ -35,7 +34,7 @@ pub extern "C" fn mmix_decode(image: &[u8], state: &mut State) -> u64
     out.reply
 }
 
-/// The image becomes that of the lent state; 1 where it is not 2,328 bytes long, and then it is left as it was.
+/// The image becomes that of the lent state; 1 where it has no room for it, an old one for a mask, and then it is left as it was.
 #[no_mangle]
 pub extern "C" fn mmix_encode(state: &State, image: &mut [u8]) -> u64
     ensures { λ r. ⌜ Encoded (now (state .entry)) (now (image .entry)) r (now (image .exit)) ⌝ }
@@ -59,7 +58,7 @@ pub extern "C" fn mmix_step(
     ensures { λ r. ⌜ Stepped (now (image .entry)) (lentAt «base_a» «base_b» (now (a .entry)) (now (b .entry))) op x y z r
         (now (image .exit)) (lentAt «base_a» «base_b» (now (a .exit)) (now (b .exit))) ⌝ }
 {
-    if image.len() != IMAGE_LEN {
+    if !image::is_image(&*image) {
         return 1;
     }
     let mut general = [0u64; 256];
@@ -68,6 +67,7 @@ pub extern "C" fn mmix_step(
     let mut pc = rest.pc;
     let mut halt = rest.halt;
     let marks = rest.marks;
+    let mask = rest.mask;
     let reply = mmix_step_parts(
         base_a,
         base_b,
@@ -80,10 +80,21 @@ pub extern "C" fn mmix_step(
         &mut pc,
         &mut halt,
         marks,
+        mask,
         a,
         b,
     );
-    image::store_state(&mut *image, &general, &special, Rest { pc, halt, marks });
+    image::store_state(
+        &mut *image,
+        &general,
+        &special,
+        Rest {
+            pc,
+            halt,
+            marks,
+            mask,
+        },
+    );
     reply
 }
 
@@ -107,6 +118,7 @@ pub fn step(
     let mut pc = state.pc;
     let mut halt = state.halt;
     let marks = state.marks;
+    let mask = state.mask;
     let reply = mmix_step_parts(
         base_a,
         base_b,
@@ -119,6 +131,7 @@ pub fn step(
         &mut pc,
         &mut halt,
         marks,
+        mask,
         a,
         b,
     );
@@ -128,6 +141,7 @@ pub fn step(
         pc: pc,
         halt: halt,
         marks: marks,
+        mask: mask,
     };
     Answer {
         reply: reply,
@@ -170,7 +184,7 @@ pub extern "C" fn mmix_run(
     ensures { λ r. ⌜ RanImage (now (image .entry)) (lentAt «base_a» «base_b» (now (a .entry)) (now (b .entry))) grant r (now (done .exit))
         (now (image .exit)) (lentAt «base_a» «base_b» (now (a .exit)) (now (b .exit))) ⌝ }
 {
-    if image.len() != IMAGE_LEN {
+    if !image::is_image(&*image) {
         *done = 0;
         return 1;
     }
@@ -180,6 +194,7 @@ pub extern "C" fn mmix_run(
     let mut pc = rest.pc;
     let mut halt = rest.halt;
     let marks = rest.marks;
+    let mask = rest.mask;
     let reply = mmix_run_parts(
         base_a,
         base_b,
@@ -189,11 +204,22 @@ pub extern "C" fn mmix_run(
         &mut pc,
         &mut halt,
         marks,
+        mask,
         a,
         b,
         done,
     );
-    image::store_state(&mut *image, &general, &special, Rest { pc, halt, marks });
+    image::store_state(
+        &mut *image,
+        &general,
+        &special,
+        Rest {
+            pc,
+            halt,
+            marks,
+            mask,
+        },
+    );
     reply
 }
 
@@ -211,7 +237,7 @@ pub extern "C" fn mmix_exceptions(
 ) -> u64
     ensures { λ r. ⌜ Raised (now (image .entry)) flags op x y z «y_val» «z_val» r (now (image .exit)) ⌝ }
 {
-    if image.len() != IMAGE_LEN {
+    if !image::is_image(&*image) {
         return 1;
     }
     let mut general = [0u64; 256];
@@ -220,6 +246,7 @@ pub extern "C" fn mmix_exceptions(
     let mut pc = rest.pc;
     let mut halt = rest.halt;
     let marks = rest.marks;
+    let mask = rest.mask;
     let reply = mmix_exceptions_parts(
         flags,
         op,
@@ -233,8 +260,19 @@ pub extern "C" fn mmix_exceptions(
         &mut pc,
         &mut halt,
         marks,
+        mask,
     );
-    image::store_state(&mut *image, &general, &special, Rest { pc, halt, marks });
+    image::store_state(
+        &mut *image,
+        &general,
+        &special,
+        Rest {
+            pc,
+            halt,
+            marks,
+            mask,
+        },
+    );
     reply
 }
 
@@ -243,7 +281,7 @@ pub extern "C" fn mmix_exceptions(
 pub extern "C" fn mmix_put_set(image: &mut [u8], pairs: &[u8], place: &mut u64) -> u64
     ensures { λ r. ⌜ SetImage (now (image .entry)) (pairsIn (now (pairs .entry))) r (now (place .exit)) (now (image .exit)) ⌝ }
 {
-    if image.len() != IMAGE_LEN {
+    if !image::is_image(&*image) {
         *place = 0;
         return 1;
     }
@@ -253,8 +291,27 @@ pub extern "C" fn mmix_put_set(image: &mut [u8], pairs: &[u8], place: &mut u64) 
     let pc = rest.pc;
     let mut halt = rest.halt;
     let marks = rest.marks;
-    let put = sets::put_set_bytes(&mut general, &mut special, &mut halt, marks, pairs, place);
-    image::store_state(&mut *image, &general, &special, Rest { pc, halt, marks });
+    let mask = rest.mask;
+    let put = sets::put_set_bytes(
+        &mut general,
+        &mut special,
+        &mut halt,
+        marks,
+        mask,
+        pairs,
+        place,
+    );
+    image::store_state(
+        &mut *image,
+        &general,
+        &special,
+        Rest {
+            pc,
+            halt,
+            marks,
+            mask,
+        },
+    );
     instruction::value::number_of(put)
 }
 
@@ -272,19 +329,34 @@ pub extern "C" fn mmix_step_parts(
     pc: &mut u64,
     halt: &mut u64,
     marks: u64,
+    mask: u64,
     a: &mut [u8],
     b: &mut [u8],
 ) -> u64
     ensures { λ r. ⌜ SteppedState (lentAt «base_a» «base_b» (now (a .entry)) (now (b .entry)))
-        (made (now (general .entry)) (now (special .entry)) (now (pc .entry)) (now (halt .entry)) marks) op x y z r
-        (made (now (general .exit)) (now (special .exit)) (now (pc .exit)) (now (halt .exit)) marks)
+        (made (now (general .entry)) (now (special .entry)) (now (pc .entry)) (now (halt .entry)) marks mask) op x y z r
+        (made (now (general .exit)) (now (special .exit)) (now (pc .exit)) (now (halt .exit)) marks mask)
         (lentAt «base_a» «base_b» (now (a .exit)) (now (b .exit))) ⌝ }
 {
     let at = Bases {
         a: base_a,
         b: base_b,
     };
-    instruction::step::step(general, special, pc, halt, marks, a, b, at, op, x, y, z)
+    instruction::step::step(
+        general,
+        special,
+        pc,
+        halt,
+        marks,
+        mask,
+        a,
+        b,
+        at,
+        op,
+        x,
+        y,
+        z,
+    )
 }
 
 /// A run in place on the parts of a state, for a host that runs programs: state and windows are judged once a call.
@@ -298,20 +370,33 @@ pub extern "C" fn mmix_run_parts(
     pc: &mut u64,
     halt: &mut u64,
     marks: u64,
+    mask: u64,
     a: &mut [u8],
     b: &mut [u8],
     done: &mut u64,
 ) -> u64
     ensures { λ r. ⌜ RanState (lentAt «base_a» «base_b» (now (a .entry)) (now (b .entry)))
-        (made (now (general .entry)) (now (special .entry)) (now (pc .entry)) (now (halt .entry)) marks) grant r (now (done .exit))
-        (made (now (general .exit)) (now (special .exit)) (now (pc .exit)) (now (halt .exit)) marks)
+        (made (now (general .entry)) (now (special .entry)) (now (pc .entry)) (now (halt .entry)) marks mask) grant r (now (done .exit))
+        (made (now (general .exit)) (now (special .exit)) (now (pc .exit)) (now (halt .exit)) marks mask)
         (lentAt «base_a» «base_b» (now (a .exit)) (now (b .exit))) ⌝ }
 {
     let at = Bases {
         a: base_a,
         b: base_b,
     };
-    instruction::run::run(general, special, pc, halt, marks, a, b, at, grant, done)
+    instruction::run::run(
+        general,
+        special,
+        pc,
+        halt,
+        marks,
+        mask,
+        a,
+        b,
+        at,
+        grant,
+        done,
+    )
 }
 
 /// One exception in place on the parts of a state.
@@ -329,10 +414,11 @@ pub extern "C" fn mmix_exceptions_parts(
     pc: &mut u64,
     halt: &mut u64,
     marks: u64,
+    mask: u64,
 ) -> u64
     ensures { λ r. ⌜ RaisedState
-        (made (now (general .entry)) (now (special .entry)) (now (pc .entry)) (now (halt .entry)) marks) flags op x y z «y_val» «z_val» r
-        (made (now (general .exit)) (now (special .exit)) (now (pc .exit)) (now (halt .exit)) marks) ⌝ }
+        (made (now (general .entry)) (now (special .entry)) (now (pc .entry)) (now (halt .entry)) marks mask) flags op x y z «y_val» «z_val» r
+        (made (now (general .exit)) (now (special .exit)) (now (pc .exit)) (now (halt .exit)) marks mask) ⌝ }
 {
     let raised = exceptions::raise_exceptions(
         general,
@@ -340,6 +426,7 @@ pub extern "C" fn mmix_exceptions_parts(
         pc,
         halt,
         marks,
+        mask,
         flags,
         op,
         x,
@@ -359,14 +446,15 @@ pub extern "C" fn mmix_put_set_parts(
     pc: &mut u64,
     halt: &mut u64,
     marks: u64,
+    mask: u64,
     pairs: &[u64],
     place: &mut u64,
 ) -> u64
     ensures { λ r. ⌜ PutSet
-        (made (now (general .entry)) (now (special .entry)) (now (pc .entry)) (now (halt .entry)) marks) (pairsOf (now (pairs .entry))) r (now (place .exit))
-        (made (now (general .exit)) (now (special .exit)) (now (pc .exit)) (now (halt .exit)) marks) ⌝ }
+        (made (now (general .entry)) (now (special .entry)) (now (pc .entry)) (now (halt .entry)) marks mask) (pairsOf (now (pairs .entry))) r (now (place .exit))
+        (made (now (general .exit)) (now (special .exit)) (now (pc .exit)) (now (halt .exit)) marks mask) ⌝ }
 {
-    let put = sets::put_set(general, special, halt, marks, pairs, place);
+    let put = sets::put_set(general, special, halt, marks, mask, pairs, place);
     instruction::value::number_of(put)
 }
 

@@ -1,13 +1,20 @@
 -- `mmix_put_set` meets its contract: the image's state takes the set, and goes back into the image.
-use native.Mathlib.Omega.{arith}
+use mathlib.Core.Path.{refl}
+use Rattle.model.proofs.Bools.{denied, granted}
 use Rattle.mmix.proofs.Entries.{set-else, set-put, set-numbered}
 use Rattle.image.proofs.Coded.{of-image}
 use borrow.Author.Needs.{needs}
 use Rattle.mmix.proofs.mmix_put_set.Statement.{statement}
 use Rattle.mmix.proofs.mmix_put_set.Tie as tie
 
+is-image-requires : tie.Need-is-image-requires
+is-image-requires c κs = search needs
+
+same-length : tie.Need-same-length
+same-length c = search needs
+
 returns : tie.Need-returns
-returns c = set-else _ (λ e. omega arith) _
+returns c = set-else _ (denied _ _ (c .before .is-image .ensures) (c .if1 .taken)) _
 
 load-state-requires : tie.Need-load-state-requires
 load-state-requires c κs = search needs
@@ -21,26 +28,30 @@ store-state-requires c κs = search needs
 number-of-requires : tie.Need-number-of-requires
 number-of-requires c κs = search needs
 
-same-length : tie.Need-same-length
-same-length c = search needs
+same-length-2 : tie.Need-same-length-2
+same-length-2 c = search needs
 
 returns-2 : tie.Need-returns-2
 returns-2 c =
     let storing = c .before .before .before in
     let putting = storing .before .before .before .before in
     let loading = putting .before .before .before .before .before in
-    let l = loading .before .before .before .before .before .before .before .args .image .now in
-    set-put l (omega arith) _ _ (of-image l (omega arith) _ _ _ (loading .load-state .ensures)) _ _ _
-    (set-numbered _ _ _ _ _ (putting .put-set-bytes .ensures (loading .load-state .result .pc)) _ (c .number-of .ensures)) _ (of-image l (omega arith) _ _ _ (storing .store-state .ensures))
+    let test = loading .before .before .before .before in
+    let l = test .before .before .before .before .before .args .image .now in
+    let is = granted _ _ (test .before .is-image .ensures) (test .if1 .left) in
+    set-put l is _ _ (of-image l is _ _ _ (loading .load-state .ensures)) _ _ _
+    (set-numbered _ _ _ _ _ (putting .put-set-bytes .ensures (loading .load-state .result .pc)) _ (c .number-of .ensures)) refl _ (storing .store-state .ensures)
 
 pub mmix-put-set-spec : {M : Type 1} → statement M
 mmix-put-set-spec =
     tie.close
     (tie.spec
+    is-image-requires
+    same-length
     returns
     load-state-requires
     put-set-bytes-requires
     store-state-requires
     number-of-requires
-    same-length
+    same-length-2
     returns-2)
