@@ -1,7 +1,7 @@
 /* A relay host. It keeps the direction of feed in a local of the caller, calls the feed routine some levels deep, parks the
  * whole context while a case is worked, comes back, and shows that the direction is as it was. Its curves and texts live low
- * in memory, in window A, and the calls' stack in window B. It loads a study's registers in one call, takes a point, tries an
- * alternative and returns to it. On the way it meets what a host meets: a curve kept in A, a trip, a system call to serve, a
+ * in memory, in window A, and the calls' stack in window B. It loads a study's registers in one call, hides the kernel's from
+ * it, takes a point, tries an alternative and returns to it. On the way it meets what a host meets: a curve kept in A, a trip, a system call to serve, a
  * halt, a jump to patch, a window too small, windows that share, steps in place.
  *
  *     make host
@@ -116,6 +116,16 @@ static void load_a_study(void)
         end(mmix_reply_text(reply));
     printf("%-28s reply %2" PRIu64 "  rG %" PRIu64 "  rL %" PRIu64 "  rA %" PRIx64 "  rM %" PRIx64 "\n", "the study in one call",
            reply, special(MMIX_RG), special(MMIX_RL), special(MMIX_RA), special(MMIX_RM));
+}
+
+/* From here on the study does not see the kernel's registers: a GET is refused and tells nothing of what it asked for. */
+static void hide_the_kernel(void)
+{
+    set_octabyte(MMIX_AT_MASK, MMIX_HIDEABLE);
+    refused("GET $254,rK: hidden", ask(MMIX_OP_GET, 254, 0, MMIX_RK), MMIX_HIDDEN);
+    if (general(254) != 0)
+        end("a hidden register is SEEN");
+    set_octabyte(MMIX_AT_HALT, 0);
 }
 
 /* Parks the context at the top of the stack in $255, works another case, and takes the context up again. */
@@ -241,7 +251,7 @@ static void serve_a_call(void)
 /* A PUT that is refused sets the halt code; a host that would not look at it could go on stepping. */
 static void look_at_a_halt(void)
 {
-    refused("PUT rN, 1", ask(MMIX_OP_PUTI, MMIX_RN, 0, 1), MMIX_PUT_ILLEGAL);
+    refused("PUT rO, 1", ask(MMIX_OP_PUTI, MMIX_RO, 0, 1), MMIX_PUT_ILLEGAL);
     printf("%-28s %" PRIu64 ", PC %" PRIx64 "\n", "halt code", octabyte(MMIX_AT_HALT), octabyte(MMIX_AT_PC));
     step("SWYM: done all the same", MMIX_OP_SWYM, 0, 0, 0);
     set_octabyte(MMIX_AT_HALT, 0);
@@ -274,9 +284,9 @@ static void step_in_place(void)
         end("no state in an image");
     uint64_t called = mmix_step_lent_in(&lent, MMIX_OP_PUSHJ, 1, 0, 16, &state);
     uint64_t back = mmix_step_parts_in(&lent, MMIX_OP_POP, 0, 0, 0, state.general, state.special, &state.pc, &state.halt,
-                                       state.marks);
+                                       state.marks, state.mask);
     uint64_t raised = mmix_exceptions_parts(MMIX_FLAG_X, 0x04, 1, 2, 3, 7, 9, state.general, state.special, &state.pc,
-                                            &state.halt, state.marks);
+                                            &state.halt, state.marks, state.mask);
     printf("%-28s replies %" PRIu64 ", %" PRIu64 ", %" PRIu64 "; the state then:\n", "PUSHJ, POP, inexact in place", called,
            back, raised);
     if (called != MMIX_DONE || back != MMIX_DONE || raised != MMIX_DONE)
@@ -293,6 +303,7 @@ int main(void)
         end("the image has the wrong length");
     show("fresh state", MMIX_DONE);
     load_a_study();
+    hide_the_kernel();
 
     /* the caller's direction marker is in its $0, the argument of each call in $1 */
     step("PUT rL, 2: no more than rL", MMIX_OP_PUTI, MMIX_RL, 0, 2);

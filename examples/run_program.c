@@ -188,7 +188,8 @@ static uint64_t run(uint64_t most, uint64_t *done, uint64_t *served)
     while (*done <= most && (reply == MMIX_DONE || reply == MMIX_NO_ARM)) {
         uint64_t count;
 
-        reply = mmix_run_parts_in(&lent, GRANT, state.general, state.special, &state.pc, &state.halt, state.marks, &count);
+        reply = mmix_run_parts_in(&lent, GRANT, state.general, state.special, &state.pc, &state.halt, state.marks, state.mask,
+                                  &count);
         *done += count;
         if (reply == MMIX_NO_ARM) {
             if (!serve())

@@ -1,7 +1,7 @@
 /* mmix.h: the MMIX register machine, a program or one step at a time.
  *
  * The library keeps nothing between calls, allocates nothing and calls nothing but memcpy and memset. Every function
- * takes any values, ends, and returns MMIX_DONE (0) or the number of a refusal (1 to 30). That each function does what it
+ * takes any values, ends, and returns MMIX_DONE (0) or the number of a refusal (1 to 31). That each function does what it
  * should is proved; README.md says what that means.
  *
  * What the caller owes:
@@ -12,15 +12,17 @@
  *  - nothing else reads or writes them during the call.
  *
  * What can hurt:
- *  - A run stops at a refusal, never at the halt code: a host that calls mmix_run again after 7 to 20 comes to the same
- *    instruction again, or to the next one if it has moved PC.
- *  - The halt code stops nothing by itself. After a refusal by 7 to 20 it is 1, and the next step is done if the host asks
- *    for it. So a host looks at the reply of each call, or at the halt code, and decides whether to go on; no step and no
+ *  - A run stops at a refusal, never at the halt code: a host that calls mmix_run again after 7 to 20, 29 or 31 comes to the
+ *    same instruction again, or to the next one if it has moved PC.
+ *  - The halt code stops nothing by itself. After a refusal by 7 to 20, 29 or 31 it is 1, and the next step is done if the
+ *    host asks for it. So a host looks at the reply of each call, or at the halt code, and decides whether to go on; no step and no
  *    exception sets the halt code back to 0.
  *  - A system call is the host's. On MMIX_NAMED_TRAP nothing has changed: the host does what TRAP 0,Y,Z names, writes the
  *    registers that it is to leave ($255, as a rule) and moves PC to @ + 4 itself, or the same TRAP comes again.
  *  - There is no RESUME. A host that has taken a trip goes back by setting PC to rW itself, and what rB and $255 hold is
  *    its own to put back.
+ *  - A mask hides registers from GET and PUT, and so from what a program can tell apart, but not from the host: image, struct,
+ *    points and mmix_put_set have them all. Going back to a point brings back its registers and its mask.
  *  - Going back to a point rewinds history: what was called before the return is not undone or finished but gone, frames
  *    with it. That a caller's locals are protected then holds of the calls made after the return.
  *
@@ -57,19 +59,24 @@ extern "C" {
  * 3.1: mmix_take and mmix_go_back, with MMIX_STORE_TOO_SHORT, MMIX_NO_POINT and MMIX_OTHER_POINT.
  * 4.0: POP where rO is at or below MMIX_STACK_START is refused, by MMIX_NO_FRAME, where it went on to rJ + 4 * YZ: a program whose
  * last return is such a POP stops there. Every other step does what it did; images, stores and points are what they were.
- * 4.1: mmix_put_set and mmix_put_set_parts, with MMIX_TOO_MANY_PAIRS. */
-#define MMIX_VERSION_MAJOR 4
-#define MMIX_VERSION_MINOR 1
+ * 4.1: mmix_put_set and mmix_put_set_parts, with MMIX_TOO_MANY_PAIRS.
+ * 5.0: the state has a mask of hidden registers, its last field: GET and PUT of one are MMIX_HIDDEN. struct mmix_state and the
+ * image have it at the end, and the functions on parts take it after the marks. A host gives 0 there, sets the mask of a struct
+ * that it fills itself to 0, and all steps do what they did. Images of 4, MMIX_OLD_IMAGE_LEN bytes, are still taken by every
+ * function, as states with mask 0, and keep their length. MMIX_IMAGE_LEN has grown, and with it the rooms, so a store of 4 is
+ * none of 5: its points move over as lines (README.md, 'Points as lines'). */
+#define MMIX_VERSION_MAJOR 5
+#define MMIX_VERSION_MINOR 0
 
-/* The replies. 1 to 6, 22, 24 to 28 and 30 leave every byte as it was; 7 to 18 and 29 set the halt code to 1 and leave all else; 19
- * and 20 set the halt code to 1 and the trip or trap registers, with PC where it was (an exception refused by 19 has also added to
+/* The replies. 1 to 6, 22, 24 to 28 and 30 leave every byte as it was; 7 to 18, 29 and 31 set the halt code to 1 and leave all
+ * else; 19 and 20 set the halt code to 1 and the trip or trap registers, with PC where it was (an exception refused by 19 has also added to
  * rA; a store refused by 19 is made, and $X, rH and rR of an operation are written). 21 is the number of mmix_branch_field and
  * mmix_jump_field alone, and 23 that of mmix_context alone, which are given no state; 24 and 25 are those of mmix_run and
  * mmix_run_parts alone, 26 to 28 those of mmix_take and mmix_go_back, 30 that of mmix_put_set and mmix_put_set_parts. What a reply leaves of a run, it leaves of the
  * instruction at which the run stopped. */
 enum mmix_reply {
     MMIX_DONE = 0,                /* The step or the exception was done. */
-    MMIX_NOT_ADMISSIBLE = 1,      /* rG, rL, rA or the marks are out of range, or the image is not MMIX_IMAGE_LEN bytes. */
+    MMIX_NOT_ADMISSIBLE = 1,      /* rG, rL, rA, the marks or the mask are out of range, or the image has another length. */
     MMIX_WINDOW_RULE = 2,         /* A window's length or base is no multiple of 8, or it is longer than MMIX_WINDOW_MAX. */
     MMIX_NO_ARM = 3,              /* This machine has no such instruction, or it is RESUME. */
     MMIX_NAMED_TRAP = 4,          /* TRAP 0 that names a system call, which the host must serve. */
@@ -98,7 +105,8 @@ enum mmix_reply {
     MMIX_NO_POINT = 27,           /* A name above 15; mmix_go_back: no point is taken under that name. */
     MMIX_OTHER_POINT = 28,        /* mmix_go_back: the point has other bases or lengths, or its state is not admissible. */
     MMIX_NO_FRAME = 29,           /* POP where rO is MMIX_STACK_START or less: no frame is left. Judged before 12. */
-    MMIX_TOO_MANY_PAIRS = 30      /* mmix_put_set: a set of more than MMIX_PAIRS_MAX pairs. Judged after 1. */
+    MMIX_TOO_MANY_PAIRS = 30,     /* mmix_put_set: a set of more than MMIX_PAIRS_MAX pairs. Judged after 1. */
+    MMIX_HIDDEN = 31              /* GET or PUT of a register that the mask hides. Judged after 5, and before 7 to 11. */
 };
 
 /* The opcodes that have an arm; every other byte is MMIX_NO_ARM. Of a pair with B at the end, that one goes backward; with I
@@ -145,14 +153,21 @@ enum mmix_flag {
     MMIX_FLAG_X = 0x01     /* floating inexact; 128 */
 };
 
-/* A state image is 291 octabytes, each with its high byte first, in the order of struct mmix_state; these are the bytes at
- * which they start. */
-#define MMIX_IMAGE_LEN 2328
+/* A state image is 292 octabytes, each with its high byte first, in the order of struct mmix_state; these are the bytes at
+ * which they start. An old image, of a version before 5, has no mask, which is then 0. Every function that takes an image takes
+ * either length, and leaves it as it is; any other is MMIX_NOT_ADMISSIBLE, and no byte is changed. */
+#define MMIX_IMAGE_LEN 2336
+#define MMIX_OLD_IMAGE_LEN 2328
 #define MMIX_AT_GENERAL(k) (8 * (k))
 #define MMIX_AT_SPECIAL(k) (2048 + 8 * (k))
 #define MMIX_AT_PC 2304
 #define MMIX_AT_HALT 2312
 #define MMIX_AT_MARKS 2320
+#define MMIX_AT_MASK 2328
+
+/* The bits that a mask may have, bit k for special register k: rBB, rC, rN, rI, rT, rTT, rK, rQ, rU, rV, rF, rWW, rXX, rYY and rZZ.
+ * Any other makes the state MMIX_NOT_ADMISSIBLE. No step changes the mask; trips and traps write hidden registers all the same. */
+#define MMIX_HIDEABLE UINT64_C(0xF047F380)
 
 /* The longest window; each of the two may be so long. */
 #define MMIX_WINDOW_MAX 65536
@@ -180,6 +195,7 @@ struct mmix_state {
     uint64_t pc;
     uint64_t halt;     /* the halt code */
     uint64_t marks;    /* bit k, k from 0 to 8: the trip vector at address 16 * k is loaded */
+    uint64_t mask;     /* bit k: special register k is hidden from GET and PUT; of MMIX_HIDEABLE alone */
 };
 
 /* The two windows are the parts of MMIX's memory that the host lends: `a_len` bytes from address `base_a` up, and `b_len` bytes
@@ -190,8 +206,8 @@ struct mmix_state {
 
 /* ---- on an image */
 
-/* Makes the image that of the fresh state: rG 32, rL 0, rO and rS at the stack's start, no vector loaded.
- * MMIX_NOT_ADMISSIBLE, and no byte changed, where image_len is not MMIX_IMAGE_LEN. */
+/* Makes the image, of either length, that of the fresh state: rG 32, rL 0, rO and rS at the stack's start, no vector loaded,
+ * nothing hidden. */
 uint64_t mmix_initialize(uint8_t *image, size_t image_len);
 
 /* One step: the instruction with bytes op, x, y, z, at the image's PC, on image and windows. */
@@ -217,7 +233,7 @@ uint64_t mmix_exceptions(uint8_t flags, uint8_t op, uint8_t x, uint8_t y, uint8_
 /* PUT for a whole set of special registers: a pair is 16 bytes, the register's number and then its value, each with its high
  * byte first; a part of a pair at the end is not looked at. Each pair is judged as PUT would judge it in the state that the
  * earlier ones leave (so rL may be lowered before rG is), and all take effect or none does. PC does not move, and no pairs at
- * all are done.
+ * all are done. The mask is not looked at: this is the host's own PUT.
  *
  * Refused by 7 to 11, the halt code is 1 and nothing else has changed, and *place is that of the first pair that fails, from
  * 0: its number is the reply. 1 comes first, then 30. *place is written at every reply, 0 unless a pair fails. */
@@ -225,11 +241,12 @@ uint64_t mmix_put_set(uint8_t *image, size_t image_len, const uint8_t *pairs, si
 
 /* ---- on a state of the host's numbers, changed in place */
 
-/* Makes the struct the state of the image. MMIX_NOT_ADMISSIBLE, and the struct left as it was, where image_len is not
- * MMIX_IMAGE_LEN. The state is not judged here: the first step judges it. */
+/* Makes the struct the state of the image, of an old one with mask 0. MMIX_NOT_ADMISSIBLE, and the struct left as it was, where
+ * image_len is neither length. The state is not judged here: the first step judges it. */
 uint64_t mmix_decode(const uint8_t *image, size_t image_len, struct mmix_state *state);
 
-/* Makes the image that of the struct. MMIX_NOT_ADMISSIBLE, and no byte changed, where image_len is not MMIX_IMAGE_LEN. */
+/* Makes the image that of the struct. MMIX_NOT_ADMISSIBLE, and no byte changed, where image_len is neither length, or the image is
+ * an old one and the mask is not 0. */
 uint64_t mmix_encode(const struct mmix_state *state, uint8_t *image, size_t image_len);
 
 /* As mmix_step. */
@@ -237,22 +254,23 @@ uint64_t mmix_step_lent(uint64_t base_a, uint64_t base_b, uint8_t op, uint8_t x,
                         struct mmix_state *state, uint8_t *a, size_t a_len, uint8_t *b, size_t b_len);
 
 /* As mmix_step and mmix_exceptions, on the parts of a state: the fastest, for a host that steps millions of times. The parts
- * may be those of a struct mmix_state. The marks do not change. */
+ * may be those of a struct mmix_state. Marks and mask do not change. */
 uint64_t mmix_step_parts(uint64_t base_a, uint64_t base_b, uint8_t op, uint8_t x, uint8_t y, uint8_t z,
                          uint64_t general[256], uint64_t special[32], uint64_t *pc, uint64_t *halt, uint64_t marks,
-                         uint8_t *a, size_t a_len, uint8_t *b, size_t b_len);
+                         uint64_t mask, uint8_t *a, size_t a_len, uint8_t *b, size_t b_len);
 uint64_t mmix_exceptions_parts(uint8_t flags, uint8_t op, uint8_t x, uint8_t y, uint8_t z, uint64_t y_val, uint64_t z_val,
-                               uint64_t general[256], uint64_t special[32], uint64_t *pc, uint64_t *halt, uint64_t marks);
+                               uint64_t general[256], uint64_t special[32], uint64_t *pc, uint64_t *halt, uint64_t marks,
+                               uint64_t mask);
 
 /* As mmix_run, on the parts of a state: the fastest way to run a program. */
 uint64_t mmix_run_parts(uint64_t base_a, uint64_t base_b, uint64_t grant, uint64_t general[256], uint64_t special[32],
-                        uint64_t *pc, uint64_t *halt, uint64_t marks, uint8_t *a, size_t a_len, uint8_t *b, size_t b_len,
-                        uint64_t *done);
+                        uint64_t *pc, uint64_t *halt, uint64_t marks, uint64_t mask, uint8_t *a, size_t a_len,
+                        uint8_t *b, size_t b_len, uint64_t *done);
 
 /* As mmix_put_set, on the parts of a state. `pairs_len` counts the numbers in `pairs`, two a pair; an odd last one is not looked
  * at. *pc is left as it is. */
 uint64_t mmix_put_set_parts(uint64_t general[256], uint64_t special[32], uint64_t *pc, uint64_t *halt, uint64_t marks,
-                            const uint64_t *pairs, size_t pairs_len, uint64_t *place);
+                            uint64_t mask, const uint64_t *pairs, size_t pairs_len, uint64_t *place);
 
 /* ---- saved contexts */
 
@@ -265,13 +283,14 @@ uint64_t mmix_context(uint64_t base_a, uint64_t base_b, uint64_t address, const 
 
 /* ---- points to return to */
 
-/* Keeps the state and both windows under a name, 0 to 15; what the name had before is lost. Refused by 1, 2, 22, 26 or 27, in
- * that order, it leaves every byte of the store. */
+/* Keeps the state and both windows under a name, 0 to 15; what the name had before is lost. Of an old image mask 0 is kept.
+ * Refused by 1, 2, 22, 26 or 27, in that order, it leaves every byte of the store. */
 uint64_t mmix_take(uint64_t base_a, uint64_t base_b, uint64_t name, const uint8_t *image, size_t image_len,
                    const uint8_t *a, size_t a_len, const uint8_t *b, size_t b_len, uint8_t *store, size_t store_len);
 
 /* Makes image and windows what was taken last under a name, byte for byte, whatever they hold; bases and lengths are those at
- * which it was taken. Refused by 1 (an image of another length; no state is judged), 2, 22, 26, 27 or 28, in that order, it
+ * which it was taken. The image keeps its length, which need not be that of the image that was taken. Refused by 1 (an image of
+ * neither length; no state is judged), 2, 22, 26, 27, 28 or by 1 (an old image, and the point's mask is not 0), in that order, it
  * leaves every byte. It holds as long as nothing but mmix_take writes the store. */
 uint64_t mmix_go_back(uint64_t base_a, uint64_t base_b, uint64_t name, uint8_t *image, size_t image_len,
                       uint8_t *a, size_t a_len, uint8_t *b, size_t b_len, const uint8_t *store, size_t store_len);
@@ -322,9 +341,9 @@ static inline uint64_t mmix_step_lent_in(const struct mmix_windows *lent, uint8_
 
 static inline uint64_t mmix_step_parts_in(const struct mmix_windows *lent, uint8_t op, uint8_t x, uint8_t y, uint8_t z,
                                           uint64_t general[256], uint64_t special[32], uint64_t *pc, uint64_t *halt,
-                                          uint64_t marks)
+                                          uint64_t marks, uint64_t mask)
 {
-    return mmix_step_parts(lent->base_a, lent->base_b, op, x, y, z, general, special, pc, halt, marks,
+    return mmix_step_parts(lent->base_a, lent->base_b, op, x, y, z, general, special, pc, halt, marks, mask,
                            lent->a, lent->a_len, lent->b, lent->b_len);
 }
 
@@ -335,9 +354,10 @@ static inline uint64_t mmix_run_in(const struct mmix_windows *lent, uint64_t gra
 }
 
 static inline uint64_t mmix_run_parts_in(const struct mmix_windows *lent, uint64_t grant, uint64_t general[256],
-                                         uint64_t special[32], uint64_t *pc, uint64_t *halt, uint64_t marks, uint64_t *done)
+                                         uint64_t special[32], uint64_t *pc, uint64_t *halt, uint64_t marks, uint64_t mask,
+                                         uint64_t *done)
 {
-    return mmix_run_parts(lent->base_a, lent->base_b, grant, general, special, pc, halt, marks,
+    return mmix_run_parts(lent->base_a, lent->base_b, grant, general, special, pc, halt, marks, mask,
                           lent->a, lent->a_len, lent->b, lent->b_len, done);
 }
 

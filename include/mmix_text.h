@@ -45,6 +45,7 @@ static inline const char *mmix_reply_text(uint64_t reply)
     case MMIX_OTHER_POINT: return "the point has other bases or lengths, or no admissible state";
     case MMIX_NO_FRAME: return "POP where no frame is left";
     case MMIX_TOO_MANY_PAIRS: return "a set of more than 32 pairs";
+    case MMIX_HIDDEN: return "GET or PUT of a register that the mask hides";
     default: return "no reply of this version";
     }
 }
@@ -60,12 +61,13 @@ static inline const char *mmix_special_name(unsigned k)
     return k < 32 ? names[k] : "r?";
 }
 
-/* PC, halt code and marks in a line, then each special register and each general one that is not 0, four in a line. */
+/* PC, halt code, marks and mask in a line, then each special register and each general one that is not 0, four in a line. */
 static inline void mmix_print_state(FILE *out, const struct mmix_state *state)
 {
     unsigned printed = 0;
 
-    fprintf(out, "PC %" PRIx64 "  halt code %" PRIu64 "  marks %03" PRIx64, state->pc, state->halt, state->marks);
+    fprintf(out, "PC %" PRIx64 "  halt code %" PRIu64 "  marks %03" PRIx64 "  mask %08" PRIx64, state->pc, state->halt, state->marks,
+            state->mask);
     for (unsigned k = 0; k < 32; k++)
         if (state->special[k] != 0)
             fprintf(out, "%s%3s %016" PRIx64, printed++ % 4 == 0 ? "\n  " : "  ", mmix_special_name(k), state->special[k]);

@@ -21,7 +21,8 @@ use Rattle.model.proofs.Plan.{All-left, All-right, All-both}
 use Rattle.model.proofs.Demand.{demand3}
 use Rattle.mmix.specs.Calls.{Held, heldState, HeldIs, Entry, on-image, run-image, on-lent, on-parts, run-parts, decode, encode, triedItems, askedBy, asked, answeredBy, Meets, Made, Chain, lastHeld, lastWindow, items, AllFit, Carried, Returns, Demand3Calls}
 use Rattle.mmix.proofs.Tried.{Alongside, twins}
-use Rattle.mmix.proofs.Call.{Intact, intact, After, after-call, formAfter, form-after, same-held}
+use Rattle.mmix.proofs.Call.{Intact, intact, After, after-call}
+use Rattle.mmix.proofs.Forms.{formAfter, form-after, same-held}
 use Rattle.mmix.proofs.Chains.{Kept, kept, Ended, SameCalls, same-calls, twins-at, same-form, chain-ended}
 
 -- one call that asks for a step

@@ -14,7 +14,8 @@ use Rattle.model.specs.Invariants.{Bytes}
 use Rattle.model.specs.declared.State.{State}
 use Rattle.mmix.specs.Calls.{Held, heldState, Entry, on-image, run-image, on-lent, on-parts, run-parts, decode, encode, triedItems, askedBy, asked, answeredBy, MovedBy, countedBy, MeetsBy, Made, Chain, entries, replies, counts, lastHeld, lastWindow, items, answers, Moved, AllFit, Carried, ListsOfCalls}
 use Rattle.mmix.proofs.Tried.{InRange, item-range, Twins, twins-first, twins-rest, SameEnd, run-same}
-use Rattle.mmix.proofs.Call.{Intact, intact, intact-of, held-state, Counted, image-counted, parts-counted, After, after-call, form, formAfter, form-after}
+use Rattle.mmix.proofs.Call.{Intact, intact, intact-of, held-state, Counted, image-counted, parts-counted, After, after-call}
+use Rattle.mmix.proofs.Forms.{form, formAfter, form-after}
 
 -- ---- lists of items
 

@@ -3,6 +3,7 @@ pub mod Entries
 pub mod Lent
 pub mod Tried
 pub mod Call
+pub mod Forms
 pub mod Writes
 pub mod ImageLeaves
 pub mod OwnNumbers

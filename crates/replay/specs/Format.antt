@@ -11,7 +11,7 @@ use Rattle.model.specs.Octa.{part, written, valueOf, bytesOf}
 use Rattle.model.specs.Registers.{rO, rS, rG, rL, rA}
 use Rattle.model.specs.Memory.{Windows}
 use Rattle.model.specs.Parts.{lent}
-use Rattle.model.specs.Kept.{imageLength}
+use Rattle.model.specs.Kept.{oldImageLength}
 use Rattle.mmix.specs.Entries.{Stepped, Raised}
 
 -- octabyte i of some bytes, high byte first
@@ -22,7 +22,7 @@ octabyteOf l i = valueOf 0 (part l (8 * i) 8)
 abbrev pub byteOf : List ℕ → ℕ → ℕ
 byteOf l i = getD l i 0
 
--- what is given of a record has its twenty octabytes, and what is told its ten; a state's image has 291
+-- what is given of a record has its twenty octabytes, and what is told its ten; a state's image, an old one since the Rust has no mask, has 291
 abbrev pub HasGiven : List ℕ → Type 0
 HasGiven l = 160 ≤ length l
 
@@ -30,7 +30,7 @@ abbrev pub HasTold : List ℕ → Type 0
 HasTold l = 80 ≤ length l
 
 abbrev pub IsImage : List ℕ → Type 0
-IsImage l = length l ≡ imageLength
+IsImage l = length l ≡ oldImageLength
 
 -- rL and rG of what is given, in range
 pub record HasThresholds (g : List ℕ) (rl rg : ℕ) : Type 0 where

@@ -9,7 +9,7 @@ use crate::octabytes::octabyte;
 use crate::octabytes::set_octabyte;
 use crate::octabytes::sums_of;
 use crate::octabytes::write_line;
-use image::IMAGE_LEN;
+use image::OLD_IMAGE_LEN;
 use model::State;
 
 /// How many octabytes of a record are given, before its pairs, and how many are told.
@@ -256,7 +256,7 @@ pub(crate) fn agrees(given: &[u8], told: &[u8]) -> bool
     if rl > rg {
         return false;
     }
-    let mut image = [0u8; IMAGE_LEN];
+    let mut image = [0u8; OLD_IMAGE_LEN];
     let mut space = io::buffer();
     let len = 8 * (n as usize);
     let window = &mut space[..len];
