@@ -1,9 +1,9 @@
 //! One call with everything it is given, and its text of one line.
 //!
 //! The line is the call's name and then fields `name=value` in hexadecimal: op x y z, flags yv zv (exceptions),
-//! address (context), grant (run), from to (branch_field, jump_field), base, len (of window B), image (length of the image), pc, halt, marks, partly,
+//! address (context), grant (run), from to (branch_field, jump_field), base, len (of window B), image (length of the image), pc, halt, marks, mask, partly,
 //! g and s (registers that are not zero, `number:value`), w (octabytes of window B that are not zero,
-//! `offset:bytes`), and abase, alen, aw of window A. What is left out is zero; `image` left out is 2,328 bytes.
+//! `offset:bytes`), and abase, alen, aw of window A. What is left out is zero; `image` left out is 2,336 bytes.
 
 use std::fmt::{self, Display, Write};
 
@@ -165,6 +165,7 @@ impl Display for Case {
         field(&mut line, "pc", self.state.pc);
         field(&mut line, "halt", self.state.halt);
         field(&mut line, "marks", self.state.marks);
+        field(&mut line, "mask", self.state.mask);
         field(&mut line, "partly", self.partly);
         for (name, registers) in [("g", &self.state.general[..]), ("s", &self.state.special[..])] {
             let set: Vec<String> =
@@ -223,6 +224,7 @@ pub fn parse(line: &str) -> Result<Case, String> {
             "pc" => case.state.pc = value()?,
             "halt" => case.state.halt = value()?,
             "marks" => case.state.marks = value()?,
+            "mask" => case.state.mask = value()?,
             "partly" => case.partly = value()?,
             "g" => registers(text, &mut case.state.general)?,
             "s" => registers(text, &mut case.state.special)?,

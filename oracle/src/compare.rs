@@ -8,26 +8,30 @@ use crate::fields;
 use crate::guards::WROTE_OUTSIDE;
 use crate::lent::Windows;
 use crate::reference::{Answer, Reference};
-use crate::state::{IMAGE_LEN, State};
+use crate::state::{State, is_image};
 use crate::subject::{Aim, Found, Subject};
 
 /// The reference's answer, or in words how a subject differs from it.
 pub fn compare(reference: &mut Reference, subjects: &[Box<dyn Subject>], case: &Case) -> Result<Answer, String> {
     let answer = reference.answer(case)?;
     for subject in subjects {
-        let same = match case.call {
-            Call::Initialize => initialize(subject.as_ref(), case, &answer),
-            Call::Step(i) => step(subject.as_ref(), case, i, &answer),
-            Call::Run { grant } => run(subject.as_ref(), case, grant, &answer),
-            Call::Exceptions { .. } => exceptions(subject.as_ref(), case, &answer),
-            Call::Context { .. } => context(subject.as_ref(), case, &answer),
-            Call::Field { .. } => field(subject.as_ref(), case, &answer),
-        };
-        let same = same.and_then(|()| codec(subject.as_ref(), case));
-        same.map_err(|difference| format!("{}: {difference}", subject.name()))?;
+        same(subject.as_ref(), case, &answer).map_err(|difference| format!("{}: {difference}", subject.name()))?;
     }
     needs(case, &answer)?;
     Ok(answer)
+}
+
+/// Whether every entry of one subject gives the answer.
+pub fn same(subject: &dyn Subject, case: &Case, answer: &Answer) -> Result<(), String> {
+    match case.call {
+        Call::Initialize => initialize(subject, case, answer),
+        Call::Step(i) => step(subject, case, i, answer),
+        Call::Run { grant } => run(subject, case, grant, answer),
+        Call::Exceptions { .. } => exceptions(subject, case, answer),
+        Call::Context { .. } => context(subject, case, answer),
+        Call::Field { .. } => field(subject, case, answer),
+    }?;
+    codec(subject, case)
 }
 
 fn initialize(subject: &dyn Subject, case: &Case, answer: &Answer) -> Result<(), String> {
@@ -41,7 +45,7 @@ fn exceptions(subject: &dyn Subject, case: &Case, answer: &Answer) -> Result<(),
     let mut image = case.image();
     let reply = subject.exceptions(flags, of, y_val, z_val, &mut image);
     same_image("mmix_exceptions", case, answer, reply, &image)?;
-    if case.image_len != IMAGE_LEN {
+    if !is_image(case.image_len) {
         return Ok(());
     }
 
@@ -51,22 +55,24 @@ fn exceptions(subject: &dyn Subject, case: &Case, answer: &Answer) -> Result<(),
 }
 
 /// The case's image into a struct that holds other numbers, and its state into an image with other bytes. What
-/// an image of a wrong length is to leave is those.
-fn codec(subject: &dyn Subject, case: &Case) -> Result<(), String> {
-    let whole = case.image_len == IMAGE_LEN;
-    let other = State { general: [!7; 256], special: [!9; 32], pc: !1, halt: !2, marks: !3 };
+/// an image of a wrong length is to leave is those; so is what an old one is, where something is hidden.
+pub fn codec(subject: &dyn Subject, case: &Case) -> Result<(), String> {
+    let whole = is_image(case.image_len);
+    let other = State { general: [!7; 256], special: [!9; 32], pc: !1, halt: !2, marks: !3, mask: !4 };
     let mut state = other.clone();
     let reply = subject.decode(&case.image(), &mut state);
     same_reply("mmix_decode", !whole as u64, reply)?;
-    if let Some(difference) = (if whole { &case.state } else { &other }).difference(&state) {
+    let expected = if whole { State::of_image(&case.image()) } else { other };
+    if let Some(difference) = expected.difference(&state) {
         return Err(format!("mmix_decode: reply {reply}, {difference}"));
     }
 
     let other = vec![0xA5; case.image_len];
     let mut image = other.clone();
     let reply = subject.encode(&case.state, &mut image);
-    same_reply("mmix_encode", !whole as u64, reply)?;
-    if image == if whole { case.state.image().to_vec() } else { other } {
+    let fits = case.state.fits(case.image_len);
+    same_reply("mmix_encode", !fits as u64, reply)?;
+    if image == if fits { case.image() } else { other } {
         return Ok(());
     }
     Err(format!("mmix_encode: reply {reply}, another image"))
@@ -113,7 +119,7 @@ fn step(subject: &dyn Subject, case: &Case, i: Instruction, answer: &Answer) -> 
     let reply = subject.step(i, &mut image, windows.lend());
     same_image("mmix_step", case, answer, reply, &image)?;
     same_windows("mmix_step", answer, &windows)?;
-    if case.image_len != IMAGE_LEN {
+    if !is_image(case.image_len) {
         return Ok(());
     }
 
@@ -139,7 +145,7 @@ fn run(subject: &dyn Subject, case: &Case, grant: u64, answer: &Answer) -> Resul
     same_image("mmix_run", case, answer, reply, &image)?;
     same_windows("mmix_run", answer, &windows)?;
     same_count("mmix_run", done)?;
-    if case.image_len != IMAGE_LEN {
+    if !is_image(case.image_len) {
         return Ok(());
     }
 
@@ -151,7 +157,7 @@ fn run(subject: &dyn Subject, case: &Case, grant: u64, answer: &Answer) -> Resul
 }
 
 fn same_image(entry: &str, case: &Case, answer: &Answer, reply: u64, image: &[u8]) -> Result<(), String> {
-    if case.image_len == IMAGE_LEN {
+    if is_image(case.image_len) {
         return same_state(entry, answer, reply, &State::of_image(image));
     }
     same_reply(entry, answer.reply, reply)?;
@@ -192,8 +198,8 @@ fn same_windows(entry: &str, answer: &Answer, windows: &Windows) -> Result<(), S
 /// on with what was not there, so the needs are among the touched and one of them is missing.
 fn needs(case: &Case, answer: &Answer) -> Result<(), String> {
     let mut needs = match case.call {
-        Call::Step(i) if case.image_len == IMAGE_LEN => compared::needs(i, &case.state, &case.windows),
-        Call::Run { grant } if case.image_len == IMAGE_LEN => compared::run_needs(grant, &case.state, &case.windows),
+        Call::Step(i) if is_image(case.image_len) => compared::needs(i, &case.state, &case.windows),
+        Call::Run { grant } if is_image(case.image_len) => compared::run_needs(grant, &case.state, &case.windows),
         Call::Context { .. } => return Ok(()),
         _ => Vec::new(),
     };

@@ -171,11 +171,11 @@ impl Subject for Guarded {
     }
 
     fn step_parts(&self, i: Instruction, parts: Parts, lent: Lent) -> u64 {
-        let (Parts { general, special, pc, halt, marks }, Lent { at, a, b }) = (parts, lent);
+        let (Parts { general, special, pc, halt, marks, mask }, Lent { at, a, b }) = (parts, lent);
         let buffers = [bytes_of(general), bytes_of(special), bytes_of(pc), bytes_of(halt), a, b];
         self.call(buffers, |[general, special, pc, halt, a, b]| {
             let (general, special) = (of_bytes(general), of_bytes(special));
-            let parts = Parts { general, special, pc: of_bytes(pc), halt: of_bytes(halt), marks };
+            let parts = Parts { general, special, pc: of_bytes(pc), halt: of_bytes(halt), marks, mask };
             self.subject.step_parts(i, parts, Lent { at, a, b })
         })
     }
@@ -187,21 +187,21 @@ impl Subject for Guarded {
     }
 
     fn run_parts(&self, grant: u64, parts: Parts, lent: Lent, done: &mut u64) -> u64 {
-        let (Parts { general, special, pc, halt, marks }, Lent { at, a, b }) = (parts, lent);
+        let (Parts { general, special, pc, halt, marks, mask }, Lent { at, a, b }) = (parts, lent);
         let buffers = [bytes_of(general), bytes_of(special), bytes_of(pc), bytes_of(halt), bytes_of(done), a, b];
         self.call(buffers, |[general, special, pc, halt, done, a, b]| {
             let (general, special) = (of_bytes(general), of_bytes(special));
-            let parts = Parts { general, special, pc: of_bytes(pc), halt: of_bytes(halt), marks };
+            let parts = Parts { general, special, pc: of_bytes(pc), halt: of_bytes(halt), marks, mask };
             self.subject.run_parts(grant, parts, Lent { at, a, b }, of_bytes(done))
         })
     }
 
     fn exceptions_parts(&self, flags: u8, of: Instruction, y_val: u64, z_val: u64, parts: Parts) -> u64 {
-        let Parts { general, special, pc, halt, marks } = parts;
+        let Parts { general, special, pc, halt, marks, mask } = parts;
         let buffers = [bytes_of(general), bytes_of(special), bytes_of(pc), bytes_of(halt)];
         self.call(buffers, |[general, special, pc, halt]| {
             let (general, special) = (of_bytes(general), of_bytes(special));
-            let parts = Parts { general, special, pc: of_bytes(pc), halt: of_bytes(halt), marks };
+            let parts = Parts { general, special, pc: of_bytes(pc), halt: of_bytes(halt), marks, mask };
             self.subject.exceptions_parts(flags, of, y_val, z_val, parts)
         })
     }
@@ -215,7 +215,7 @@ impl Subject for Guarded {
     }
 
     fn put_set_parts(&self, parts: Parts, pairs: &[u64], place: &mut u64) -> u64 {
-        let (Parts { general, special, pc, halt, marks }, mut copy) = (parts, pairs.to_vec());
+        let (Parts { general, special, pc, halt, marks, mask }, mut copy) = (parts, pairs.to_vec());
         let buffers = [
             bytes_of(general),
             bytes_of(special),
@@ -226,7 +226,7 @@ impl Subject for Guarded {
         ];
         let reply = self.call(buffers, |[general, special, pc, halt, pairs, place]| {
             let (general, special) = (of_bytes(general), of_bytes(special));
-            let parts = Parts { general, special, pc: of_bytes(pc), halt: of_bytes(halt), marks };
+            let parts = Parts { general, special, pc: of_bytes(pc), halt: of_bytes(halt), marks, mask };
             self.subject.put_set_parts(parts, of_octabytes(pairs), of_bytes(place))
         });
         if copy == pairs { reply } else { WROTE_OUTSIDE }

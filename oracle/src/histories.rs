@@ -6,7 +6,7 @@ use crate::ledger::{Held, Kept, Ledger};
 use crate::lent::{Window, Windows};
 use crate::model::points::{POINTS, ROOM_LEN, STORE_LEN};
 use crate::random::Random;
-use crate::state::{IMAGE_LEN, WINDOW_MAX};
+use crate::state::{HIDEABLE, IMAGE_LEN, OLD_IMAGE_LEN, WINDOW_MAX};
 use crate::subject::Subject;
 use crate::{states, windows};
 
@@ -27,11 +27,14 @@ pub struct Met {
     calls: u64,
     take: Vec<u64>,
     back: Vec<u64>,
+    /// Points with a mask that an old image has no room for, and points gone back to in an old image.
+    no_room: u64,
+    old: u64,
 }
 
 impl Met {
     fn new() -> Self {
-        Self { calls: 0, take: vec![0; REPLIES], back: vec![0; REPLIES] }
+        Self { calls: 0, take: vec![0; REPLIES], back: vec![0; REPLIES], no_room: 0, old: 0 }
     }
 
     pub fn calls(&self) -> u64 {
@@ -43,6 +46,7 @@ impl Met {
             let met = (0..REPLIES).filter(|k| counts[*k] > 0).map(|k| format!("{k}: {}", counts[k]));
             println!("{name:<14} {}", met.collect::<Vec<_>>().join(", "));
         }
+        println!("  into an old image: {}, a mask with no room in one: {}", self.old, self.no_room);
     }
 
     pub fn seldom(&self) -> Vec<String> {
@@ -50,7 +54,10 @@ impl Met {
             let few = replies.iter().filter(|k| counts[**k] < ENOUGH);
             few.map(|k| format!("{name} with reply {k}: {}", counts[*k])).collect::<Vec<_>>()
         };
-        [few("take", &self.take, &TAKE_REPLIES), few("go_back", &self.back, &BACK_REPLIES)].concat()
+        let images = [("go_back into an old image", self.old), ("go_back, a mask with no room", self.no_room)];
+        let images = images.iter().filter(|(_, count)| *count < ENOUGH).map(|(name, count)| format!("{name}: {count}"));
+        let replies = [few("take", &self.take, &TAKE_REPLIES), few("go_back", &self.back, &BACK_REPLIES)];
+        replies.concat().into_iter().chain(images).collect()
     }
 }
 
@@ -78,6 +85,11 @@ fn held(random: &mut Random, shapes: &[Windows]) -> Held {
         0 | 1 => states::spoil(random, &mut case),
         2 => windows::spoil(random, &mut case),
         3 => windows::share(random, &mut case),
+        _ => {}
+    }
+    match random.below(3) {
+        0 if case.image_len == IMAGE_LEN => case.image_len = OLD_IMAGE_LEN,
+        1 => case.state.mask = random.any() & HIDEABLE,
         _ => {}
     }
     Held { image: case.image(), windows: case.windows }
@@ -166,6 +178,9 @@ pub fn history(seed: u64, number: u64, subjects: &[Box<dyn Subject>], met: &mut 
         met.calls += 1;
         let counts = if taking { &mut met.take } else { &mut met.back };
         counts[reply as usize] += 1;
+        let old = !taking && lent.image.len() == OLD_IMAGE_LEN;
+        met.old += (old && reply == 0) as u64;
+        met.no_room += (old && reply == 1) as u64;
     }
     Ok(())
 }

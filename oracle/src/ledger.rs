@@ -3,7 +3,7 @@
 
 use crate::lent::{Window, Windows};
 use crate::model::points::{POINTS, ROOM_LEN, STORE_LEN};
-use crate::state::{IMAGE_LEN, State, WINDOW_MAX, octabyte};
+use crate::state::{IMAGE_LEN, State, WINDOW_MAX, is_image, octabyte};
 
 /// What is held: an image and two windows.
 #[derive(Clone, PartialEq)]
@@ -28,7 +28,7 @@ impl Held {
 }
 
 fn admissible(image: &[u8]) -> bool {
-    image.len() == IMAGE_LEN && State::of_image(image).admissible()
+    is_image(image.len()) && State::of_image(image).admissible()
 }
 
 /// What is known of a name.
@@ -71,6 +71,8 @@ impl Ledger {
         }
         let Windows { a, b } = &held.windows;
         let mut laid = held.image.clone();
+        laid.resize(IMAGE_LEN, 0);
+        let kept = Held { image: laid.clone(), windows: held.windows.clone() };
         for number in [a.base, b.base, a.size() / 8, b.size() / 8, 1] {
             laid.extend(number.to_be_bytes());
         }
@@ -80,7 +82,7 @@ impl Ledger {
             laid.extend(&old[laid.len()..][..WINDOW_MAX - window.len()]);
         }
         self.store[name as usize * ROOM_LEN..][..ROOM_LEN].copy_from_slice(&laid);
-        self.names[name as usize] = Kept::Taken(held.clone());
+        self.names[name as usize] = Kept::Taken(kept);
         0
     }
 
@@ -104,19 +106,25 @@ impl Ledger {
     }
 
     pub fn go_back(&self, name: u64, held: &Held, len: usize) -> Result<Held, u64> {
-        if held.image.len() != IMAGE_LEN {
+        if !is_image(held.image.len()) {
             return Err(1);
         }
         if let Some(reply) = held.refused().or(Self::refused(name, len)) {
             return Err(reply);
         }
-        match &self.names[name as usize] {
+        let mut back = match &self.names[name as usize] {
             Kept::Nothing => Err(27),
             Kept::Written => self.written(name, held),
             Kept::Taken(point) => {
                 let same = point.windows.at() == held.windows.at() && point.lengths() == held.lengths();
                 if same { Ok(point.clone()) } else { Err(28) }
             }
+        }?;
+        // Last: an old image has room for no mask but 0, and keeps its length.
+        if back.image[held.image.len()..].iter().any(|byte| *byte != 0) {
+            return Err(1);
         }
+        back.image.truncate(held.image.len());
+        Ok(back)
     }
 }

@@ -8,7 +8,8 @@
 //!   `guards` lends each of their buffers in a guarded place (`areas`).
 //! - `compare`: one case on all sides. `shrink`: a smaller case that still differs.
 //! - `random`, `states`, `windows`, `operands`, `numbers`, `fields`, `rounds`, `chains`, `programs`, `sweep`: the cases. `starts`, `points`:
-//!   short ones. `histories`, `ledger`: calls on one store, and what they must answer. `sets`: sets of special registers. `tally`, `situations`, `met`, `lendings`, `runs`: the counts.
+//!   short ones. `histories`, `ledger`: calls on one store, and what they must answer. `sets`: sets of special registers. `masks`: states that
+//!   hide registers, and images of both lengths. `tally`, `situations`, `met`, `lendings`, `runs`: the counts.
 
 // The model that is compared: `model`, or a copy with a fault in it (build.rs).
 #[cfg(changed_model)]
@@ -29,6 +30,7 @@ pub mod lendings;
 pub mod lent;
 #[cfg(feature = "library")]
 pub mod library;
+pub mod masks;
 pub mod met;
 pub mod model;
 pub mod numbers;

@@ -71,6 +71,7 @@ unsafe extern "C" {
         pc: *mut u64,
         halt: *mut u64,
         marks: u64,
+        mask: u64,
         a: *mut u8,
         a_len: usize,
         b: *mut u8,
@@ -97,6 +98,7 @@ unsafe extern "C" {
         pc: *mut u64,
         halt: *mut u64,
         marks: u64,
+        mask: u64,
         a: *mut u8,
         a_len: usize,
         b: *mut u8,
@@ -116,6 +118,7 @@ unsafe extern "C" {
         pc: *mut u64,
         halt: *mut u64,
         marks: u64,
+        mask: u64,
     ) -> u64;
     fn mmix_put_set(image: *mut u8, image_len: usize, pairs: *const u8, pairs_len: usize, place: *mut u64) -> u64;
     fn mmix_put_set_parts(
@@ -124,6 +127,7 @@ unsafe extern "C" {
         pc: *mut u64,
         halt: *mut u64,
         marks: u64,
+        mask: u64,
         pairs: *const u64,
         pairs_len: usize,
         place: *mut u64,
@@ -218,10 +222,27 @@ impl Subject for Library {
     #[inline]
     fn step_parts(&self, i: Instruction, parts: Parts, lent: Lent) -> u64 {
         let (Instruction { op, x, y, z }, Lent { at, a, b }) = (i, lent);
-        let Parts { general, special, pc, halt, marks } = parts;
+        let Parts { general, special, pc, halt, marks, mask } = parts;
         let (in_a, in_b) = (self.lent_mut(a), self.lent_mut(b));
         unsafe {
-            mmix_step_parts(at.a, at.b, op, x, y, z, general, special, pc, halt, marks, in_a, a.len(), in_b, b.len())
+            mmix_step_parts(
+                at.a,
+                at.b,
+                op,
+                x,
+                y,
+                z,
+                general,
+                special,
+                pc,
+                halt,
+                marks,
+                mask,
+                in_a,
+                a.len(),
+                in_b,
+                b.len(),
+            )
         }
     }
 
@@ -235,17 +256,19 @@ impl Subject for Library {
 
     #[inline]
     fn run_parts(&self, grant: u64, parts: Parts, lent: Lent, done: &mut u64) -> u64 {
-        let (Parts { general, special, pc, halt, marks }, Lent { at, a, b }) = (parts, lent);
+        let (Parts { general, special, pc, halt, marks, mask }, Lent { at, a, b }) = (parts, lent);
         let (in_a, in_b) = (self.lent_mut(a), self.lent_mut(b));
         let (a_len, b_len) = (a.len(), b.len());
-        unsafe { mmix_run_parts(at.a, at.b, grant, general, special, pc, halt, marks, in_a, a_len, in_b, b_len, done) }
+        unsafe {
+            mmix_run_parts(at.a, at.b, grant, general, special, pc, halt, marks, mask, in_a, a_len, in_b, b_len, done)
+        }
     }
 
     #[inline]
     fn exceptions_parts(&self, flags: u8, of: Instruction, y_val: u64, z_val: u64, parts: Parts) -> u64 {
         let Instruction { op, x, y, z } = of;
-        let Parts { general, special, pc, halt, marks } = parts;
-        unsafe { mmix_exceptions_parts(flags, op, x, y, z, y_val, z_val, general, special, pc, halt, marks) }
+        let Parts { general, special, pc, halt, marks, mask } = parts;
+        unsafe { mmix_exceptions_parts(flags, op, x, y, z, y_val, z_val, general, special, pc, halt, marks, mask) }
     }
 
     #[inline]
@@ -255,9 +278,9 @@ impl Subject for Library {
 
     #[inline]
     fn put_set_parts(&self, parts: Parts, pairs: &[u64], place: &mut u64) -> u64 {
-        let Parts { general, special, pc, halt, marks } = parts;
+        let Parts { general, special, pc, halt, marks, mask } = parts;
         let (given, len) = (self.lent(pairs), pairs.len());
-        unsafe { mmix_put_set_parts(general, special, pc, halt, marks, given, len, place) }
+        unsafe { mmix_put_set_parts(general, special, pc, halt, marks, mask, given, len, place) }
     }
 
     #[inline]

@@ -11,7 +11,7 @@
 //! The Rust has no arm for an added opcode (`opcodes::is_added`): from 22 on, the answer there is the model's, and the
 //! library is compared with the model alone. So it is, from 1 on, at flags of which two or more are raised and enabled
 //! (`Case::two_enabled`), and at POP without a frame (`Case::no_frame`), which 29 refuses: there the definition departs from the
-//! Rust. A run is answered in `fetched`, step by step.
+//! Rust. A run is answered in `fetched`, step by step. The Rust has no mask: the answer keeps it, and 31 is told in `masks`.
 
 use std::cell::RefCell;
 use std::ops::Range;
@@ -29,7 +29,7 @@ use crate::fields;
 use crate::lent::{Window, Windows};
 use crate::model::{self, Model};
 use crate::opcodes::{GET, RESUME, TRAP, is_added};
-use crate::state::{IMAGE_LEN, RG, RL, RO, State, WINDOW_MAX, octabyte};
+use crate::state::{RG, RL, RO, State, WINDOW_MAX, is_image, octabyte};
 use crate::subject::Subject;
 
 /// What the Rust leaves, or the model at an added opcode or two enabled flags. The windows are as before where the reply is 1 to 6 or 22.
@@ -87,6 +87,8 @@ pub struct Reference {
     pub(crate) diagnostics: Rc<RefCell<Vec<String>>>,
     /// What the machine's memory holds: these windows, and nothing else.
     pub(crate) windows: Windows,
+    /// The mask of the case that was placed last.
+    mask: u64,
     pub(crate) touches: Vec<Touch>,
 }
 
@@ -100,7 +102,7 @@ impl Reference {
     pub fn new() -> Self {
         let diagnostics = Rc::default();
         let machine = MMix::with_host(Recorder(Rc::clone(&diagnostics)));
-        Self { machine, diagnostics, windows: Windows::default(), touches: Vec::new() }
+        Self { machine, diagnostics, windows: Windows::default(), mask: 0, touches: Vec::new() }
     }
 
     /// The Rust's answer, or what is wrong with it: a panic, a diagnostic that no number has, a number beside
@@ -169,7 +171,8 @@ impl Reference {
     /// Make the machine the case's: memory, registers, loaded addresses; no diagnostic is sent.
     pub(crate) fn place(&mut self, case: &Case) {
         self.lend(&case.windows);
-        let State { general, special, pc, halt, .. } = &case.state;
+        let State { general, special, pc, halt, mask, .. } = &case.state;
+        self.mask = *mask;
         self.machine.place(general, special, *pc, *halt);
         self.machine.place_loaded(case.loaded());
         self.diagnostics.borrow_mut().clear();
@@ -229,6 +232,7 @@ impl Reference {
             pc: self.machine.get_pc(),
             halt: self.machine.get_exit_code(),
             marks,
+            mask: self.mask,
         }
     }
 
@@ -281,11 +285,11 @@ pub const GRANT_MOST: u64 = 1_000_000;
 
 /// Numbers 1 to 5, 22 and 25.
 fn judged(case: &Case) -> Option<u64> {
-    let bad_state = case.image_len != IMAGE_LEN || !case.state.admissible();
+    let bad_state = !is_image(case.image_len) || !case.state.admissible();
     let Windows { a, b } = &case.windows;
     let bad_window = !(obeys(a) && obeys(b));
     match case.call {
-        Call::Initialize => (case.image_len != IMAGE_LEN).then_some(1),
+        Call::Initialize => (!is_image(case.image_len)).then_some(1),
         Call::Exceptions { .. } => bad_state.then_some(1),
         Call::Context { .. } if bad_window => Some(2),
         Call::Context { .. } => case.windows.share().then_some(22),

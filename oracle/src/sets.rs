@@ -35,7 +35,7 @@ type Told = (u64, u64, State);
 
 type Situation = (&'static str, fn(&Set, &Told) -> bool);
 
-const SITUATIONS: [Situation; 9] = [
+const SITUATIONS: [Situation; 11] = [
     ("no pair", |set, told| set.pairs.is_empty() && told.0 == 0),
     ("32 pairs done", |set, told| set.pairs.len() == PAIRS_MAX && told.0 == 0),
     ("33 pairs", |set, told| set.pairs.len() == PAIRS_MAX + 1 && told.0 == 30),
@@ -44,6 +44,10 @@ const SITUATIONS: [Situation; 9] = [
     ("one fails behind others", |_, told| told.0 > 6 && told.0 < 12 && told.1 > 0),
     ("rG below the rL that was", |set, told| told.0 == 0 && told.2.special[RG] < set.case.state.special[RL]),
     ("a number that no byte holds", |set, told| told.0 == 7 && set.pairs[told.1 as usize].0 > 255),
+    ("a hidden register is set", |set, told| {
+        told.0 == 0 && set.pairs.iter().any(|(k, _)| *k < 32 && set.case.state.hides(*k as u8))
+    }),
+    ("on an old image", |set, told| told.0 == 0 && set.case.image_len == OLD_IMAGE_LEN),
     ("a part of a pair at the end", |set, told| !set.tail.is_empty() && told.0 == 0),
 ];
 
@@ -136,7 +140,13 @@ fn drawn(random: &mut Random) -> Set {
     let mut rl = case.state.special[RL];
     let pairs = (0..count).map(|k| if k == fails { bad(random, rl) } else { good(random, &mut rl) }).collect();
     let tail = if random.one_in(2) { random.range(1, 15) } else { 0 };
-    Set { case, pairs, tail: (0..tail).map(|_| random.byte()).collect() }
+    let tail = (0..tail).map(|_| random.byte()).collect();
+    match random.below(4) {
+        0 if case.image_len == IMAGE_LEN => case.image_len = OLD_IMAGE_LEN,
+        1 | 2 => case.state.mask = random.any() & HIDEABLE,
+        _ => {}
+    }
+    Set { case, pairs, tail }
 }
 
 /// The set by the Rust's PUT.
@@ -187,8 +197,9 @@ fn compare(subject: &dyn Subject, set: &Set, told: &Told) -> Result<(), String> 
     }
 
     let (mut image, mut place) = (set.case.image(), WRITTEN);
-    let whole = image.len() == IMAGE_LEN;
-    let (wanted, left) = if whole { ((told.0, told.1), told.2.image().to_vec()) } else { ((1, 0), image.clone()) };
+    let whole = is_image(image.len());
+    let after = || told.2.image()[..image.len()].to_vec();
+    let (wanted, left) = if whole { ((told.0, told.1), after()) } else { ((1, 0), image.clone()) };
     let reply = subject.put_set(&mut image, &bytes, &mut place);
     if (reply, place) != wanted {
         return Err(format!("put_set: reply {reply}, place {place} and not {}, {}", wanted.0, wanted.1));

@@ -37,6 +37,7 @@ fn changes(case: &Case) -> Vec<Change> {
         Box::new(|c| c.state.pc = 0),
         Box::new(|c| c.state.halt = 0),
         Box::new(|c| c.state.marks = 0),
+        Box::new(|c| c.state.mask = 0),
         Box::new(|c| c.state.special[RG] = 32),
         Box::new(|c| c.state.special[RS] = c.state.special[RO]),
         Box::new(|c| {

@@ -1,12 +1,15 @@
-//! A machine state and its image of 291 octabytes, high byte first: general registers, special registers,
-//! PC, halt code, marks. The layout in memory is that of `struct mmix_state`.
+//! A machine state and its image of 292 octabytes, high byte first: general registers, special registers,
+//! PC, halt code, marks, mask; an old image has no mask. The layout in memory is that of `struct mmix_state`.
 
-pub const OCTABYTES: usize = 291;
+pub const OCTABYTES: usize = 292;
 pub const IMAGE_LEN: usize = 8 * OCTABYTES;
+pub const OLD_IMAGE_LEN: usize = IMAGE_LEN - 8;
 pub const WINDOW_MAX: usize = 65_536;
 pub const STACK_START: u64 = 0x6000_0000_0000_0000;
 pub const RA_MAX: u64 = 0x3FFFF;
 pub const MARKS_MAX: u64 = 0x1FF;
+/// The registers that a mask may hide: rBB, rC, rN, rI, rT, rTT, rK, rQ, rU, rV, rF, rWW, rXX, rYY, rZZ.
+pub const HIDEABLE: u64 = bits(&[RBB, RC, RN, RI, RT, RTT, RK, RQ, RU, RV, RF, RWW, RXX, RYY, RZZ]);
 
 /// Numbers of special registers.
 pub const RB: usize = 0;
@@ -47,6 +50,20 @@ pub const SPECIAL_NAMES: [&str; 32] = [
     "rG", "rL", "rA", "rF", "rP", "rW", "rX", "rY", "rZ", "rWW", "rXX", "rYY", "rZZ",
 ];
 
+const fn bits(registers: &[usize]) -> u64 {
+    let (mut mask, mut k) = (0, 0);
+    while k < registers.len() {
+        mask |= 1 << registers[k];
+        k += 1;
+    }
+    mask
+}
+
+/// Whether an image may be so long.
+pub fn is_image(len: usize) -> bool {
+    len == IMAGE_LEN || len == OLD_IMAGE_LEN
+}
+
 #[repr(C)]
 #[derive(Clone, PartialEq, Eq, Debug)]
 pub struct State {
@@ -55,21 +72,33 @@ pub struct State {
     pub pc: u64,
     pub halt: u64,
     pub marks: u64,
+    pub mask: u64,
 }
 
 impl State {
     pub fn zero() -> Self {
-        Self { general: [0; 256], special: [0; 32], pc: 0, halt: 0, marks: 0 }
+        Self { general: [0; 256], special: [0; 32], pc: 0, halt: 0, marks: 0, mask: 0 }
     }
 
-    /// 32 ≤ rG ≤ 255, rL ≤ rG, rA ≤ 0x3FFFF, no mark bit above 8.
+    /// 32 ≤ rG ≤ 255, rL ≤ rG, rA ≤ 0x3FFFF, no mark bit above 8, nothing hidden but what may be.
     pub fn admissible(&self) -> bool {
         let rg = self.special[RG];
-        (32..=255).contains(&rg) && self.special[RL] <= rg && self.special[RA] <= RA_MAX && self.marks <= MARKS_MAX
+        let in_range = (32..=255).contains(&rg) && self.special[RL] <= rg && self.special[RA] <= RA_MAX;
+        in_range && self.marks <= MARKS_MAX && self.mask & !HIDEABLE == 0
+    }
+
+    /// Whether the mask hides special register k, any byte.
+    pub fn hides(&self, k: u8) -> bool {
+        k < 32 && self.mask >> k & 1 == 1
+    }
+
+    /// Whether an image of so many bytes has room for it: an old one only where nothing is hidden.
+    pub fn fits(&self, len: usize) -> bool {
+        len == IMAGE_LEN || len == OLD_IMAGE_LEN && self.mask == 0
     }
 
     pub fn octabytes(&self) -> impl Iterator<Item = u64> + '_ {
-        self.general.iter().chain(&self.special).copied().chain([self.pc, self.halt, self.marks])
+        self.general.iter().chain(&self.special).copied().chain([self.pc, self.halt, self.marks, self.mask])
     }
 
     pub fn image(&self) -> [u8; IMAGE_LEN] {
@@ -80,9 +109,9 @@ impl State {
         image
     }
 
-    /// The state of an image of the right length.
+    /// The state of an image of either length.
     pub fn of_image(image: &[u8]) -> Self {
-        assert_eq!(image.len(), IMAGE_LEN);
+        assert!(is_image(image.len()));
         let mut octabytes = image.chunks_exact(8).map(octabyte);
         let mut state = Self::zero();
         state.general.fill_with(|| octabytes.next().unwrap());
@@ -90,6 +119,7 @@ impl State {
         state.pc = octabytes.next().unwrap();
         state.halt = octabytes.next().unwrap();
         state.marks = octabytes.next().unwrap();
+        state.mask = octabytes.next().unwrap_or(0);
         state
     }
 
@@ -101,7 +131,8 @@ impl State {
             256..=287 => SPECIAL_NAMES[at - 256].to_string(),
             288 => "PC".to_string(),
             289 => "halt code".to_string(),
-            _ => "marks".to_string(),
+            290 => "marks".to_string(),
+            _ => "mask".to_string(),
         };
         let (a, b) = (self.octabytes().nth(at).unwrap(), other.octabytes().nth(at).unwrap());
         Some(format!("{name} {a:#x} against {b:#x}"))

@@ -3,13 +3,13 @@
 
 use crate::case::Case;
 use crate::random::Random;
-use crate::state::{IMAGE_LEN, MARKS_MAX, RA, RA_MAX, RG, RL, RO, RS, STACK_START, State};
+use crate::state::{IMAGE_LEN, MARKS_MAX, OLD_IMAGE_LEN, RA, RA_MAX, RG, RL, RO, RS, STACK_START, State};
 
 const TOP_BIT: u64 = 1 << 63;
 
 /// Lengths that an image may not have.
 pub const WRONG_LENGTHS: [usize; 8] =
-    [0, 1, 8, IMAGE_LEN - 8, IMAGE_LEN - 1, IMAGE_LEN + 1, IMAGE_LEN + 8, 2 * IMAGE_LEN];
+    [0, 1, 8, OLD_IMAGE_LEN - 8, IMAGE_LEN - 1, IMAGE_LEN + 1, IMAGE_LEN + 8, 2 * IMAGE_LEN];
 
 pub fn admissible(random: &mut Random) -> State {
     let mut state = State::zero();

@@ -1,5 +1,5 @@
 //! The machine that is compared with the Rust: functions that equal those of include/mmix.h. 0 is done,
-//! 1 to 20 are 01's numbers; 21 is request 2's, 22 and 23 are request 5's, 24 and 25 request 6's, 26 to 28 request 8's, 30 request 10's.
+//! 1 to 20 are 01's numbers; 21 is request 2's, 22 and 23 are request 5's, 24 and 25 request 6's, 26 to 28 request 8's, 29 to 31 requests 9's, 10's and 11's.
 
 use crate::case::{Instruction, Kind};
 use crate::compared::Model;
@@ -9,19 +9,20 @@ use crate::lent::{Lent, Shown};
 use crate::library::Library;
 use crate::state::State;
 
-/// A state in parts; the marks are only read.
+/// A state in parts; marks and mask are only read.
 pub struct Parts<'a> {
     pub general: &'a mut [u64; 256],
     pub special: &'a mut [u64; 32],
     pub pc: &'a mut u64,
     pub halt: &'a mut u64,
     pub marks: u64,
+    pub mask: u64,
 }
 
 impl<'a> From<&'a mut State> for Parts<'a> {
     fn from(state: &'a mut State) -> Self {
-        let State { general, special, pc, halt, marks } = state;
-        Self { general, special, pc, halt, marks: *marks }
+        let State { general, special, pc, halt, marks, mask } = state;
+        Self { general, special, pc, halt, marks: *marks, mask: *mask }
     }
 }
 

@@ -38,7 +38,8 @@ fn replies(op: u8) -> &'static [usize] {
 const EXCEPTION_REPLIES: [usize; 3] = [0, 1, 19];
 const CONTEXT_REPLIES: [usize; 8] = [0, 2, 6, 14, 15, 16, 22, 23];
 const INITIALIZE_REPLIES: [usize; 2] = [0, 1];
-const RUN_REPLIES: [usize; 25] = [0, 1, 2, 3, 4, 5, 6, 7, 8, 9, 10, 11, 12, 13, 14, 15, 16, 17, 18, 19, 20, 22, 24, 25, 29];
+const RUN_REPLIES: [usize; 25] =
+    [0, 1, 2, 3, 4, 5, 6, 7, 8, 9, 10, 11, 12, 13, 14, 15, 16, 17, 18, 19, 20, 22, 24, 25, 29];
 const FIELD_REPLIES: [usize; 2] = [0, 21];
 
 #[derive(Clone)]

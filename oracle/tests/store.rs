@@ -7,7 +7,7 @@ use oracle::subject::subjects;
 
 #[test]
 fn places() {
-    assert_eq!((ROOM_LEN, STORE_LEN), (133_440, 2_135_040));
+    assert_eq!((ROOM_LEN, STORE_LEN), (133_448, 2_135_168));
     let mut state = State::zero();
     state.special[RG] = 32;
     let image = state.image();
@@ -18,21 +18,21 @@ fn places() {
         store[2 * ROOM_LEN + IMAGE_LEN + 32..][..8].fill(0);
         assert_eq!(subject.go_back(2, &mut image.to_vec(), windows.lend(), &store), 27);
         assert_eq!(subject.take(2, &image, windows.show(), &mut store), 0);
-        let room = &store[266_880..400_320];
-        assert_eq!(room[..2_328], image);
+        let room = &store[266_896..400_344];
+        assert_eq!(room[..2_336], image);
         assert_eq!(
-            room[2_328..2_368],
+            room[2_336..2_376],
             [
                 0, 0, 0, 0, 0, 0, 1, 0, 0x60, 0, 0, 0, 0, 0, 0, 0, 0, 0, 0, 0, 0, 0, 0, 2, 0, 0, 0, 0, 0, 0, 0, 1, 0,
                 0, 0, 0, 0, 0, 0, 1
             ]
         );
         assert!(
-            room[2_368..2_384].iter().all(|byte| *byte == 0xA1)
-                && room[67_904..67_912].iter().all(|byte| *byte == 0xB2)
+            room[2_376..2_392].iter().all(|byte| *byte == 0xA1)
+                && room[67_912..67_920].iter().all(|byte| *byte == 0xB2)
         );
-        assert!(room[2_384..67_904].iter().chain(&room[67_912..]).all(|byte| *byte == 0x55));
-        assert!(store[..266_880].iter().chain(&store[400_320..]).all(|byte| *byte == 0x55));
+        assert!(room[2_392..67_912].iter().chain(&room[67_920..]).all(|byte| *byte == 0x55));
+        assert!(store[..266_896].iter().chain(&store[400_344..]).all(|byte| *byte == 0x55));
     }
 }
 

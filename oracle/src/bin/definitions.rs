@@ -51,8 +51,8 @@ fn runs(numbers: &[u64]) -> String {
 }
 
 fn state(s: &State) -> String {
-    let [pc, halt, marks] = [s.pc, s.halt, s.marks].map(number);
-    format!("(state {} {} {pc} {halt} {marks})", runs(&s.general), runs(&s.special))
+    let [pc, halt, marks, mask] = [s.pc, s.halt, s.marks, s.mask].map(number);
+    format!("(state {} {} {pc} {halt} {marks} {mask})", runs(&s.general), runs(&s.special))
 }
 
 fn windows(Windows { a, b }: &Windows) -> String {

@@ -1,7 +1,8 @@
 //! Compare with the Rust on many cases: the library where it is linked, and the model. For loads, stores and whole-number
 //! arithmetic the Rust has no arm, and flags two of which are raised and enabled it forgets: there the library is compared with
 //! the model alone. Points to return to, which the Rust has not either, are compared with a ledger (src/histories.rs), N / 200
-//! histories of calls; and sets of special registers with the Rust's PUT, pair by pair (src/sets.rs), N / 10 sets.
+//! histories of calls; sets of special registers with the Rust's PUT, pair by pair (src/sets.rs), N / 10 sets; and states with a mask, which the
+//! Rust has not, with the Rust up to the first GET or PUT of a hidden register, N / 5 calls (src/masks.rs), each on two states.
 //!
 //!     differential [--cases N] [--seed S] [--threads T] [--guards pages|heap]
 //!     differential --replay LINE [--guards pages|heap]
@@ -23,6 +24,7 @@ use oracle::compare::compare;
 use oracle::fields;
 use oracle::guards::{self, Guard};
 use oracle::histories;
+use oracle::masks;
 use oracle::programs;
 use oracle::reference::{Answer, Reference};
 use oracle::rounds::{ROUND, round};
@@ -41,6 +43,8 @@ const TOLD_EVERY: u64 = 100_000;
 const HISTORY_EVERY: u64 = 200;
 /// One set for so many.
 const SET_EVERY: u64 = 10;
+/// One call under a mask for so many.
+const MASK_EVERY: u64 = 5;
 
 struct Options {
     cases: u64,
@@ -142,7 +146,10 @@ impl Runner<'_> {
 
 fn replay(line: &str, guard: Option<Guard>) -> Result<bool, String> {
     let subjects = chosen(guard);
-    if let Some(told) = histories::replay(line, &subjects).or_else(|| sets::replay(line, &subjects)) {
+    if let Some(told) = histories::replay(line, &subjects)
+        .or_else(|| sets::replay(line, &subjects))
+        .or_else(|| masks::replay(line, &subjects))
+    {
         println!("{}", told.as_ref().map_or_else(|difference| difference.as_str(), |()| "same"));
         return Ok(told.is_ok());
     }
@@ -183,18 +190,21 @@ fn differential(options: &Options) -> bool {
     let began = Instant::now();
     let (met, history) = histories::histories(options.seed, options.cases / HISTORY_EVERY, &chosen(options.guard));
     let (put, set) = sets::sets(options.seed, options.cases / SET_EVERY, &chosen(options.guard));
+    let (veiled, mask) = masks::masks(options.seed, options.cases / MASK_EVERY, &chosen(options.guard));
     let (total, found) =
-        history.and(set).map_or_else(|difference| (Tally::default(), vec![difference]), |()| run(options));
+        history.and(set).and(mask).map_or_else(|difference| (Tally::default(), vec![difference]), |()| run(options));
     total.print();
     met.print();
     put.print();
+    veiled.print();
     let counted = options.cases >= COUNTED_FROM && found.is_empty();
-    let seldom = if counted { [total.seldom(), met.seldom(), put.seldom()].concat() } else { Vec::new() };
+    let seldom =
+        if counted { [total.seldom(), met.seldom(), put.seldom(), veiled.seldom()].concat() } else { Vec::new() };
     seldom.iter().for_each(|pair| println!("TOO SELDOM: {pair}"));
     found.iter().for_each(|difference| println!("DIFFERS: {difference}"));
     let names: Vec<&str> = chosen(options.guard).iter().map(|subject| subject.name()).collect();
     println!(
-        "{} cases, {} of them loads, stores and arithmetic, {} two enabled flags and {} POPs without a frame by the model, {} calls on stores, {} sets, seed {}, \
+        "{} cases, {} of them loads, stores and arithmetic, {} two enabled flags and {} POPs without a frame by the model, {} calls on stores, {} sets, {} under masks, seed {}, \
          Rust against {}, {:.1} s: {}",
         total.cases(),
         total.added(),
@@ -202,6 +212,7 @@ fn differential(options: &Options) -> bool {
         total.no_frame(),
         met.calls(),
         put.calls(),
+        veiled.calls(),
         options.seed,
         names.join(" and "),
         began.elapsed().as_secs_f64(),

@@ -27,7 +27,7 @@ use oracle::random::Random;
 use oracle::reference::Reference;
 use oracle::rounds::{exception, with_one};
 use oracle::starts::{FIELDS, Start};
-use oracle::state::{IMAGE_LEN, RG, RL, RO, State, octabyte};
+use oracle::state::{IMAGE_LEN, OLD_IMAGE_LEN, RG, RL, RO, State, octabyte};
 use oracle::subject::{Subject, chosen};
 
 /// The opcodes of the list, in turn; those with the most ways to go stand here most often. Five are branches and
@@ -50,7 +50,7 @@ fn sums(octabytes: impl Iterator<Item = u64>) -> [u64; 2] {
 
 fn results(reply: u64, state: &State, window: &[u8]) -> [u64; RESULTS] {
     let State { special, pc, halt, .. } = state;
-    let [sa, sb] = sums(state.octabytes());
+    let [sa, sb] = sums(state.octabytes().take(OLD_IMAGE_LEN / 8));
     let [wa, wb] = sums(window.chunks_exact(8).map(octabyte));
     [reply, *pc, *halt, special[RG], special[RL], special[RO], sa, sb, wa, wb]
 }

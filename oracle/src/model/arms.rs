@@ -68,6 +68,7 @@ pub fn step(state: &State, i: Instruction, memory: &Memory) -> Outcome {
             after.write_register(x, target(state, yz, 16, backward));
             Outcome::done(after.go_on())
         }
+        PUT | PUTI if state.hides(x) => Outcome::refused(31, state),
         PUT | PUTI => put(state, x as usize, second),
         POP => stack::pop(state, x, yz, memory),
         SAVE => stack::save(state, x, memory),
@@ -81,6 +82,9 @@ pub fn step(state: &State, i: Instruction, memory: &Memory) -> Outcome {
         GET => {
             if z > 31 {
                 return Outcome::refused(5, state);
+            }
+            if state.hides(z) {
+                return Outcome::refused(31, state);
             }
             let mut after = state.clone();
             after.write_register(x, state.special[z as usize]);

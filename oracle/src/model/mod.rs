@@ -15,7 +15,7 @@ mod stack;
 
 use crate::case::{Instruction, Kind};
 use crate::lent::{Bases, Lent, Shown, Windows};
-use crate::state::{IMAGE_LEN, RG, RK, RL, RN, RO, RS, RT, RTT, RV, STACK_START, State, octabyte};
+use crate::state::{RG, RK, RL, RN, RO, RS, RT, RTT, RV, STACK_START, State, is_image, octabyte};
 use crate::subject::{Aim, Found, Parts, Subject};
 use memory::Memory;
 pub use stack::{Popped, Registers};
@@ -34,10 +34,10 @@ impl Outcome {
         Self { reply: 0, state, stores: Vec::new(), needs: Vec::new() }
     }
 
-    /// Numbers 1 to 6, 22 and 24 change nothing, 7 to 18 and 29 set the halt code to 1.
+    /// Numbers 1 to 6, 22 and 24 change nothing, 7 to 18, 29 and 31 set the halt code to 1.
     fn refused(reply: u64, state: &State) -> Self {
         let mut state = state.clone();
-        if matches!(reply, 7..=18 | 29) {
+        if matches!(reply, 7..=18 | 29 | 31) {
             state.halt = 1;
         }
         Self { reply, state, stores: Vec::new(), needs: Vec::new() }
@@ -130,6 +130,11 @@ fn step(at: Bases, i: Instruction, state: &State, a: &[u8], b: &[u8]) -> Outcome
     }
 }
 
+/// An image keeps its length: the mask is left out of an old one, whose state has none.
+fn put_into(image: &mut [u8], state: &State) {
+    image.copy_from_slice(&state.image()[..image.len()]);
+}
+
 pub struct Model;
 
 impl Subject for Model {
@@ -138,30 +143,30 @@ impl Subject for Model {
     }
 
     fn initialize(&self, image: &mut [u8]) -> u64 {
-        if image.len() != IMAGE_LEN {
+        if !is_image(image.len()) {
             return 1;
         }
-        image.copy_from_slice(&fresh().image());
+        put_into(image, &fresh());
         0
     }
 
     fn step(&self, i: Instruction, image: &mut [u8], lent: Lent) -> u64 {
-        if image.len() != IMAGE_LEN {
+        if !is_image(image.len()) {
             return 1;
         }
         let mut state = State::of_image(image);
         let reply = self.step_lent(i, &mut state, lent);
-        image.copy_from_slice(&state.image());
+        put_into(image, &state);
         reply
     }
 
     fn exceptions(&self, flags: u8, of: Instruction, y_val: u64, z_val: u64, image: &mut [u8]) -> u64 {
-        if image.len() != IMAGE_LEN {
+        if !is_image(image.len()) {
             return 1;
         }
         let mut state = State::of_image(image);
         let reply = self.exceptions_parts(flags, of, y_val, z_val, (&mut state).into());
-        image.copy_from_slice(&state.image());
+        put_into(image, &state);
         reply
     }
 
@@ -192,8 +197,8 @@ impl Subject for Model {
     }
 
     fn step_parts(&self, i: Instruction, parts: Parts, lent: Lent) -> u64 {
-        let Parts { general, special, pc, halt, marks } = parts;
-        let mut state = State { general: *general, special: *special, pc: *pc, halt: *halt, marks };
+        let Parts { general, special, pc, halt, marks, mask } = parts;
+        let mut state = State { general: *general, special: *special, pc: *pc, halt: *halt, marks, mask };
         let reply = self.step_lent(i, &mut state, lent);
         (*general, *special, *pc, *halt) = (state.general, state.special, state.pc, state.halt);
         reply
@@ -201,18 +206,18 @@ impl Subject for Model {
 
     fn run(&self, grant: u64, image: &mut [u8], lent: Lent, done: &mut u64) -> u64 {
         *done = 0;
-        if image.len() != IMAGE_LEN {
+        if !is_image(image.len()) {
             return 1;
         }
         let mut state = State::of_image(image);
         let reply = self.run_parts(grant, (&mut state).into(), lent, done);
-        image.copy_from_slice(&state.image());
+        put_into(image, &state);
         reply
     }
 
     fn run_parts(&self, grant: u64, parts: Parts, lent: Lent, done: &mut u64) -> u64 {
-        let Parts { general, special, pc, halt, marks } = parts;
-        let mut state = State { general: *general, special: *special, pc: *pc, halt: *halt, marks };
+        let Parts { general, special, pc, halt, marks, mask } = parts;
+        let mut state = State { general: *general, special: *special, pc: *pc, halt: *halt, marks, mask };
         let ran = runs::run(grant, &mut state, lent);
         (*general, *special, *pc, *halt) = (state.general, state.special, state.pc, state.halt);
         *done = ran.done;
@@ -220,8 +225,8 @@ impl Subject for Model {
     }
 
     fn exceptions_parts(&self, flags: u8, of: Instruction, y_val: u64, z_val: u64, parts: Parts) -> u64 {
-        let Parts { general, special, pc, halt, marks } = parts;
-        let state = State { general: *general, special: *special, pc: *pc, halt: *halt, marks };
+        let Parts { general, special, pc, halt, marks, mask } = parts;
+        let state = State { general: *general, special: *special, pc: *pc, halt: *halt, marks, mask };
         if !state.admissible() {
             return 1;
         }
@@ -232,27 +237,27 @@ impl Subject for Model {
 
     fn put_set(&self, image: &mut [u8], pairs: &[u8], place: &mut u64) -> u64 {
         *place = 0;
-        if image.len() != IMAGE_LEN {
+        if !is_image(image.len()) {
             return 1;
         }
         let octabytes: Vec<u64> = pairs.chunks_exact(8).map(octabyte).collect();
         let mut state = State::of_image(image);
         let reply = self.put_set_parts((&mut state).into(), &octabytes, place);
-        image.copy_from_slice(&state.image());
+        put_into(image, &state);
         reply
     }
 
     fn put_set_parts(&self, parts: Parts, pairs: &[u64], place: &mut u64) -> u64 {
-        let Parts { general, special, pc, halt, marks } = parts;
+        let Parts { general, special, pc, halt, marks, mask } = parts;
         let pairs: Vec<(u64, u64)> = pairs.chunks_exact(2).map(|pair| (pair[0], pair[1])).collect();
-        let state = State { general: *general, special: *special, pc: *pc, halt: *halt, marks };
+        let state = State { general: *general, special: *special, pc: *pc, halt: *halt, marks, mask };
         let (reply, failing, state) = sets::put(&state, &pairs);
         (*general, *special, *pc, *halt, *place) = (state.general, state.special, state.pc, state.halt, failing);
         reply
     }
 
     fn decode(&self, image: &[u8], state: &mut State) -> u64 {
-        if image.len() != IMAGE_LEN {
+        if !is_image(image.len()) {
             return 1;
         }
         *state = State::of_image(image);
@@ -260,10 +265,10 @@ impl Subject for Model {
     }
 
     fn encode(&self, state: &State, image: &mut [u8]) -> u64 {
-        if image.len() != IMAGE_LEN {
+        if !state.fits(image.len()) {
             return 1;
         }
-        image.copy_from_slice(&state.image());
+        put_into(image, state);
         0
     }
 
@@ -274,7 +279,7 @@ impl Subject for Model {
     }
 
     fn take(&self, name: u64, image: &[u8], shown: Shown, store: &mut [u8]) -> u64 {
-        if image.len() != IMAGE_LEN || !State::of_image(image).admissible() {
+        if !is_image(image.len()) || !State::of_image(image).admissible() {
             return 1;
         }
         if let Some(reply) = judged(&Memory::of(shown.at, shown.a, shown.b)) {
@@ -290,7 +295,7 @@ impl Subject for Model {
     }
 
     fn go_back(&self, name: u64, image: &mut [u8], lent: Lent, store: &[u8]) -> u64 {
-        if image.len() != IMAGE_LEN {
+        if !is_image(image.len()) {
             return 1;
         }
         if let Some(reply) = judged(&Memory::of(lent.at, lent.a, lent.b)) {

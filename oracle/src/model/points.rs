@@ -25,9 +25,10 @@ fn numbers(at: [u64; 2], a: &[u8], b: &[u8]) -> [u64; 5] {
     [at[0], at[1], a.len() as u64 / 8, b.len() as u64 / 8, 1]
 }
 
-/// What was judged goes to the front of its places.
+/// What was judged goes to the front of its places; where an old image has no mask, 0 does.
 pub fn fill(room: &mut [u8], at: [u64; 2], image: &[u8], a: &[u8], b: &[u8]) {
-    room[..IMAGE_LEN].copy_from_slice(image);
+    room[..IMAGE_LEN].fill(0);
+    room[..image.len()].copy_from_slice(image);
     for (bytes, number) in room[NUMBERS..PLACE_A].chunks_exact_mut(8).zip(numbers(at, a, b)) {
         bytes.copy_from_slice(&number.to_be_bytes());
     }
@@ -35,7 +36,8 @@ pub fn fill(room: &mut [u8], at: [u64; 2], image: &[u8], a: &[u8], b: &[u8]) {
     room[PLACE_B..PLACE_B + b.len()].copy_from_slice(b);
 }
 
-/// 27, no point is taken; 28, another one than is lent, or none that a machine can be in. Else 0, and it is given back.
+/// 27, no point is taken; 28, another one than is lent, or none that a machine can be in; 1, its mask has no room in an old image.
+/// Else 0, and it is given back.
 pub fn restore(room: &[u8], at: [u64; 2], image: &mut [u8], a: &mut [u8], b: &mut [u8]) -> u64 {
     let mut kept = room[NUMBERS..PLACE_A].chunks_exact(8).map(octabyte);
     let kept: [u64; 5] = std::array::from_fn(|_| kept.next().unwrap());
@@ -45,10 +47,14 @@ pub fn restore(room: &[u8], at: [u64; 2], image: &mut [u8], a: &mut [u8], b: &mu
     if kept[..4] != numbers(at, a, b)[..4] {
         return 28;
     }
-    if !State::of_image(&room[..IMAGE_LEN]).admissible() {
+    let state = State::of_image(&room[..IMAGE_LEN]);
+    if !state.admissible() {
         return 28;
     }
-    image.copy_from_slice(&room[..IMAGE_LEN]);
+    if !state.fits(image.len()) {
+        return 1;
+    }
+    image.copy_from_slice(&room[..image.len()]);
     a.copy_from_slice(&room[PLACE_A..PLACE_A + a.len()]);
     b.copy_from_slice(&room[PLACE_B..PLACE_B + b.len()]);
     0
