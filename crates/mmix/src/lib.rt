@@ -451,7 +451,8 @@ pub extern "C" fn mmix_put_set_parts(
     place: &mut u64,
 ) -> u64
     ensures { λ r. ⌜ PutSet
-        (made (now (general .entry)) (now (special .entry)) (now (pc .entry)) (now (halt .entry)) marks mask) (pairsOf (now (pairs .entry))) r (now (place .exit))
+        (made (now (general .entry)) (now (special .entry)) (now (pc .entry)) (now (halt .entry)) marks mask)
+        (pairsOf (now (pairs .entry))) r (now (place .exit))
         (made (now (general .exit)) (now (special .exit)) (now (pc .exit)) (now (halt .exit)) marks mask) ⌝ }
 {
     let put = sets::put_set(general, special, halt, marks, mask, pairs, place);
