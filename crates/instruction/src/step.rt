@@ -98,7 +98,21 @@ fn by_key(
         opcode::SWYM => system::skip(pc),
         opcode::GET => registers::get_special(general, special, pc, halt, mask, x, z),
         opcode::TRIP => exceptions::trip_arm(general, special, pc, halt, marks, op, x, y, z),
-        _ => by_range(general, special, pc, halt, marks, mask, a, b, at, op, x, y, z),
+        _ => by_range(
+            general,
+            special,
+            pc,
+            halt,
+            marks,
+            mask,
+            a,
+            b,
+            at,
+            op,
+            x,
+            y,
+            z,
+        ),
     }
 }
 
@@ -134,7 +148,21 @@ pub(crate) fn dispatch(
         opcode::PUSHJ => target::near(*pc, op, y, z),
         opcode::PUSHJB => target::near(*pc, op, y, z),
         _ => {
-            return by_key(general, special, pc, halt, marks, mask, a, b, at, op, x, y, z);
+            return by_key(
+                general,
+                special,
+                pc,
+                halt,
+                marks,
+                mask,
+                a,
+                b,
+                at,
+                op,
+                x,
+                y,
+                z,
+            );
         }
     };
     calls::push_to(general, special, pc, a, b, at, x, target)
