@@ -87,10 +87,13 @@ pub fn admissible(special: &[u64; 32], marks: u64, mask: u64) -> bool
     false
 }
 
-/// Whether the mask hides special register k from programs; above 31 there is none.
+/// Whether the mask hides special register k from programs; above 31 there is none. An empty mask is asked for first: most are.
 pub fn is_hidden(mask: u64, k: u8) -> bool
     ensures { λ r. ⌜ r ≡ hides mask k ⌝ }
 {
+    if mask == 0 {
+        return false;
+    }
     if RZZ < k as u64 {
         return false;
     }

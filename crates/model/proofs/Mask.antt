@@ -8,7 +8,7 @@ use native.Mathlib.Decide.{ℕ-discrete, decLt}
 use native.Mathlib.Nat.{div-eq-of-lt}
 use lib.Dec.{leb, ltb, eqb}
 use lib.Bits.{bitAnd, and-step, and-shr, and-zero-l}
-use lib.Pow.{pow-mono, shr-shr}
+use lib.Pow.{pow-mono, shr-shr, pow-pos}
 use borrow.Author.Tests.{leb-true, eqb-true, eqb-false, eq-eqb, ne-eqb}
 use Rattle.model.specs.Registers.{rBB, rC, rN, rI, rT, rTT, rK, rQ, rU, rV, rF, rWW, rXX, rYY, rZZ, isOneOf, hideable, hideableBits, hides, admissible, masked}
 use Rattle.model.specs.Unseen.{isSet, MaskMeant}
@@ -53,6 +53,15 @@ unhideable m k e = rw e
 pub hides-above : (m k : ℕ) → 32 ≤ k → hides m k ≡ false
 hides-above m k l = unhideable m k (above-special k l)
 
+-- nor does an empty mask hide any
+pub unmasked : (m k : ℕ) → m ≡ 0 → hides m k ≡ false
+unfolding hides
+unmasked m k e = rw (e, div-eq-of-lt (pow-pos k)) (go (hideable k))
+  where
+    go : (b : Bool) → (b && false) ≡ false
+    go true = refl
+    go false = refl
+
 pub hidden-special : (m k : ℕ) → hides m k ≡ true → k ≤ 31
 unfolding hides
 hidden-special m k e = hideable-special k (and-left (hideable k) _ e)
@@ -86,15 +95,6 @@ bits-are k = go (decLt k 32)
         let p : 2 ^ 32 ≤ 2 ^ k = pow-mono {i = 32} {j = k} (omega arith) in
         let z : hideableBits / 2 ^ k ≡ 0 = div-eq-of-lt (omega arith) in
         ap (λ (n : ℕ). n % 2) z ∙ rw (above-special k (omega arith))
-
--- a mask hides k where its bit k is set once the other registers' bits are dropped: as code has it
-pub hides-by : (m k : ℕ) → eqb (bitAnd m hideableBits / 2 ^ k % 2) 1 ≡ hides m k
-unfolding hides
-hides-by m k = rw (and-bit m hideableBits k, bits-are k) (go (hideable k))
-  where
-    go : (h : Bool) → eqb (min (m / 2 ^ k % 2) (cond h 1 0)) 1 ≡ (h && eqb (m / 2 ^ k % 2) 1)
-    go true = ap (λ (n : ℕ). eqb n 1) (let e : min (m / 2 ^ k % 2) 1 ≡ m / 2 ^ k % 2 = omega arith in e)
-    go false = ap (λ (n : ℕ). eqb n 1) (let e : min (m / 2 ^ k % 2) 0 ≡ 0 = omega arith in e)
 
 -- each bit of a mask that passes is that of a register that may be hidden
 set-hideable : (m k : ℕ) → bitAnd m hideableBits ≡ m → isSet m k ≡ true → hideable k ≡ true
