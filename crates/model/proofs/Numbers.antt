@@ -11,7 +11,7 @@ use denote.Enum.Declared.{tagOf}
 use borrow.Author.Tests.{eqb-true}
 use Rattle.model.specs.Numbers.{Halting, numberOf, replyOf, Numbered}
 use Rattle.model.specs.declared.Reply.{Reply}
-use Rattle.model.specs.declared.Reply.the-variants.{Done, NotAdmissible, WindowRule, NoArm, NamedTrap, NoSpecial, Missing, PutUnknown, PutPrivileged, PutIllegal, PutThreshold, PutStatus, Misplaced, SaveLocal, SavedThreshold, SavedStatus, SavedCount, SyncPrivileged, SyncIllegal, NotLoaded, Trapped, OutOfReach, Shared, Across, NotFetched, GrantTooLarge, StoreTooShort, NoPoint, OtherPoint, NoFrame, TooManyPairs, Hidden}
+use Rattle.model.specs.declared.Reply.the-variants.{Done, NotAdmissible, WindowRule, NoArm, NamedTrap, NoSpecial, Missing, PutUnknown, PutPrivileged, PutIllegal, PutThreshold, PutStatus, Misplaced, SaveLocal, SavedThreshold, SavedStatus, SavedCount, SyncPrivileged, SyncIllegal, NotLoaded, Trapped, OutOfReach, Shared, Across, NotFetched, GrantTooLarge, StoreTooShort, NoPoint, OtherPoint, NoFrame, TooManyPairs, Hidden, Foreign, TasksRule}
 use Rattle.model.proofs.Reply.{the-type}
 use Rattle.model.proofs.Bools.{each, at-each}
 
@@ -49,13 +49,15 @@ there OtherPoint = refl
 there NoFrame = refl
 there TooManyPairs = refl
 there Hidden = refl
+there Foreign = refl
+there TasksRule = refl
 
-all : each 32 (λ n. eqb (numberOf (replyOf n)) n) ≡ true
+all : each 34 (λ n. eqb (numberOf (replyOf n)) n) ≡ true
 unfolding each numberOf replyOf
 all = refl
 
 pub numbered : Numbered
-numbered = record { reply-number = there; number-reply = λ n l. eqb-true (numberOf (replyOf n)) n (at-each 32 (λ k. eqb (numberOf (replyOf k)) k) all n (omega arith)) }
+numbered = record { reply-number = there; number-reply = λ n l. eqb-true (numberOf (replyOf n)) n (at-each 34 (λ k. eqb (numberOf (replyOf k)) k) all n (omega arith)) }
 
 -- 7 to 18, 29 and 31 alone halt
 pub unhalting : (n : ℕ) → (n ≤ 6) ⊎ ((19 ≤ n) × (n ≤ 28)) → Halting n → ⊥
@@ -66,7 +68,7 @@ unhalting n (inr l) (inl h) = omega arith
 unhalting n (inr l) (inr (inl h)) = let e : n ≡ 29 = h in omega arith
 unhalting n (inr l) (inr (inr h)) = let e : n ≡ 31 = h in omega arith
 
-among : (n k : ℕ) → k ≤ 31 → n ≡ k → n ≤ 31
+among : (n k : ℕ) → k ≤ 33 → n ≡ k → n ≤ 33
 among n k l e = omega arith
 
 -- a step's number is one of 0 to 20, 22, 29 or 31
@@ -87,16 +89,16 @@ run-number n h = numbered .number-reply n
     (⊎-elim (among n 29 (omega arith)) (among n 31 (omega arith)))))) h)
 
 -- a reply's tag is its number
-tags : each 32 (λ n. eqb (tagOf the-type (replyOf n)) n) ≡ true
+tags : each 34 (λ n. eqb (tagOf the-type (replyOf n)) n) ≡ true
 unfolding each replyOf
 tags = refl
 
-pub tag-is : (n : ℕ) (r : Reply) → n ≤ 31 → r ≡ replyOf n → tagOf the-type r ≡ n
-tag-is n r h e = ap (tagOf the-type) e ∙ eqb-true (tagOf the-type (replyOf n)) n (at-each 32 (λ k. eqb (tagOf the-type (replyOf k)) k) tags n (omega arith))
+pub tag-is : (n : ℕ) (r : Reply) → n ≤ 33 → r ≡ replyOf n → tagOf the-type r ≡ n
+tag-is n r h e = ap (tagOf the-type) e ∙ eqb-true (tagOf the-type (replyOf n)) n (at-each 34 (λ k. eqb (tagOf the-type (replyOf k)) k) tags n (omega arith))
 
 -- the tags that are not Done's
 abbrev pub refusals : List ℕ
-refusals = 1 ∷ 2 ∷ 3 ∷ 4 ∷ 5 ∷ 6 ∷ 7 ∷ 8 ∷ 9 ∷ 10 ∷ 11 ∷ 12 ∷ 13 ∷ 14 ∷ 15 ∷ 16 ∷ 17 ∷ 18 ∷ 19 ∷ 20 ∷ 21 ∷ 22 ∷ 23 ∷ 24 ∷ 25 ∷ 26 ∷ 27 ∷ 28 ∷ 29 ∷ 30 ∷ 31 ∷ []
+refusals = 1 ∷ 2 ∷ 3 ∷ 4 ∷ 5 ∷ 6 ∷ 7 ∷ 8 ∷ 9 ∷ 10 ∷ 11 ∷ 12 ∷ 13 ∷ 14 ∷ 15 ∷ 16 ∷ 17 ∷ 18 ∷ 19 ∷ 20 ∷ 21 ∷ 22 ∷ 23 ∷ 24 ∷ 25 ∷ 26 ∷ 27 ∷ 28 ∷ 29 ∷ 30 ∷ 31 ∷ 32 ∷ 33 ∷ []
 
 pub not-done : (n : ℕ) → OneOf refusals n → n ≡ 0 → ⊥
 not-done n h e = miss refusals 0 tt (rw e at h)

@@ -5,11 +5,12 @@ use mathlib.Core.Logic.{_⊎_}
 use mathlib.Core.List.{[], _∷_}
 use lib.ListN.{getD}
 use Rattle.model.specs.declared.Reply.{Reply}
-use Rattle.model.specs.declared.Reply.the-variants.{Done, NotAdmissible, WindowRule, NoArm, NamedTrap, NoSpecial, Missing, PutUnknown, PutPrivileged, PutIllegal, PutThreshold, PutStatus, Misplaced, SaveLocal, SavedThreshold, SavedStatus, SavedCount, SyncPrivileged, SyncIllegal, NotLoaded, Trapped, OutOfReach, Shared, Across, NotFetched, GrantTooLarge, StoreTooShort, NoPoint, OtherPoint, NoFrame, TooManyPairs, Hidden}
+use Rattle.model.specs.declared.Reply.the-variants.{Done, NotAdmissible, WindowRule, NoArm, NamedTrap, NoSpecial, Missing, PutUnknown, PutPrivileged, PutIllegal, PutThreshold, PutStatus, Misplaced, SaveLocal, SavedThreshold, SavedStatus, SavedCount, SyncPrivileged, SyncIllegal, NotLoaded, Trapped, OutOfReach, Shared, Across, NotFetched, GrantTooLarge, StoreTooShort, NoPoint, OtherPoint, NoFrame, TooManyPairs, Hidden, Foreign, TasksRule}
 
 -- what the numbers leave, by kind: judged before an octabyte is asked for, nothing changes; a needed octabyte that is not there, nothing
 -- changes; "halt code 1 only". 19 and 20 have kinds of their own; 21 and 23 are no step's, and there is no state that they could change;
--- 25 is a run's, which it refuses whole; 26 to 28 are those of points to return to and 30 that of a set of pairs, and leave every byte
+-- 25 is a run's, which it refuses whole; 26 to 28 are those of points to return to and 30 that of a set of pairs, and leave every byte;
+-- 32 is that of a task's instruction, which it leaves undone, and 33 that of a call of several tasks, which it refuses whole
 abbrev pub Early : ℕ → Type 0
 Early n = ((1 ≤ n) × (n ≤ 5)) ⊎ (n ≡ 22)
 
@@ -56,15 +57,17 @@ numberOf OtherPoint = 28
 numberOf NoFrame = 29
 numberOf TooManyPairs = 30
 numberOf Hidden = 31
+numberOf Foreign = 32
+numberOf TasksRule = 33
 
 unfoldable pub replyOf : ℕ → Reply
 replyOf n = getD (Done ∷ NotAdmissible ∷ WindowRule ∷ NoArm ∷ NamedTrap ∷ NoSpecial ∷ Missing
     ∷ PutUnknown ∷ PutPrivileged ∷ PutIllegal ∷ PutThreshold ∷ PutStatus ∷ Misplaced
     ∷ SaveLocal ∷ SavedThreshold ∷ SavedStatus ∷ SavedCount ∷ SyncPrivileged ∷ SyncIllegal ∷ NotLoaded ∷ Trapped
     ∷ OutOfReach ∷ Shared ∷ Across ∷ NotFetched ∷ GrantTooLarge ∷ StoreTooShort ∷ NoPoint ∷ OtherPoint ∷ NoFrame
-    ∷ TooManyPairs ∷ Hidden ∷ []) n Done
+    ∷ TooManyPairs ∷ Hidden ∷ Foreign ∷ TasksRule ∷ []) n Done
 
--- the two are inverse on 0 to 31
+-- the two are inverse on 0 to 33
 pub record Numbered : Type 0 where
   pub reply-number : (r : Reply) → replyOf (numberOf r) ≡ r
-  pub number-reply : (n : ℕ) → n ≤ 31 → numberOf (replyOf n) ≡ n
+  pub number-reply : (n : ℕ) → n ≤ 33 → numberOf (replyOf n) ≡ n

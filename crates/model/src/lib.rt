@@ -69,6 +69,11 @@ pub enum Reply {
     TooManyPairs,
     // GET or PUT of a hidden register: judged after 5 for GET and before 7 for PUT, and sets the halt code to 1.
     Hidden,
+    // Of several tasks. An octabyte that a task's instruction needs, or its tetra, lies in B outside the task's own part: judged just before 6 or 24,
+    // and leaves everything as it was.
+    Foreign,
+    // Not 1 to 8 tasks, parts that overlap, leave the window or split an octabyte, or instructions a turn not 1 to 1,000: judged after 25; the call is refused whole.
+    TasksRule,
 }
 
 /// An octabyte that was read, and which window holds it: 0 for A, 1 for B, 2 for neither.

@@ -41,6 +41,8 @@ pub fn number_of(reply: Reply) -> u64
         Reply::NoFrame => 29,
         Reply::TooManyPairs => 30,
         Reply::Hidden => 31,
+        Reply::Foreign => 32,
+        Reply::TasksRule => 33,
     }
 }
 

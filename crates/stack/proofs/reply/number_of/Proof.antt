@@ -101,6 +101,12 @@ enum-told-31 c = search needs
 enum-told-32 : tie.Need-enum-told-32
 enum-told-32 c = search needs
 
+enum-told-33 : tie.Need-enum-told-33
+enum-told-33 c = search needs
+
+enum-told-34 : tie.Need-enum-told-34
+enum-told-34 c = search needs
+
 returns : tie.Need-returns
 unfolding numberOf
 returns c = sym (ap numberOf (c .enum-told .given .1))
@@ -229,6 +235,14 @@ returns-32 : tie.Need-returns-32
 unfolding numberOf
 returns-32 c = sym (ap numberOf (c .enum-told32 .given .1))
 
+returns-33 : tie.Need-returns-33
+unfolding numberOf
+returns-33 c = sym (ap numberOf (c .enum-told33 .given .1))
+
+returns-34 : tie.Need-returns-34
+unfolding numberOf
+returns-34 c = sym (ap numberOf (c .enum-told34 .given .1))
+
 pub number-of-spec : {M : Type 1} → statement M
 number-of-spec =
     tie.close
@@ -265,6 +279,8 @@ number-of-spec =
     enum-told-30
     enum-told-31
     enum-told-32
+    enum-told-33
+    enum-told-34
     returns
     returns-2
     returns-3
@@ -296,4 +312,6 @@ number-of-spec =
     returns-29
     returns-30
     returns-31
-    returns-32)
+    returns-32
+    returns-33
+    returns-34)

@@ -1,0 +1,6 @@
+-- Several tasks on one machine, in the order in which to read it: definitions, then what is claimed of them; proofs/ has the proofs.
+pub mod Tasks
+pub mod Schedule
+pub mod Call
+pub mod TaskDemand
+pub mod TasksMeant

@@ -1,0 +1,1 @@
+//! Several tasks on one machine: no code, only definitions and the theorems over them.
