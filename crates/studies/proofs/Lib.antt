@@ -1,0 +1,4 @@
+pub mod Schedule
+pub mod Waits
+pub mod Ends
+pub mod SameCall
