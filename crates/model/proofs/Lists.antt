@@ -21,6 +21,17 @@ module _ {M Sh S I : Type 0} (st : Store M Sh) (mc : Machine S I Sh) where
     pub state-same : o .state ≡ p .state
     pub memory-same : Agree st F (o .memory) (p .memory)
 
+  -- one list after another
+  pub runs-append : (is js : List I) (s : S) (m : M) → runs st mc s m (is ++ js)
+      ≡ (let r : Ran S M = runs st mc s m is in
+      let t : Ran S M = runs st mc (r .state) (r .memory) js in
+      record { answers = r .answers ++ t .answers; state = t .state; memory = t .memory })
+  unfolding runs
+  runs-append [] js s m = refl
+  runs-append (i ∷ is) js s m =
+      ap (λ (r : Ran S M). record { answers = stepOn st mc s m i .reply ∷ r .answers; state = r .state; memory = r .memory })
+      (runs-append is js (stepOn st mc s m i .state) (stepOn st mc s m i .memory))
+
   -- what holds of one reading of the needs holds of another, step by step and so for a list
   pub by-reading : (P : ℕ → Type 0) (f g : S → M → I → List ℕ) → ((s : S) (m : M) (i : I) → All P (f s m i) → All P (g s m i))
       → (is : List I) (s : S) (m : M) → All P (runNeedsBy st mc f s m is) → All P (runNeedsBy st mc g s m is)

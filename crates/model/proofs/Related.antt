@@ -6,7 +6,7 @@ use Prim.Native.Nat.{ℕ, zero, suc, _+_}
 use lib.Dec.{eqb}
 use lib.ListN.{length}
 use Rattle.model.specs.Memory.{Store}
-use Rattle.model.specs.Plan.{Plan, answer, read, Outcome, perform, clear, looks}
+use Rattle.model.specs.Plan.{Plan, answer, read, Outcome, mapPlan, perform, clear, looks}
 use Rattle.model.specs.Lists.{Machine, Ran, stepOn, runs}
 use Rattle.model.specs.Run.{Stopped, more, stoppedBy, runFor}
 use Rattle.model.proofs.Bools.{on-both}
@@ -16,6 +16,15 @@ Related R (answer r s a vs) (answer r' t a' vs') = (r ≡ r') × R s t × (a ≡
 Related R (answer r s a vs) (read q b n k) = ⊥
 Related R (read q b n k) (answer r s a vs) = ⊥
 Related R (read q a n k) (read q' a' n' k') = (q ≡ q') × (a ≡ a') × (n ≡ n') × ((vs : List ℕ) → Related R (k vs) (k' vs))
+
+-- under two maps that lead related states to related ones
+pub related-map : {S T : Type 0} (R : S → S → Type 0) (Q : T → T → Type 0) (f g : S → T) → ((s t : S) → R s t → Q (f s) (g t))
+    → (p q : Plan S) → Related R p q → Related Q (mapPlan f p) (mapPlan g q)
+unfolding Related mapPlan
+related-map R Q f g h (answer r s a vs) (answer r' t a' vs') x = (x .0, h s t (x .1), x .2, x .3)
+related-map R Q f g h (answer r s a vs) (read q b n k) x = absurd x
+related-map R Q f g h (read q b n k) (answer r s a vs) x = absurd x
+related-map R Q f g h (read q a n k) (read q' a' n' k') x = (x .0, x .1, x .2, λ vs. related-map R Q f g h (k vs) (k' vs) (x .3 vs))
 
 module _ {M Sh S : Type 0} (st : Store M Sh) (R : S → S → Type 0) where
   pub record RelatedOutcome (o p : Outcome S M) : Type 0 where

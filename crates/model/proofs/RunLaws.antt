@@ -3,15 +3,17 @@ use mathlib.Core.Path.{_≡_, refl, ap, _∙_}
 use mathlib.Core.Logic.{_≢_}
 use mathlib.Core.Bool.{Bool, true, false, cond}
 use mathlib.Core.List.{List, [], _∷_, _++_}
-use Prim.Native.Nat.{ℕ, zero, suc, _+_, _<_}
+use Prim.Native.Nat.{ℕ, zero, suc, _+_, _≤_, _<_}
 use native.Mathlib.Omega.{arith}
+use native.Mathlib.Decide.{ℕ-discrete}
 use lib.Dec.{eqb}
 use lib.ListN.{replicate}
 use borrow.Author.Tests.{eqb-true, eqb-false, ne-eqb}
 use Rattle.model.specs.Memory.{Store}
+use Rattle.model.specs.Plan.{mapOutcome}
 use Rattle.model.specs.Lists.{Machine, stepOn, runs}
 use Rattle.model.specs.Run.{Stopped, more, stoppedBy, runFor, tried}
-use Rattle.model.proofs.Bools.{on}
+use Rattle.model.proofs.Bools.{on, on-both}
 
 module _ {M Sh S I : Type 0} (st : Store M Sh) (mc : Machine S I Sh) (i : I) where
   abbrev run : ℕ → S → M → Stopped S M
@@ -58,6 +60,13 @@ module _ {M Sh S I : Type 0} (st : Store M Sh) (mc : Machine S I Sh) (i : I) whe
       on {A = Stopped S M} (λ r. r .reply ≢ 0 → r .done < suc g) (eqb (stepOn st mc s m i .reply) 0)
       (λ b f. let d : run g (stepOn st mc s m i .state) (stepOn st mc s m i .memory) .done < g = run-stops g (stepOn st mc s m i .state) (stepOn st mc s m i .memory) f in omega arith)
       (λ b f. omega arith)
+
+  pub run-most : (g : ℕ) (s : S) (m : M) → run g s m .done ≤ g
+  run-most g s m = go (ℕ-discrete (run g s m .reply) 0)
+    where
+      go : Dec (run g s m .reply ≡ 0) → run g s m .done ≤ g
+      go (yes e) = let d : run g s m .done ≡ g = run-spent g s m e in omega arith
+      go (no e) = let d : run g s m .done < g = run-stops g s m e in omega arith
 
   -- a run that is refused: the state and memory that its count reached, and the item that is refused there
   pub record Last (s : S) (m : M) (r : Stopped S M) : Type 0 where
@@ -154,3 +163,19 @@ module _ {M Sh S I : Type 0} (st : Store M Sh) (mc : Machine S I Sh) (i : I) whe
     where
       once : eqb (stepOn st mc s m i .reply) 0 ≡ false → IsList s m (stoppedBy (stepOn st mc s m i))
       once b = record { answers-are = rw b (unfold runs in refl); state-is = rw b (unfold runs in refl); memory-is = rw b (unfold runs in refl) }
+
+-- ---- runs under a map
+
+-- the same end, with f of the state
+abbrev pub mapStopped : {S T M : Type 0} → (S → T) → Stopped S M → Stopped T M
+mapStopped f r = record { done = r .done; reply = r .reply; state = f (r .state); memory = r .memory }
+
+-- an item j that does on f s what i does on s: so do its runs
+pub run-map : {M Sh S T I J : Type 0} (st : Store M Sh) (mc : Machine S I Sh) (md : Machine T J Sh) (i : I) (j : J) (f : S → T)
+    → ((s : S) (m : M) → stepOn st md (f s) m j ≡ mapOutcome f (stepOn st mc s m i))
+    → (g : ℕ) (s : S) (m : M) → runFor st md j g (f s) m ≡ mapStopped f (runFor st mc i g s m)
+unfolding runFor mapOutcome
+run-map st mc md i j f same zero s m = refl
+run-map {M} {Sh} {S} {T} st mc md i j f same (suc g) s m =
+    rw (same s m) (on-both {A = Stopped T M} {B = Stopped S M} (λ x y. x ≡ mapStopped f y) (eqb (stepOn st mc s m i .reply) 0)
+    (λ e. ap (more 1) (run-map st mc md i j f same g (stepOn st mc s m i .state) (stepOn st mc s m i .memory))) (λ e. refl))

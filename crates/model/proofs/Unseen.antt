@@ -59,7 +59,7 @@ module _ (m : ℕ) where
       by-test (Related R) (admissible s) (admissible t) (admissible-same m s t h)
       (λ e. on-both (Related R) (eqb (unruledBy w) 0) (λ f. x) (λ f. unfold Related in (refl, h, refl, refl))) (λ e. unfold Related in (refl, h, refl, refl))
 
-  item-seen : (s t : State) (w : Shapes) (i : Item) → R s t → Related R (itemPlan s w i) (itemPlan t w i)
+  pub item-seen : (s t : State) (w : Shapes) (i : Item) → R s t → Related R (itemPlan s w i) (itemPlan t w i)
   unfolding itemPlan stepPlan fetchedPlan
   item-seen s t w (step op x y z) h = guarded-seen s t w _ _ h (three-seen s t (armOf op) op x y z h)
   item-seen s t w (exception f op x y z u v) h = tells m _ _ (exception-seen m s t f op x y z u v h)

@@ -1,5 +1,5 @@
 -- A call ends: each round spends something or stops a task. What is left is what was not done; and only the n tasks have turns.
-use mathlib.Core.Path.{_≡_, refl, sym, ap, _∙_}
+use mathlib.Core.Path.{_≡_, refl, ap, _∙_}
 use mathlib.Core.Logic.{_≢_}
 use mathlib.Core.Bool.{Bool, true, false, cond, not, _&&_, _||_}
 use mathlib.Core.List.{List, [], _∷_}
@@ -7,7 +7,7 @@ use Prim.Native.Nat.{ℕ, zero, suc, _+_, _-_, _≤_, _<_, min}
 use native.Mathlib.Omega.{arith}
 use native.Mathlib.Decide.{ℕ-discrete}
 use lib.Dec.{eqb, ltb}
-use borrow.Author.Tests.{eqb-true, eq-eqb, ne-eqb, ltb-true, lt-ltb, le-ltb}
+use borrow.Author.Tests.{eq-eqb, ne-eqb, ltb-true, lt-ltb, le-ltb}
 use Rattle.model.specs.Run.{Stopped}
 use Rattle.model.proofs.Bools.{on}
 use Rattle.studies.specs.Schedule.{Given, countBy, refusalBy, running, anyRuns, totalOf, Desk, gave, turnOf, turnsFrom, isOver, rounds, opened, callBy, Runs, Scheduled}

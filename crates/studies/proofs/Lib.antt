@@ -1,4 +1,11 @@
 pub mod Schedule
 pub mod Waits
 pub mod Ends
+pub mod Counts
 pub mod SameCall
+pub mod Turns
+pub mod Parts
+pub mod CallOrder
+pub mod Listed
+pub mod TasksUnseen
+pub mod TasksMeant

@@ -1,14 +1,14 @@
 -- Two schedules side by side, of containers of states that are related: where each turn does the same on both, the two calls give the same turns.
 use mathlib.Core.Path.{_≡_, refl, ap}
 use mathlib.Core.Bool.{not, _&&_}
-use mathlib.Core.List.{List, [], _∷_}
+use mathlib.Core.List.{_∷_}
 use Prim.Native.Nat.{ℕ, zero, suc, _+_, _-_, _≤_, _<_, min}
 use native.Mathlib.Omega.{arith}
 use lib.Dec.{ltb}
 use Rattle.model.specs.Run.{Stopped}
 use Rattle.model.proofs.Bools.{on-both}
 use Rattle.model.proofs.SeenArms.{by-test}
-use Rattle.studies.specs.Schedule.{Given, running, anyRuns, Desk, gave, turnOf, turnsFrom, isOver, rounds, opened, callBy}
+use Rattle.studies.specs.Schedule.{running, anyRuns, Desk, gave, turnOf, turnsFrom, isOver, rounds, opened, callBy}
 
 module _ {C D M : Type 0} (R : C → D → M → Type 0) where
   pub record SameStop (a : Stopped C M) (b : Stopped D M) : Type 0 where
