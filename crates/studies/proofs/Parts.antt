@@ -38,7 +38,11 @@ pub is-owned : (p : Own) (d : ℕ) → p .start ≤ d → d < p .start + p .size
 unfolding owns
 is-owned p d a b = rw (le-leb _ _ a, lt-ltb _ _ b)
 
-begins-not : (p r : Own) → (ltb 0 (r .size) && owns p (r .start)) ≡ false → p .start ≤ r .start → r .start < p .start + p .size → 0 < r .size → ⊥
+-- r is not empty, and its first byte lies in p
+abbrev begins : Own → Own → Bool
+begins p r = ltb 0 (r .size) && owns p (r .start)
+
+begins-not : (p r : Own) → begins p r ≡ false → p .start ≤ r .start → r .start < p .start + p .size → 0 < r .size → ⊥
 begins-not p r e a b c = let o : _≡_ {A = ℕ} 0 1 = cc (is-owned p (r .start) a b, lt-ltb 0 (r .size) c, e) in omega arith
 
 pub apart : (p r : Own) → overlaps p r ≡ false → (d : ℕ) → owns p d ≡ true → owns r d ≡ true → ⊥
@@ -52,35 +56,35 @@ apart p r e d f g = go (decLt (p .start) (r .start))
     b = owns-is r d g
 
     go : Dec (p .start < r .start) → ⊥
-    go (yes l) = begins-not p r (or-left (ltb 0 (r .size) && owns p (r .start)) (ltb 0 (p .size) && owns r (p .start)) e) (omega arith) (omega (arith, a .1, b .0)) (omega (arith, b .0, b .1))
-    go (no l) = begins-not r p (or-right (ltb 0 (r .size) && owns p (r .start)) (ltb 0 (p .size) && owns r (p .start)) e) (omega arith) (omega (arith, a .0, b .1)) (omega (arith, a .0, a .1))
+    go (yes l) = begins-not p r (or-left (begins p r) (begins r p) e) (omega arith) (omega (arith, a .1, b .0)) (omega (arith, b .0, b .1))
+    go (no l) = begins-not r p (or-right (begins p r) (begins r p) e) (omega arith) (omega (arith, a .0, b .1)) (omega (arith, a .0, a .1))
 
-first-in : (p r : Own) → (ltb 0 (r .size) && owns p (r .start)) ≡ true → (owns p (r .start) ≡ true) × (owns r (r .start) ≡ true)
+first-in : (p r : Own) → begins p r ≡ true → (owns p (r .start) ≡ true) × (owns r (r .start) ≡ true)
 first-in p r e =
     let l : 0 < r .size = ltb-true _ _ (and-left (ltb 0 (r .size)) _ e) in
     (and-right (ltb 0 (r .size)) _ e, is-owned r (r .start) (omega arith) (omega arith))
 
 pub common : (p r : Own) → overlaps p r ≡ true → ((owns p (r .start) ≡ true) × (owns r (r .start) ≡ true)) ⊎ ((owns p (p .start) ≡ true) × (owns r (p .start) ≡ true))
 unfolding overlaps
-common p r = go (ltb 0 (r .size) && owns p (r .start)) refl
+common p r = go (begins p r) refl
   where
-    go : (b : Bool) → (ltb 0 (r .size) && owns p (r .start)) ≡ b → (b || (ltb 0 (p .size) && owns r (p .start))) ≡ true
+    go : (b : Bool) → begins p r ≡ b → (b || begins r p) ≡ true
         → ((owns p (r .start) ≡ true) × (owns r (r .start) ≡ true)) ⊎ ((owns p (p .start) ≡ true) × (owns r (p .start) ≡ true))
     go true e h = inl (first-in p r e)
     go false e h = let f : (owns r (p .start) ≡ true) × (owns p (p .start) ≡ true) = first-in r p h in inr (f .1, f .0)
 
 overlaps-swap : (p r : Own) → overlaps p r ≡ false → overlaps r p ≡ false
 unfolding overlaps
-overlaps-swap p r e = rw (or-left (ltb 0 (r .size) && owns p (r .start)) _ e, or-right (ltb 0 (r .size) && owns p (r .start)) _ e)
+overlaps-swap p r e = rw (or-left (begins p r) _ e, or-right (begins p r) _ e)
 
 -- ---- a call that 33 does not refuse
 
-pub record CallRuled (b : ℕ) (ns : List ℕ) (q : ℕ) : Type 0 where
+pub record CallRuled (ns : List ℕ) (q : ℕ) : Type 0 where
   pub tasks-few : tasksIn ns ≤ 8
   pub turn-some : 1 ≤ q
   pub clear : (k : ℕ) → k < tasksIn ns → partClear ns k ≡ true
 
-pub call-ruled : (b : ℕ) (ns : List ℕ) (q : ℕ) → tasksRuled b ns q ≡ true → CallRuled b ns q
+pub call-ruled : (b : ℕ) (ns : List ℕ) (q : ℕ) → tasksRuled b ns q ≡ true → CallRuled ns q
 unfolding tasksRuled
 call-ruled b ns q e =
     let r : ((leb 1 (tasksIn ns) && leb (tasksIn ns) 8) && ((leb 1 q && leb q turnMost)

@@ -52,7 +52,7 @@ call-scheduled ns q = scheduled (turnRun ns) (tasksIn ns) q (turns-known ns (tas
 -- ---- the total
 
 module _ (w : Windows) (ss : List State) (ns : List ℕ) (q grant : ℕ) where
-  rules : TasksPass w ss ns q grant → CallRuled (shapesOf w .b .size) ns q
+  rules : TasksPass w ss ns q grant → CallRuled ns q
   rules p = call-ruled (shapesOf w .b .size) ns q (p .tasks-ruled)
 
   spent : TasksPass w ss ns q grant → sumOf (tab 0 tasksMost (λ k. countBy k (callOf w ss ns q grant .given))) + callOf w ss ns q grant .left ≡ grant
