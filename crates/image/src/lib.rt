@@ -1,7 +1,8 @@
 //! The state image: 292 octabytes, high byte first; an old one has no mask, and 291.
 
 ghost use mathlib.Core.Path.{_≡_};
-ghost use mathlib.Core.Bool.{true, cond};
+ghost use mathlib.Core.Bool.{true, cond, _&&_};
+ghost use Rattle.model.specs.Registers.{admissible};
 ghost use Rattle.model.specs.Parts.{made};
 ghost use Rattle.image.specs.Image.{stateOf, isImage, hasRoom, imageAs, storedIn, Decoded, Encoded};
 use model::State;
@@ -110,6 +111,19 @@ pub fn load_state(image: &[u8], general: &mut [u64; 256], special: &mut [u64; 32
         };
     }
     load_parts(image, general, special)
+}
+
+/// Whether bytes are the image of an admissible state.
+pub fn is_admissible(image: &[u8]) -> bool
+    ensures { λ r. ⌜ r ≡ isImage (now (image .entry)) && admissible (stateOf (now (image .entry))) ⌝ }
+{
+    if !is_image(image) {
+        return false;
+    }
+    let mut general = [0u64; 256];
+    let mut special = [0u64; 32];
+    let rest = load_state(image, &mut general, &mut special);
+    machine::registers::admissible(&special, rest.marks, rest.mask)
 }
 
 /// The image becomes that of a state in parts; where it has no room for it, it is left as it was.

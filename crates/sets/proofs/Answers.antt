@@ -41,7 +41,7 @@ module _ (s : State) (ps : List Pair) where
   too-many e h = by s ps (setSays 30 0 s) (set-thirty s ps e h)
 
   module _ (n : Sized s) (e : admissible s ≡ true) (h : length ps ≤ pairsMax) (r : Reply) (f : r ≡ replyOf (judgePairs (sp s rL) 0 ps .reply)) where
-    most : judgePairs (sp s rL) 0 ps .reply ≤ 31
+    most : judgePairs (sp s rL) 0 ps .reply ≤ 33
     most = let m = judge-most ps (sp s rL) 0 in omega arith
 
     number : numberOf r ≡ judgePairs (sp s rL) 0 ps .reply

@@ -63,7 +63,7 @@ unfolding refusalAt withSpecial fresh
 judged-at l p r f = f (withSpecial fresh rL l) refl
 
 module _ (l : ℕ) (p : Pair) (r : Reply) (e : r ≡ replyOf (refusalAt l p)) where
-  at-most : refusalAt l p ≤ 31
+  at-most : refusalAt l p ≤ 33
   unfolding refusalAt
   at-most = let h = put-most (withSpecial fresh rL l) (p .register) (p .value) in omega arith
 

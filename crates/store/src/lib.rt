@@ -19,7 +19,7 @@ pub fn take(at: Bases, name: u64, image: &[u8], a: &[u8], b: &[u8], store: &mut 
     ensures { λ r. ⌜ Took (now (store .entry)) name (pointIn (now (image .entry)) (at .a) (at .b) (now (a .entry)) (now (b .entry))) (numberOf r)
         (now (store .exit)) ⌝ }
 {
-    if !room::is_admissible(image) {
+    if !image::is_admissible(image) {
         return Reply::NotAdmissible;
     }
     let number = machine::memory::windows_refusal(a, b, at);

@@ -1,14 +1,11 @@
 // A point's room: filled from an image and two windows, judged, and read back. Bytes are copied, not decoded.
 ghost use mathlib.Core.Path.{_≡_};
-ghost use mathlib.Core.Bool.{_&&_};
 ghost use Prim.Native.Nat.{_+_, _*_, _/_, _≤_, _<_};
 ghost use lib.ListN.{length};
-ghost use lib.Dec.{eqb};
 ghost use Rattle.model.specs.Octa.{part, written, valueOf};
 ghost use Rattle.model.specs.Memory.{windowMax};
-ghost use Rattle.model.specs.Registers.{admissible};
 ghost use Rattle.model.specs.Kept.{imageLength, oldImageLength, octasOf, pointIn, full};
-ghost use Rattle.image.specs.Image.{isImage, hasRoom, stateOf};
+ghost use Rattle.image.specs.Image.{hasRoom};
 ghost use Rattle.store.specs.Store.{aAt, bAt, roomLength, numberAt, isTaken, filled, maskIn, suits};
 use image::IMAGE_LEN;
 use image::OLD_IMAGE_LEN;
@@ -95,19 +92,6 @@ pub(crate) fn is_taken(room: &[u8]) -> bool
     true
 }
 
-/// Whether bytes are the image of an admissible state.
-pub(crate) fn is_admissible(image: &[u8]) -> bool
-    ensures { λ r. ⌜ r ≡ isImage (now (image .entry)) && admissible (stateOf (now (image .entry))) ⌝ }
-{
-    if !image::is_image(image) {
-        return false;
-    }
-    let mut general = [0u64; 256];
-    let mut special = [0u64; 32];
-    let rest = image::load_state(image, &mut general, &mut special);
-    machine::registers::admissible(&special, rest.marks, rest.mask)
-}
-
 /// Whether the room's point has the bases and lengths that are lent, and an admissible state.
 pub(crate) fn suits(room: &[u8], at: Bases, a: &[u8], b: &[u8]) -> bool
     requires { ⌜ length (now room) ≡ roomLength ⌝ }
@@ -125,7 +109,7 @@ pub(crate) fn suits(room: &[u8], at: Bases, a: &[u8], b: &[u8]) -> bool
     if number(room, 3) != (b.len() / 8) as u64 {
         return false;
     }
-    is_admissible(&room[0..IMAGE_LEN])
+    image::is_admissible(&room[0..IMAGE_LEN])
 }
 
 /// Whether an image has room for the mask of the room's point.

@@ -12,6 +12,7 @@ use borrow.Author.Tests.{not-true, leb-true, ltb-true, le-leb, lt-ltb}
 use Rattle.model.proofs.Bools.{and-left, and-right, or-left, or-right, each, at-each}
 use Rattle.studies.specs.Tasks.{Own, owns}
 use Rattle.studies.specs.Call.{tasksIn, partAt, eachBelow, partRuled, overlaps, partClear, turnMost, tasksRuled}
+use Rattle.studies.specs.TasksMeant.{PartsMeant}
 
 -- ---- a test at each number below n
 
@@ -109,3 +110,6 @@ each-apart b ns q e j k l m n = go (decLt j k)
     go : Dec (j < k) → overlaps (partAt ns j) (partAt ns k) ≡ false
     go (yes h) = before b ns q e j k h m
     go (no h) = overlaps-swap (partAt ns k) (partAt ns j) (before b ns q e k j (omega (arith, n)) l)
+
+pub parts-meant : PartsMeant
+parts-meant = record { apart = apart; common = common; each-apart = each-apart }

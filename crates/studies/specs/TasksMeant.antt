@@ -72,7 +72,7 @@ pub record TasksInOrder : Type 0 where
 pub record PartsMeant : Type 0 where
   -- parts that do not overlap have no byte in common, and those that do have one
   pub apart : (p r : Own) → overlaps p r ≡ false → (d : ℕ) → owns p d ≡ true → owns r d ≡ true → ⊥
-  pub common : (p r : Own) → overlaps p r ≡ true → (owns p (r .start) ≡ true) × (owns r (r .start) ≡ true) ⊎ (owns p (p .start) ≡ true) × (owns r (p .start) ≡ true)
+  pub common : (p r : Own) → overlaps p r ≡ true → ((owns p (r .start) ≡ true) × (owns r (r .start) ≡ true)) ⊎ ((owns p (p .start) ≡ true) × (owns r (p .start) ≡ true))
   -- of a call that 33 does not refuse
   pub each-apart : (b : ℕ) (ns : List ℕ) (q : ℕ) → tasksRuled b ns q ≡ true → (j k : ℕ) → j < tasksIn ns → k < tasksIn ns → j ≢ k
       → overlaps (partAt ns j) (partAt ns k) ≡ false

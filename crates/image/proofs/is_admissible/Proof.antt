@@ -3,11 +3,11 @@ use mathlib.Core.Path.{ap, sym, _∙_}
 use mathlib.Core.Bool.{Bool, _&&_}
 use Rattle.model.specs.Registers.{admissible}
 use Rattle.model.proofs.Bools.{denied, granted}
 use Rattle.image.specs.Image.{stateOf}
 use Rattle.image.proofs.Coded.{of-image}
 use borrow.Author.Needs.{needs}
-use Rattle.store.proofs.room.is_admissible.Statement.{statement}
-use Rattle.store.proofs.room.is_admissible.Tie as tie
+use Rattle.image.proofs.is_admissible.Statement.{statement}
+use Rattle.image.proofs.is_admissible.Tie as tie
 
 is-image-requires : tie.Need-is-image-requires
 is-image-requires c κs = search needs
