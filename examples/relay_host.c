@@ -1,7 +1,7 @@
 /* A relay host. It keeps the direction of feed in a local of the caller, calls the feed routine some levels deep, parks the
  * whole context while a case is worked, comes back, and shows that the direction is as it was. Its curves and texts live low
  * in memory, in window A, and the calls' stack in window B. It loads a study's registers in one call, hides the kernel's from
- * it, takes a point, tries an alternative and returns to it. On the way it meets what a host meets: a curve kept in A, a trip, a system call to serve, a
+ * it, takes a point, tries an alternative and returns to it, and runs eight studies by turns. On the way it meets what a host meets: a curve kept in A, a trip, a system call to serve, a
  * halt, a jump to patch, a window too small, windows that share, steps in place.
  *
  *     make host
@@ -275,6 +275,65 @@ static void patch_a_jump(void)
     refused("a branch to patch", mmix_branch_field(to, to + 4 * UINT64_C(65536), &backward, &field), MMIX_OUT_OF_REACH);
 }
 
+/* Eight studies on one machine: the program, in A, sums the margins 1 to $0 of a study by a routine that calls itself, and each study has its
+ * calls' stack in a part of B. One study goes too deep and asks for its neighbour's part: it is stopped, and the others are not touched. */
+static void run_eight_studies(void)
+{
+    enum { STUDIES = MMIX_TASKS_MAX, PROGRAM_AT = 0x600, PART_LEN = 256, TURN = 5, GRANT = 1000 };
+    static const uint8_t program[] = {
+        MMIX_OP_ADDUI, 2, 0, 0,            /* 600: the routine's argument */
+        MMIX_OP_PUSHJ, 1, 0, 2,            /* 604: $0 is kept below the hole */
+        MMIX_OP_TRAP, 0, 0, 0,             /* 608: Halt, the host's */
+        MMIX_OP_BZ, 0, 0, 6,               /* 60c: the sum up to 0 is 0 */
+        MMIX_OP_GET, 1, 0, MMIX_RJ,
+        MMIX_OP_SUBUI, 3, 0, 1,
+        MMIX_OP_PUSHJB, 2, 0xFF, 0xFD,     /* 618: the sum up to $0 - 1 */
+        MMIX_OP_PUT, MMIX_RJ, 0, 1,
+        MMIX_OP_ADDU, 0, 0, 2,
+        MMIX_OP_POP, 1, 0, 0               /* 624 */
+    };
+    static const uint64_t margins[STUDIES] = { 1, 2, 3, 30, 5, 6, 7, 8 };
+    static uint8_t images[STUDIES * MMIX_IMAGE_LEN];
+    uint64_t parts[2 * STUDIES], counts[STUDIES], refusals[STUDIES], total = 0;
+    struct mmix_state study;
+
+    memcpy(low + PROGRAM_AT, program, sizeof program);
+    for (size_t k = 0; k < STUDIES; k++) {
+        uint8_t *at = images + k * MMIX_IMAGE_LEN;
+        parts[2 * k] = k * PART_LEN;
+        parts[2 * k + 1] = PART_LEN;
+        if (mmix_initialize(at, MMIX_IMAGE_LEN) != MMIX_DONE || mmix_decode(at, MMIX_IMAGE_LEN, &study) != MMIX_DONE)
+            end("no image of a study");
+        study.general[0] = margins[k];
+        study.special[MMIX_RL] = 1;
+        study.special[MMIX_RO] = study.special[MMIX_RS] = MMIX_STACK_START + parts[2 * k];
+        study.pc = PROGRAM_AT;
+        if (mmix_encode(&study, at, MMIX_IMAGE_LEN) != MMIX_DONE)
+            end("no image of a study");
+    }
+    parts[1] += 8;
+    refused("eight studies, parts overlap", mmix_tasks_in(&lent, TURN, GRANT, images, sizeof images, parts, 2 * STUDIES, counts, refusals),
+            MMIX_TASKS_RULE);
+    parts[1] -= 8;
+
+    uint64_t reply = mmix_tasks_in(&lent, TURN, GRANT, images, sizeof images, parts, 2 * STUDIES, counts, refusals);
+    if (reply != MMIX_DONE)
+        end(mmix_reply_text(reply));
+    for (size_t k = 0; k < STUDIES; k++) {
+        if (mmix_decode(images + k * MMIX_IMAGE_LEN, MMIX_IMAGE_LEN, &study) != MMIX_DONE)
+            end("no study in an image");
+        printf("study %zu, margins 1 to %-2" PRIu64 "      done %3" PRIu64 "  stopped by %2" PRIu64 "  sum %2" PRIu64 "  $0 %2" PRIu64 "\n", k, margins[k],
+               counts[k], refusals[k], refusals[k] == MMIX_NAMED_TRAP ? study.general[1] : 0, study.general[0]);
+        total += counts[k];
+        if (refusals[k] == MMIX_NAMED_TRAP && study.general[1] != margins[k] * (margins[k] + 1) / 2)
+            end("a sum is wrong");
+    }
+    printf("%-28s %s\n", "study 3", mmix_reply_text(refusals[3]));
+    printf("%-28s %" PRIu64 " instructions, %d a turn\n", "eight studies", total, TURN);
+    if (refusals[3] != MMIX_FOREIGN)
+        end("a study reached into another's part");
+}
+
 /* Calls and returns on numbers of the host: the struct lent whole, then its parts. */
 static void step_in_place(void)
 {
@@ -326,6 +385,7 @@ int main(void)
     for (int level = DEPTH; level >= 1; level--)
         step("POP", MMIX_OP_POP, 0, 0, 0);
     step_in_place();
+    run_eight_studies();
 
     /* what a host meets when it asks for what is not there */
     struct mmix_windows small = mmix_one_window(MMIX_STACK_START, stack, 8), sharing = lent;

@@ -1,14 +1,15 @@
 /* mmix.h: the MMIX register machine, a program or one step at a time.
  *
  * The library keeps nothing between calls, allocates nothing and calls nothing but memcpy and memset. Every function
- * takes any values, ends, and returns MMIX_DONE (0) or the number of a refusal (1 to 31). That each function does what it
+ * takes any values, ends, and returns MMIX_DONE (0) or the number of a refusal (1 to 33). That each function does what it
  * should is proved; README.md says what that means.
  *
  * What the caller owes:
  *  - a pointer is to as many bytes as the length beside it says, or to an object of its type; it may be null only where
  *    that length is 0. It is aligned as C demands of its type;
- *  - no two objects that one call may write to overlap, and none that it writes to overlaps one that it reads: image, the
- *    windows a and b, store, state, parts, pairs, place, done, which, start, length, backward and field are apart from each other;
+ *  - no two objects that one call may write to overlap, and none that it writes to overlaps one that it reads: image,
+ *    images, windows a and b, store, state, parts, pairs, place, done, counts, refusals, which, start, length, backward and field are
+ *    apart from each other;
  *  - nothing else reads or writes them during the call.
  *
  * What can hurt:
@@ -23,6 +24,8 @@
  *    its own to put back.
  *  - A mask hides registers from GET and PUT, and so from what a program can tell apart, but not from the host: image, struct,
  *    points and mmix_put_set have them all. Going back to a point brings back its registers and its mask.
+ *  - Tasks share window A: what one writes there the others read. What a task keeps in its own part of B no other reaches, as long
+ *    as the host gives the same parts in each call. A task that has stopped runs again in the next call, unless the host leaves it out.
  *  - Going back to a point rewinds history: what was called before the return is not undone or finished but gone, frames
  *    with it. That a caller's locals are protected then holds of the calls made after the return.
  *
@@ -64,16 +67,17 @@ extern "C" {
  * image have it at the end, and the functions on parts take it after the marks. A host gives 0 there, sets the mask of a struct
  * that it fills itself to 0, and all steps do what they did. Images of 4, MMIX_OLD_IMAGE_LEN bytes, are still taken by every
  * function, as states with mask 0, and keep their length. MMIX_IMAGE_LEN has grown, and with it the rooms, so a store of 4 is
- * none of 5: its points move over as lines (README.md, 'Points as lines'). */
+ * none of 5: its points move over as lines (README.md, 'Points as lines').
+ * 5.1: mmix_tasks, with MMIX_FOREIGN and MMIX_TASKS_RULE. */
 #define MMIX_VERSION_MAJOR 5
-#define MMIX_VERSION_MINOR 0
+#define MMIX_VERSION_MINOR 1
 
-/* The replies. 1 to 6, 22, 24 to 28 and 30 leave every byte as it was; 7 to 18, 29 and 31 set the halt code to 1 and leave all
+/* The replies. 1 to 6, 22, 24 to 28, 30, 32 and 33 leave every byte as it was; 7 to 18, 29 and 31 set the halt code to 1 and leave all
  * else; 19 and 20 set the halt code to 1 and the trip or trap registers, with PC where it was (an exception refused by 19 has also added to
  * rA; a store refused by 19 is made, and $X, rH and rR of an operation are written). 21 is the number of mmix_branch_field and
- * mmix_jump_field alone, and 23 that of mmix_context alone, which are given no state; 24 and 25 are those of mmix_run and
- * mmix_run_parts alone, 26 to 28 those of mmix_take and mmix_go_back, 30 that of mmix_put_set and mmix_put_set_parts. What a reply leaves of a run, it leaves of the
- * instruction at which the run stopped. */
+ * mmix_jump_field alone, and 23 that of mmix_context alone, which are given no state; 24 and 25 are those of mmix_run,
+ * mmix_run_parts and mmix_tasks alone, 26 to 28 those of mmix_take and mmix_go_back, 30 that of mmix_put_set and mmix_put_set_parts,
+ * 32 and 33 those of mmix_tasks. What a reply leaves of a run, it leaves of the instruction at which the run stopped. */
 enum mmix_reply {
     MMIX_DONE = 0,                /* The step or the exception was done. */
     MMIX_NOT_ADMISSIBLE = 1,      /* rG, rL, rA, the marks or the mask are out of range, or the image has another length. */
@@ -106,7 +110,9 @@ enum mmix_reply {
     MMIX_OTHER_POINT = 28,        /* mmix_go_back: the point has other bases or lengths, or its state is not admissible. */
     MMIX_NO_FRAME = 29,           /* POP where rO is MMIX_STACK_START or less: no frame is left. Judged before 12. */
     MMIX_TOO_MANY_PAIRS = 30,     /* mmix_put_set: a set of more than MMIX_PAIRS_MAX pairs. Judged after 1. */
-    MMIX_HIDDEN = 31              /* GET or PUT of a register that the mask hides. Judged after 5, and before 7 to 11. */
+    MMIX_HIDDEN = 31,             /* GET or PUT of a register that the mask hides. Judged after 5, and before 7 to 11. */
+    MMIX_FOREIGN = 32,            /* A task's instruction needs, or its tetra is, an octabyte of B outside its part. Before 6 and 24. */
+    MMIX_TASKS_RULE = 33          /* mmix_tasks: not 1 to 8 tasks, q not 1 to 1,000, or parts that break their rule. Judged after 25. */
 };
 
 /* The opcodes that have an arm; every other byte is MMIX_NO_ARM. Of a pair with B at the end, that one goes backward; with I
@@ -181,6 +187,10 @@ enum mmix_flag {
 
 /* The most instructions that one run may be granted. */
 #define MMIX_GRANT_MAX 1000000
+
+/* The most tasks of one call, and the most instructions a turn. */
+#define MMIX_TASKS_MAX 8
+#define MMIX_TURN_MAX 1000
 
 /* The most pairs that one set may have. */
 #define MMIX_PAIRS_MAX 32
@@ -272,6 +282,26 @@ uint64_t mmix_run_parts(uint64_t base_a, uint64_t base_b, uint64_t grant, uint64
 uint64_t mmix_put_set_parts(uint64_t general[256], uint64_t special[32], uint64_t *pc, uint64_t *halt, uint64_t marks,
                             uint64_t mask, const uint64_t *pairs, size_t pairs_len, uint64_t *place);
 
+/* ---- several tasks */
+
+/* Runs up to 8 programs by turns. They share window A; each has a part of window B: `parts` has start and length of each, in bytes from
+ * B's base, so parts_len is twice the number n of tasks. `images` has their n states one after another, all of MMIX_IMAGE_LEN or all of
+ * MMIX_OLD_IMAGE_LEN bytes. Each call starts with task 0, all running, and goes on in order of number, `q` instructions a turn as mmix_run
+ * does them, until `grant` instructions are done in all or every task has stopped. A task that is refused stops, and is passed over.
+ *
+ * MMIX_DONE, whatever became of the tasks: counts[k] is how many instructions task k did, refusals[k] the number that stopped it, or 0
+ * where the grant was spent first. An instruction that needs an octabyte of B outside its task's part, or lies there, is refused by
+ * MMIX_FOREIGN; octabytes of B that are in no part are so for all. Within a call a task still running waits for at most 7 * q
+ * instructions of others between its turns, and no task changes another's part or state.
+ *
+ * Refused whole, in this order, by 2, 22, 25, 33 (parts_len odd, not 1 to MMIX_TASKS_MAX tasks, q not 1 to MMIX_TURN_MAX; a start or a
+ * length that is no multiple of 8, a part that leaves B, parts that overlap: an empty one overlaps none) or 1 (images_len, or a state
+ * that is not admissible), it leaves every byte of images and windows. counts and refusals are written at every reply, and are 0 from n on and
+ * where the call is refused whole. */
+uint64_t mmix_tasks(uint64_t base_a, uint64_t base_b, uint64_t q, uint64_t grant, uint8_t *images, size_t images_len,
+                    const uint64_t *parts, size_t parts_len, uint8_t *a, size_t a_len, uint8_t *b, size_t b_len,
+                    uint64_t counts[8], uint64_t refusals[8]);
+
 /* ---- saved contexts */
 
 /* Finds the context that SAVE put in a window; `address` is what SAVE left in $X. Done, *which is 0 for A and 1 for B, and the
@@ -359,6 +389,14 @@ static inline uint64_t mmix_run_parts_in(const struct mmix_windows *lent, uint64
 {
     return mmix_run_parts(lent->base_a, lent->base_b, grant, general, special, pc, halt, marks, mask,
                           lent->a, lent->a_len, lent->b, lent->b_len, done);
+}
+
+static inline uint64_t mmix_tasks_in(const struct mmix_windows *lent, uint64_t q, uint64_t grant, uint8_t *images,
+                                     size_t images_len, const uint64_t *parts, size_t parts_len, uint64_t counts[8],
+                                     uint64_t refusals[8])
+{
+    return mmix_tasks(lent->base_a, lent->base_b, q, grant, images, images_len, parts, parts_len,
+                      lent->a, lent->a_len, lent->b, lent->b_len, counts, refusals);
 }
 
 static inline uint64_t mmix_take_in(const struct mmix_windows *lent, uint64_t name, const uint8_t *image, size_t image_len,

@@ -46,6 +46,8 @@ static inline const char *mmix_reply_text(uint64_t reply)
     case MMIX_NO_FRAME: return "POP where no frame is left";
     case MMIX_TOO_MANY_PAIRS: return "a set of more than 32 pairs";
     case MMIX_HIDDEN: return "GET or PUT of a register that the mask hides";
+    case MMIX_FOREIGN: return "an octabyte of B outside the task's own part";
+    case MMIX_TASKS_RULE: return "tasks, their parts or their turns break a rule";
     default: return "no reply of this version";
     }
 }

@@ -11,8 +11,9 @@ use crate::areas::{Area, PAGE};
 use crate::case::{Case, Instruction, Kind};
 use crate::lent::{Lent, Shown};
 use crate::model::points::STORE_LEN;
+use crate::model::tasks::TASKS_MAX;
 use crate::state::{IMAGE_LEN, State, WINDOW_MAX};
-use crate::subject::{Aim, Found, Parts, Subject};
+use crate::subject::{Aim, Found, Parts, Subject, Told};
 
 unsafe extern "C" {
     fn signal(number: c_int, handler: extern "C" fn(c_int)) -> usize;
@@ -32,6 +33,7 @@ trait Plain {}
 impl Plain for State {}
 impl Plain for [u64; 256] {}
 impl Plain for [u64; 32] {}
+impl Plain for [u64; 8] {}
 impl Plain for u64 {}
 impl Plain for usize {}
 impl Plain for u32 {}
@@ -72,6 +74,7 @@ impl Guarded {
         let areas = match guard {
             Guard::Pages => [2 * IMAGE_LEN; 5]
                 .into_iter()
+                .chain([TASKS_MAX * IMAGE_LEN + PAGE])
                 .chain([WINDOW_MAX + 2 * PAGE; 2])
                 .chain([STORE_LEN + PAGE])
                 .map(Area::new)
@@ -204,6 +207,17 @@ impl Subject for Guarded {
             let parts = Parts { general, special, pc: of_bytes(pc), halt: of_bytes(halt), marks, mask };
             self.subject.exceptions_parts(flags, of, y_val, z_val, parts)
         })
+    }
+
+    fn tasks(&self, q: u64, grant: u64, images: &mut [u8], parts: &[u64], lent: Lent, told: Told) -> u64 {
+        let (Lent { at, a, b }, mut copy) = (lent, parts.to_vec());
+        let buffers =
+            [images, octabytes_of(&mut copy), a, b, bytes_of(told.counts), bytes_of(told.refusals)];
+        let reply = self.call(buffers, |[images, parts, a, b, counts, refusals]| {
+            let told = Told { counts: of_bytes(counts), refusals: of_bytes(refusals) };
+            self.subject.tasks(q, grant, images, of_octabytes(parts), Lent { at, a, b }, told)
+        });
+        if copy == parts { reply } else { WROTE_OUTSIDE }
     }
 
     fn put_set(&self, image: &mut [u8], pairs: &[u8], place: &mut u64) -> u64 {

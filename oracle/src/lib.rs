@@ -9,7 +9,7 @@
 //! - `compare`: one case on all sides. `shrink`: a smaller case that still differs.
 //! - `random`, `states`, `windows`, `operands`, `numbers`, `fields`, `rounds`, `chains`, `programs`, `sweep`: the cases. `starts`, `points`:
 //!   short ones. `histories`, `ledger`: calls on one store, and what they must answer. `sets`: sets of special registers. `masks`: states that
-//!   hide registers, and images of both lengths. `tally`, `situations`, `met`, `lendings`, `runs`: the counts.
+//!   hide registers, and images of both lengths. `tasks`: calls of several tasks. `tally`, `situations`, `met`, `lendings`, `runs`: the counts.
 
 // The model that is compared: `model`, or a copy with a fault in it (build.rs).
 #[cfg(changed_model)]
@@ -51,4 +51,5 @@ pub mod states;
 pub mod subject;
 pub mod sweep;
 pub mod tally;
+pub mod tasks;
 pub mod windows;

@@ -5,7 +5,7 @@ use std::ptr;
 use crate::case::{Instruction, Kind};
 use crate::lent::{Bases, Lent, Shown};
 use crate::state::State;
-use crate::subject::{Aim, Found, Parts, Subject};
+use crate::subject::{Aim, Found, Parts, Subject, Told};
 
 unsafe extern "C" {
     fn mmix_initialize(image: *mut u8, image_len: usize) -> u64;
@@ -119,6 +119,22 @@ unsafe extern "C" {
         halt: *mut u64,
         marks: u64,
         mask: u64,
+    ) -> u64;
+    fn mmix_tasks(
+        base_a: u64,
+        base_b: u64,
+        q: u64,
+        grant: u64,
+        images: *mut u8,
+        images_len: usize,
+        parts: *const u64,
+        parts_len: usize,
+        a: *mut u8,
+        a_len: usize,
+        b: *mut u8,
+        b_len: usize,
+        counts: *mut [u64; 8],
+        refusals: *mut [u64; 8],
     ) -> u64;
     fn mmix_put_set(image: *mut u8, image_len: usize, pairs: *const u8, pairs_len: usize, place: *mut u64) -> u64;
     fn mmix_put_set_parts(
@@ -269,6 +285,15 @@ impl Subject for Library {
         let Instruction { op, x, y, z } = of;
         let Parts { general, special, pc, halt, marks, mask } = parts;
         unsafe { mmix_exceptions_parts(flags, op, x, y, z, y_val, z_val, general, special, pc, halt, marks, mask) }
+    }
+
+    #[inline]
+    fn tasks(&self, q: u64, grant: u64, images: &mut [u8], parts: &[u64], lent: Lent, told: Told) -> u64 {
+        let (Lent { at, a, b }, Told { counts, refusals }) = (lent, told);
+        let (bytes, len, pairs) = (self.lent_mut(images), images.len(), self.lent(parts));
+        let (in_a, in_b, a_len, b_len) = (self.lent_mut(a), self.lent_mut(b), a.len(), b.len());
+        let count = parts.len();
+        unsafe { mmix_tasks(at.a, at.b, q, grant, bytes, len, pairs, count, in_a, a_len, in_b, b_len, counts, refusals) }
     }
 
     #[inline]

@@ -1,5 +1,5 @@
 //! The machine that is compared with the Rust: functions that equal those of include/mmix.h. 0 is done,
-//! 1 to 20 are 01's numbers; 21 is request 2's, 22 and 23 are request 5's, 24 and 25 request 6's, 26 to 28 request 8's, 29 to 31 requests 9's, 10's and 11's.
+//! 1 to 20 are 01's numbers; 21 is request 2's, 22 and 23 are request 5's, 24 and 25 request 6's, 26 to 28 request 8's, 29 to 31 requests 9's, 10's and 11's, 32 and 33 request 12's.
 
 use crate::case::{Instruction, Kind};
 use crate::compared::Model;
@@ -39,6 +39,12 @@ pub struct Aim<'a> {
     pub field: &'a mut u32,
 }
 
+/// Where a call of several tasks puts each task's count and its refusal or 0.
+pub struct Told<'a> {
+    pub counts: &'a mut [u64; 8],
+    pub refusals: &'a mut [u64; 8],
+}
+
 pub trait Subject {
     fn name(&self) -> &'static str;
     fn initialize(&self, image: &mut [u8]) -> u64;
@@ -50,6 +56,7 @@ pub trait Subject {
     fn run(&self, grant: u64, image: &mut [u8], lent: Lent, done: &mut u64) -> u64;
     fn run_parts(&self, grant: u64, parts: Parts, lent: Lent, done: &mut u64) -> u64;
     fn exceptions_parts(&self, flags: u8, of: Instruction, y_val: u64, z_val: u64, parts: Parts) -> u64;
+    fn tasks(&self, q: u64, grant: u64, images: &mut [u8], parts: &[u64], lent: Lent, told: Told) -> u64;
     fn put_set(&self, image: &mut [u8], pairs: &[u8], place: &mut u64) -> u64;
     fn put_set_parts(&self, parts: Parts, pairs: &[u64], place: &mut u64) -> u64;
     fn decode(&self, image: &[u8], state: &mut State) -> u64;

@@ -2,7 +2,8 @@
 //! arithmetic the Rust has no arm, and flags two of which are raised and enabled it forgets: there the library is compared with
 //! the model alone. Points to return to, which the Rust has not either, are compared with a ledger (src/histories.rs), N / 200
 //! histories of calls; sets of special registers with the Rust's PUT, pair by pair (src/sets.rs), N / 10 sets; and states with a mask, which the
-//! Rust has not, with the Rust up to the first GET or PUT of a hidden register, N / 5 calls (src/masks.rs), each on two states.
+//! Rust has not, with the Rust up to the first GET or PUT of a hidden register, N / 5 calls (src/masks.rs), each on two states;
+//! calls of several tasks with the Rust's runs on A and a part of B, turn by turn, N / 20 calls (src/tasks.rs).
 //!
 //!     differential [--cases N] [--seed S] [--threads T] [--guards pages|heap]
 //!     differential --replay LINE [--guards pages|heap]
@@ -33,6 +34,7 @@ use oracle::shrink::shrink;
 use oracle::subject::{Subject, guarded, subjects};
 use oracle::sweep;
 use oracle::tally::Tally;
+use oracle::tasks;
 
 /// The least number of cases with which the sweeps are run, and with which the counts are judged.
 const SWEPT_FROM: u64 = 100_000;
@@ -45,6 +47,8 @@ const HISTORY_EVERY: u64 = 200;
 const SET_EVERY: u64 = 10;
 /// One call under a mask for so many.
 const MASK_EVERY: u64 = 5;
+/// One call of several tasks for so many.
+const TASKS_EVERY: u64 = 20;
 
 struct Options {
     cases: u64,
@@ -149,6 +153,7 @@ fn replay(line: &str, guard: Option<Guard>) -> Result<bool, String> {
     if let Some(told) = histories::replay(line, &subjects)
         .or_else(|| sets::replay(line, &subjects))
         .or_else(|| masks::replay(line, &subjects))
+        .or_else(|| tasks::replay(line, &subjects))
     {
         println!("{}", told.as_ref().map_or_else(|difference| difference.as_str(), |()| "same"));
         return Ok(told.is_ok());
@@ -191,20 +196,25 @@ fn differential(options: &Options) -> bool {
     let (met, history) = histories::histories(options.seed, options.cases / HISTORY_EVERY, &chosen(options.guard));
     let (put, set) = sets::sets(options.seed, options.cases / SET_EVERY, &chosen(options.guard));
     let (veiled, mask) = masks::masks(options.seed, options.cases / MASK_EVERY, &chosen(options.guard));
-    let (total, found) =
-        history.and(set).and(mask).map_or_else(|difference| (Tally::default(), vec![difference]), |()| run(options));
+    let (several, task) = tasks::tasks(options.seed, options.cases / TASKS_EVERY, &chosen(options.guard));
+    let (total, found) = history
+        .and(set)
+        .and(mask)
+        .and(task)
+        .map_or_else(|difference| (Tally::default(), vec![difference]), |()| run(options));
     total.print();
     met.print();
     put.print();
     veiled.print();
+    several.print();
     let counted = options.cases >= COUNTED_FROM && found.is_empty();
-    let seldom =
-        if counted { [total.seldom(), met.seldom(), put.seldom(), veiled.seldom()].concat() } else { Vec::new() };
+    let all = || [total.seldom(), met.seldom(), put.seldom(), veiled.seldom(), several.seldom()].concat();
+    let seldom = if counted { all() } else { Vec::new() };
     seldom.iter().for_each(|pair| println!("TOO SELDOM: {pair}"));
     found.iter().for_each(|difference| println!("DIFFERS: {difference}"));
     let names: Vec<&str> = chosen(options.guard).iter().map(|subject| subject.name()).collect();
     println!(
-        "{} cases, {} of them loads, stores and arithmetic, {} two enabled flags and {} POPs without a frame by the model, {} calls on stores, {} sets, {} under masks, seed {}, \
+        "{} cases, {} of them loads, stores and arithmetic, {} two enabled flags and {} POPs without a frame by the model, {} calls on stores, {} sets, {} under masks, {} of several tasks, seed {}, \
          Rust against {}, {:.1} s: {}",
         total.cases(),
         total.added(),
@@ -213,6 +223,7 @@ fn differential(options: &Options) -> bool {
         met.calls(),
         put.calls(),
         veiled.calls(),
+        several.calls(),
         options.seed,
         names.join(" and "),
         began.elapsed().as_secs_f64(),

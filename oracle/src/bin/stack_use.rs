@@ -17,7 +17,7 @@ use oracle::model::points::STORE_LEN;
 use oracle::reference::Reference;
 use oracle::rounds::{ROUND, round};
 use oracle::state::{RA, RG, RL, State};
-use oracle::subject::{Aim, Found, Parts, Subject, chosen};
+use oracle::subject::{Aim, Found, Parts, Subject, Told, chosen};
 
 const STACK: usize = 64 * 1024;
 const MOST: usize = STACK / 2;
@@ -134,6 +134,9 @@ impl Subject for Nothing {
     fn exceptions_parts(&self, _: u8, _: Instruction, _: u64, _: u64, _: Parts) -> u64 {
         0
     }
+    fn tasks(&self, _: u64, _: u64, _: &mut [u8], _: &[u64], _: Lent, _: Told) -> u64 {
+        0
+    }
     fn put_set(&self, _: &mut [u8], _: &[u8], _: &mut u64) -> u64 {
         0
     }
@@ -160,7 +163,7 @@ impl Subject for Nothing {
 type Entry = fn(&dyn Subject, &mut Buffers);
 
 /// The entries by name; each takes the cases that are its own.
-const ENTRIES: [(&str, Entry); 17] = [
+const ENTRIES: [(&str, Entry); 18] = [
     ("mmix_initialize", |subject, lent| {
         if let Call::Initialize = lent.case.call {
             subject.initialize(&mut lent.image);
@@ -201,6 +204,13 @@ const ENTRIES: [(&str, Entry); 17] = [
     ("mmix_run_parts", |subject, lent| {
         if let Call::Run { grant } = lent.case.call {
             subject.run_parts(grant, (&mut lent.state).into(), lent.windows.lend(), &mut 0);
+        }
+    }),
+    ("mmix_tasks", |subject, lent| {
+        if let Call::Run { grant } = lent.case.call {
+            let parts = [0, lent.windows.b.size() / 2 & !7];
+            let told = Told { counts: &mut [0; 8], refusals: &mut [0; 8] };
+            subject.tasks(7, grant, &mut lent.image, &parts, lent.windows.lend(), told);
         }
     }),
     ("mmix_exceptions_parts", |subject, lent| {

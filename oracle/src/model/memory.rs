@@ -1,4 +1,6 @@
-//! Memory: two lent windows, A and B, each with octabytes at distances from its base that wrap at 2^64.
+//! Memory: two lent windows, A and B, each with octabytes at distances from its base that wrap at 2^64. Of several tasks each has a part of B alone.
+
+use std::ops::Range;
 
 use crate::lent::{Bases, Lent};
 use crate::state::{WINDOW_MAX, octabyte};
@@ -40,11 +42,24 @@ pub enum Which {
 pub struct Memory<'a> {
     pub a: Window<'a>,
     pub b: Window<'a>,
+    /// The part of B that a task has, in bytes from its base; none: all of it.
+    own: Option<Range<u64>>,
 }
 
 impl<'a> Memory<'a> {
     pub fn of(at: Bases, a: &'a [u8], b: &'a [u8]) -> Self {
-        Self { a: Window { base: at.a, bytes: a }, b: Window { base: at.b, bytes: b } }
+        Self { a: Window { base: at.a, bytes: a }, b: Window { base: at.b, bytes: b }, own: None }
+    }
+
+    /// The same for a task that has a part of B.
+    pub fn of_task(at: Bases, a: &'a [u8], b: &'a [u8], own: Range<u64>) -> Self {
+        Self { own: Some(own), ..Self::of(at, a, b) }
+    }
+
+    /// Whether an address's octabyte lies in B outside the task's part.
+    pub fn is_foreign(&self, address: u64) -> bool {
+        let outside = |own: &Range<u64>| !own.contains(&offset(self.b.base, address));
+        self.b.holds(address) && self.own.as_ref().is_some_and(outside)
     }
 
     /// Both windows keep their rule, an empty one too.
@@ -65,7 +80,8 @@ impl<'a> Memory<'a> {
     }
 
     pub fn which(&self, address: u64) -> Option<Which> {
-        [Which::A, Which::B].into_iter().find(|which| self.window(*which).holds(address))
+        let lent = |which: &Which| self.window(*which).holds(address);
+        [Which::A, Which::B].into_iter().find(lent).filter(|_| !self.is_foreign(address))
     }
 
     pub fn holds(&self, address: u64) -> bool {

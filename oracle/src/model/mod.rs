@@ -1,7 +1,7 @@
 //! Document 01 as a program, written from its sentences and not from the Rust. This file has the entries and
 //! what they judge; `memory` the two windows, `stack` frames and contexts, `loads` loads and stores and `arithmetic` whole-number
 //! arithmetic (Fascicle 1), `arms` the other steps; `runs` instructions that are fetched; `fields` which field reaches an address;
-//! `points` points to return to; `sets` sets of special registers.
+//! `points` points to return to; `sets` sets of special registers; `tasks` several tasks on one machine.
 
 mod arithmetic;
 mod arms;
@@ -12,11 +12,12 @@ pub mod points;
 mod runs;
 pub mod sets;
 mod stack;
+pub mod tasks;
 
 use crate::case::{Instruction, Kind};
 use crate::lent::{Bases, Lent, Shown, Windows};
 use crate::state::{RG, RK, RL, RN, RO, RS, RT, RTT, RV, STACK_START, State, is_image, octabyte};
-use crate::subject::{Aim, Found, Parts, Subject};
+use crate::subject::{Aim, Found, Parts, Subject, Told};
 use memory::Memory;
 pub use stack::{Popped, Registers};
 
@@ -34,7 +35,7 @@ impl Outcome {
         Self { reply: 0, state, stores: Vec::new(), needs: Vec::new() }
     }
 
-    /// Numbers 1 to 6, 22 and 24 change nothing, 7 to 18, 29 and 31 set the halt code to 1.
+    /// Numbers 1 to 6, 22, 24 and 32 change nothing, 7 to 18, 29 and 31 set the halt code to 1.
     fn refused(reply: u64, state: &State) -> Self {
         let mut state = state.clone();
         if matches!(reply, 7..=18 | 29 | 31) {
@@ -233,6 +234,18 @@ impl Subject for Model {
         let Outcome { reply, state, .. } = arms::exceptions(&state, flags, of, y_val, z_val);
         (*general, *special, *pc, *halt) = (state.general, state.special, state.pc, state.halt);
         reply
+    }
+
+    fn tasks(&self, q: u64, grant: u64, images: &mut [u8], parts: &[u64], lent: Lent, told: Told) -> u64 {
+        let each = images.len() / (parts.len() / 2).max(1);
+        let whole = is_image(each) && images.len() == each * (parts.len() / 2);
+        let mut states = whole.then(|| images.chunks_exact(each).map(State::of_image).collect::<Vec<_>>());
+        let tasked = tasks::call(q, grant, states.as_mut(), parts, lent);
+        for (image, state) in images.chunks_exact_mut(each.max(1)).zip(states.iter().flatten()) {
+            put_into(image, state);
+        }
+        (*told.counts, *told.refusals) = (tasked.counts, tasked.refusals);
+        tasked.reply
     }
 
     fn put_set(&self, image: &mut [u8], pairs: &[u8], place: &mut u64) -> u64 {

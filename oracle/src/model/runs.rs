@@ -7,7 +7,7 @@ use crate::lent::Lent;
 use crate::state::State;
 
 /// The largest grant that is not refused by 25.
-const GRANT_MOST: u64 = 1_000_000;
+pub const GRANT_MOST: u64 = 1_000_000;
 
 /// What a run leaves beside state and windows: the reply, how many instructions were done, and the octabytes that they and the
 /// one refused need, each as often as it is needed.
@@ -37,7 +37,7 @@ fn instruction(octabyte: u64, pc: u64) -> Instruction {
 }
 
 /// One fetched instruction, from 24 on.
-fn fetched(state: &State, memory: &Memory) -> Outcome {
+pub fn fetched(state: &State, memory: &Memory) -> Outcome {
     let fetch = octabyte_of(state.pc);
     if !memory.holds(fetch) {
         return Outcome::refused(24, state).with_needs(vec![fetch]);
