@@ -26,7 +26,7 @@ use Rattle.model.proofs.AdmissibleKept.{Adm, Good, adm}
 use Rattle.model.proofs.ItemInvariant.{item-keeps}
 use Rattle.model.proofs.Invariants.{good-keeps}
 use Rattle.model.proofs.PushPop.{push-from, push-fits}
-use Rattle.model.proofs.DemandCore.{Caller, Paired, PrivateIn, touchedBy, reply-of, call-private}
+use Rattle.model.proofs.DemandCore.{Caller, Passed, Paired, PrivateIn, touchedBy, reply-of, call-private}
 
 -- ---- the call
 
@@ -66,10 +66,23 @@ pub admissible-alike : (s t : State) → s .special ≡ t .special → s .marks 
 unfolding admissible
 admissible-alike s t e f g = rw (e, f, g)
 
-call-open : (c : Call) (w : Shapes) (s : State) (x y z : ℕ) → admissible s ≡ true → unruledBy w ≡ 0
-    → itemPlan s w (step (opcodeOf c) x y z) ≡ pushFrame s (hole s x) (targetOfCall c s y z)
+call-open : (c : Call) (j : ℕ → ℕ) (w : Windows) (s : State) (x y z : ℕ) → admissible s ≡ true → unruledBy (shapesOf w) ≡ 0
+    → perform both j s (itemPlan s (shapesOf w) (step (opcodeOf c) x y z)) w ≡ perform both j s (pushFrame s (hole s x) (targetOfCall c s y z)) w
 unfolding itemPlan
-call-open c w s x y z a r = plan-open w s (opcodeOf c) x y z a r (call-arm c x y z) ∙ call-plan c s x y z
+call-open c j w s x y z a r =
+    ap (λ (p : Plan State). perform both j s p w) (plan-open (shapesOf w) s (opcodeOf c) x y z a r (call-arm c x y z) ∙ call-plan c s x y z)
+
+pub call-passed : (c : Call) (j : ℕ → ℕ) (w : Windows) (s : State) (x y z : ℕ)
+    → perform both j s (itemPlan s (shapesOf w) (step (opcodeOf c) x y z)) w .reply ≡ 0 → Passed j w s (hole s x)
+unfolding itemPlan stepPlan
+call-passed c j w s x y z d =
+    let met : (admissible s ≡ true) × (unruledBy (shapesOf w) ≡ 0) = guarded-done j w s s (fromThree s (armOf (opcodeOf c)) (opcodeOf c) x y z) d in
+    record {
+      admitted = met .0;
+      fine = met .1;
+      fits = push-fits both both-lawful j s s (hole s x) (targetOfCall c s y z) w
+          (ap (λ (o : Outcome State Windows). o .reply) (sym (call-open c j w s x y z (met .0) (met .1))) ∙ d);
+    }
 
 module _ {S I : Type 0} (mc : Machine S I Shapes) (k : Caller mc) where
   pub step-private : (w : Windows) (ss ts : S) (c : Call) (x y z : ℕ) (is : List I) → Paired mc k ss ts → Alike (hole (k .get ss) x) (k .get ss) (k .get ts)
@@ -78,29 +91,25 @@ module _ {S I : Type 0} (mc : Machine S I Shapes) (k : Caller mc) where
       → All (Off (Within (sp (k .get ss) rO) (hole (k .get ss) x + 1))) (touchedBy mc k (stepOn both mc ss w (k .does (step (opcodeOf c) x y z))) is)
       → PrivateIn mc k (hole (k .get ss) x) (k .get ss) (k .get ts)
       (stepOn both mc ss w (k .does (step (opcodeOf c) x y z))) (stepOn both mc ts w (k .does (step (opcodeOf c) x y z))) is
-  unfolding itemPlan stepPlan
   step-private w ss ts c x y z is two alike done =
       let s : State = k .get ss in
       let t : State = k .get ts in
       let h : ℕ = hole (k .get ss) x in
       let j : ℕ → ℕ = k .judge (shapesOf w) in
-      let d : perform both j s (itemPlan s (shapesOf w) (step (opcodeOf c) x y z)) w .reply ≡ 0 = sym (reply-of mc k ss w (step (opcodeOf c) x y z)) ∙ done in
-      let met : (admissible s ≡ true) × (unruledBy (shapesOf w) ≡ 0) = guarded-done j w s s (fromThree s (armOf (opcodeOf c)) (opcodeOf c) x y z) d in
-      let at : admissible t ≡ true = sym (admissible-alike s t (alike .special-same) (alike .marks-same) (alike .mask-same)) ∙ met .0 in
+      let met : Passed j w s h = call-passed c j w s x y z (sym (reply-of mc k ss w (step (opcodeOf c) x y z)) ∙ done) in
+      let at : admissible t ≡ true = sym (admissible-alike s t (alike .special-same) (alike .marks-same) (alike .mask-same)) ∙ met .admitted in
       let os : sp s rO ≡ sp t rO = ap (λ (l : List ℕ). getD l rO 0) (alike .special-same) in
-      let oa : perform both j s (itemPlan s (shapesOf w) (step (opcodeOf c) x y z)) w ≡ perform both j s (pushFrame s h (targetOfCall c s y z)) w
-      = ap (λ (p : Plan State). perform both j s p w) (call-open c (shapesOf w) s x y z (met .0) (met .1)) in
-      let ob : perform both j t (itemPlan t (shapesOf w) (step (opcodeOf c) x y z)) w ≡ perform both j t (pushFrame t h (targetOfCall c t y z)) w
-      = ap (λ (p : Plan State). perform both j t p w)
-      (call-open c (shapesOf w) t x y z at (met .1) ∙ ap (λ (n : ℕ). pushFrame t n (targetOfCall c t y z)) (sym (hole-alike s t x (alike .special-same)))) in
-      let fits : worst j (sp s rO) (h + 1) ≡ 0
-      = push-fits both both-lawful j s s h (targetOfCall c s y z) w (ap (λ (o : Outcome State Windows). o .reply) (sym oa) ∙ d) in
-      let fits-t : worst j (sp t rO) (h + 1) ≡ 0 = rw (← os) fits in
+      let fits-t : worst j (sp t rO) (h + 1) ≡ 0 = rw (← os) (met .fits) in
       call-private mc k w ss ts s t h (targetOfCall c s y z) is two (two .words) (two .words-too)
-      (record { size = two .sized; admits = adm s (met .0) }) (record { size = two .sized-too; admits = adm t at }) (hole-le s x (adm s (met .0))) alike (met .1)
+      (record { size = two .sized; admits = adm s (met .admitted) }) (record { size = two .sized-too; admits = adm t at }) (hole-le s x (adm s (met .admitted))) alike (met .fine)
       (step (opcodeOf c) x y z) (targetOfCall c t y z)
-      (record { fits = fits; opens = oa ∙ push-from both both-lawful j s s h (targetOfCall c s y z) w fits })
-      (record { fits = fits-t; opens = ob ∙ push-from both both-lawful j t t h (targetOfCall c t y z) w fits-t })
+      (record { fits = met .fits; opens = call-open c j w s x y z (met .admitted) (met .fine) ∙ push-from both both-lawful j s s h (targetOfCall c s y z) w (met .fits) })
+      (record {
+        fits = fits-t;
+        opens = call-open c j w t x y z at (met .fine)
+            ∙ ap (λ (n : ℕ). perform both j t (pushFrame t n (targetOfCall c t y z)) w) (sym (hole-alike s t x (alike .special-same)))
+            ∙ push-from both both-lawful j t t h (targetOfCall c t y z) w fits-t;
+      })
 
 -- ---- the machine of 01
 

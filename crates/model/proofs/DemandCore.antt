@@ -49,6 +49,12 @@ pub record Caller {S I : Type 0} (mc : Machine S I Shapes) : Type 1 where
 abbrev pub pushedOn : Windows → State → ℕ → ℕ → Outcome State Windows
 pushedOn w s h u = record { reply = 0; state = called s h u; memory = puts both w (sp s rO) (tab 0 (h + 1) (framed s h)) }
 
+-- what a call from s that is done has passed
+pub record Passed (j : ℕ → ℕ) (w : Windows) (s : State) (h : ℕ) : Type 0 where
+  pub admitted : admissible s ≡ true
+  pub fine : unruledBy (shapesOf w) ≡ 0
+  pub fits : worst j (sp s rO) (h + 1) ≡ 0
+
 -- at b, item i calls u from s, which is b or b with a register claimed
 pub record Calls (j : ℕ → ℕ) (w : Windows) (b : State) (i : Item) (s : State) (h u : ℕ) : Type 0 where
   pub fits : worst j (sp s rO) (h + 1) ≡ 0

@@ -29,7 +29,7 @@ use Rattle.model.proofs.Entry.{guarded-is, guarded-done}
 use Rattle.model.proofs.AdmissibleKept.{Good, adm, spec-other, claim-good}
 use Rattle.model.proofs.WordsKept.{claim-words}
 use Rattle.model.proofs.PushPop.{push-from, push-fits}
-use Rattle.model.proofs.DemandCore.{Caller, Paired, PrivateIn, touchedBy, reply-of, call-private}
+use Rattle.model.proofs.DemandCore.{Caller, Passed, Paired, PrivateIn, touchedBy, reply-of, call-private}
 use Rattle.model.proofs.Demand.{targetOfCall, call-plan, call-arm, hole-le, hole-alike, admissible-alike, mmix-caller, private-is}
 
 -- ---- the claim
@@ -135,18 +135,28 @@ fetched-calls c j w s u a r there e f =
     ∙ ap (λ (t : ℕ). perform both j s (tetraPlan s t) w) e
     ∙ ap (λ (p : Plan State). perform both j s p w) (ap (λ (op : ℕ). instructionPlan s op (xIn u) (yIn u) (zIn u)) f ∙ instruction-calls c s (xIn u) (yIn u) (zIn u))
 
--- one that is done met none of 1, 2, 22 and 24, nor what else refuses the fetch
-fetched-met : (j : ℕ → ℕ) (w : Windows) (s : State) → perform both j s (itemPlan s (shapesOf w) fetched) w .reply ≡ 0
-    → (admissible s ≡ true) × (unruledBy (shapesOf w) ≡ 0) × (worst j (s .pc) 1 ≡ 0)
+-- one that is done: 1, 2 and 22, the fetch, and room for the frame
+pub record WasCalled (j : ℕ → ℕ) (w : Windows) (s : State) : Type 0 where
+  pub passed : Passed j w s (hole s (xAt w s))
+  pub there : worst j (s .pc) 1 ≡ 0
+
+pub fetched-passed : (c : Call) (j : ℕ → ℕ) (w : Windows) (s : State) → opcodeIn (tetraOf w s) ≡ opcodeOf c
+    → perform both j s (itemPlan s (shapesOf w) fetched) w .reply ≡ 0 → WasCalled j w s
 unfolding itemPlan fetchedPlan
-fetched-met j w s d =
+fetched-passed c j w s op d =
     let p : Plan State = read 24 (s .pc) 1 (λ v. tetraPlan s (tetraAt s (getD v 0 0))) in
-    let met : (admissible s ≡ true) × (unruledBy (shapesOf w) ≡ 0) = guarded-done j w s s p d in (
-      met .0,
-      met .1,
-      read-done both both-lawful j s 24 (s .pc) 1 (λ v. tetraPlan s (tetraAt s (getD v 0 0))) w (λ q. omega arith)
-          (ap (λ (q : Plan State). perform both j s q w .reply) (sym (guarded-is s s (shapesOf w) p (met .0) (met .1))) ∙ d),
-    )
+    let met : (admissible s ≡ true) × (unruledBy (shapesOf w) ≡ 0) = guarded-done j w s s p d in
+    let there : worst j (s .pc) 1 ≡ 0
+    = read-done both both-lawful j s 24 (s .pc) 1 (λ v. tetraPlan s (tetraAt s (getD v 0 0))) w (λ q. omega arith)
+    (ap (λ (q : Plan State). perform both j s q w .reply) (sym (guarded-is s s (shapesOf w) p (met .0) (met .1))) ∙ d) in
+    let x : ℕ = xAt w s in
+    let fits : worst j (sp (claimLocal s x) rO) (hole s x + 1) ≡ 0
+    = push-fits both both-lawful j s (claimLocal s x) (hole s x) (targetOfCall c (claimLocal s x) (yIn (tetraOf w s)) (zIn (tetraOf w s))) w
+    (ap (λ (o : Outcome State Windows). o .reply) (sym (fetched-calls c j w s (tetraOf w s) (met .0) (met .1) there refl op)) ∙ d) in
+    record {
+      passed = record { admitted = met .0; fine = met .1; fits = subst (λ (o : ℕ). worst j o (hole s x + 1) ≡ 0) (claim-other s x rO refl) fits };
+      there = there;
+    }
 
 module _ {S I : Type 0} (mc : Machine S I Shapes) (k : Caller mc) where
   pub fetched-private : (w : Windows) (ss ts : S) (c : Call) (is : List I) → Paired mc k ss ts
@@ -166,28 +176,30 @@ module _ {S I : Type 0} (mc : Machine S I Shapes) (k : Caller mc) where
       let cs : State = claimLocal s x in
       let ct : State = claimLocal t x in
       let j : ℕ → ℕ = k .judge (shapesOf w) in
-      let d : perform both j s (itemPlan s (shapesOf w) fetched) w .reply ≡ 0 = sym (reply-of mc k ss w fetched) ∙ done in
-      let met : (admissible s ≡ true) × (unruledBy (shapesOf w) ≡ 0) × (worst j (s .pc) 1 ≡ 0) = fetched-met j w s d in
-      let at : admissible t ≡ true = sym (admissible-alike s t (alike .special-same) (alike .marks-same) (alike .mask-same)) ∙ met .0 in
-      let it : worst j (t .pc) 1 ≡ 0 = ap (λ (p : ℕ). worst j p 1) (sym (alike .pc-same)) ∙ met .2 in
-      let gs : Good cs = claim-good s x (record { size = two .sized; admits = adm s (met .0) }) in
+      let was : WasCalled j w s = fetched-passed c j w s op (sym (reply-of mc k ss w fetched) ∙ done) in
+      let met : Passed j w s h = was .passed in
+      let at : admissible t ≡ true = sym (admissible-alike s t (alike .special-same) (alike .marks-same) (alike .mask-same)) ∙ met .admitted in
+      let it : worst j (t .pc) 1 ≡ 0 = ap (λ (p : ℕ). worst j p 1) (sym (alike .pc-same)) ∙ was .there in
+      let gs : Good cs = claim-good s x (record { size = two .sized; admits = adm s (met .admitted) }) in
       let gt : Good ct = claim-good t x (record { size = two .sized-too; admits = adm t at }) in
-      let hs : hole t x ≡ h = sym (hole-alike s t x (alike .special-same)) in
       let hg : h ≤ sp cs rG = subst (λ (n : ℕ). n ≤ sp cs rG) (claim-hole s x) (hole-le cs x (gs .admits)) in
       let ca : Alike h cs ct = claim-alike s t h x (two .sized) (two .sized-too) alike in
-      let oa : perform both j s (itemPlan s (shapesOf w) fetched) w ≡ perform both j s (pushFrame cs h (targetOfCall c cs (yIn u) (zIn u))) w
-      = fetched-calls c j w s u (met .0) (met .1) (met .2) refl op in
-      let ob : perform both j t (itemPlan t (shapesOf w) fetched) w ≡ perform both j t (pushFrame ct h (targetOfCall c ct (yIn u) (zIn u))) w
-      = fetched-calls c j w t u at (met .1) it (sym (tetra-alike w s t (alike .pc-same))) op
-      ∙ ap (λ (n : ℕ). perform both j t (pushFrame ct n (targetOfCall c ct (yIn u) (zIn u))) w) hs in
-      let fits : worst j (sp cs rO) (h + 1) ≡ 0
-      = push-fits both both-lawful j s cs h (targetOfCall c cs (yIn u) (zIn u)) w (ap (λ (o : Outcome State Windows). o .reply) (sym oa) ∙ d) in
+      let os : sp cs rO ≡ sp s rO = claim-other s x rO refl in
+      let fits : worst j (sp cs rO) (h + 1) ≡ 0 = subst (λ (o : ℕ). worst j o (h + 1) ≡ 0) (sym os) (met .fits) in
       let fits-t : worst j (sp ct rO) (h + 1) ≡ 0 = subst (λ (o : ℕ). worst j o (h + 1) ≡ 0) (ap (λ (l : List ℕ). getD l rO 0) (ca .special-same)) fits in
-      call-private mc k w ss ts cs ct h (targetOfCall c cs (yIn u) (zIn u)) is two (claim-words s x (two .words)) (claim-words t x (two .words-too)) gs gt hg ca (met .1)
+      call-private mc k w ss ts cs ct h (targetOfCall c cs (yIn u) (zIn u)) is two (claim-words s x (two .words)) (claim-words t x (two .words-too)) gs gt hg ca (met .fine)
       fetched (targetOfCall c ct (yIn u) (zIn u))
-      (record { fits = fits; opens = oa ∙ push-from both both-lawful j s cs h (targetOfCall c cs (yIn u) (zIn u)) w fits })
-      (record { fits = fits-t; opens = ob ∙ push-from both both-lawful j t ct h (targetOfCall c ct (yIn u) (zIn u)) w fits-t })
-      pcs (subst (λ (o : ℕ). All (Off (Within o (h + 1))) (touchedBy mc k (stepOn both mc ss w (k .does fetched)) is)) (sym (claim-other s x rO refl)) off)
+      (record {
+        fits = fits;
+        opens = fetched-calls c j w s u (met .admitted) (met .fine) (was .there) refl op ∙ push-from both both-lawful j s cs h (targetOfCall c cs (yIn u) (zIn u)) w fits;
+      })
+      (record {
+        fits = fits-t;
+        opens = fetched-calls c j w t u at (met .fine) it (sym (tetra-alike w s t (alike .pc-same))) op
+            ∙ ap (λ (n : ℕ). perform both j t (pushFrame ct n (targetOfCall c ct (yIn u) (zIn u))) w) (sym (hole-alike s t x (alike .special-same)))
+            ∙ push-from both both-lawful j t ct h (targetOfCall c ct (yIn u) (zIn u)) w fits-t;
+      })
+      pcs (subst (λ (o : ℕ). All (Off (Within o (h + 1))) (touchedBy mc k (stepOn both mc ss w (k .does fetched)) is)) (sym os) off)
 
 -- ---- the machine of 01
 

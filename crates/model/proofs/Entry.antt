@@ -67,6 +67,15 @@ guarded-done {S} j w bad s p =
     reply : (r : ℕ) → perform both j bad (answer r bad 0 []) w .reply ≡ r
     reply r = ap (λ (o : Outcome S Windows). o .reply) (said-by j w bad bad r)
 
+-- by 2 or 22 memory is left
+pub guarded-leaves : {S : Type 0} (j : ℕ → ℕ) (w : Windows) (bad : S) (s : State) (p : Plan S) → unruledBy (shapesOf w) ≢ 0 → perform both j bad (guarded bad s (shapesOf w) p) w .memory ≡ w
+unfolding guarded
+guarded-leaves {S} j w bad s p n =
+    rw (ne-eqb (unruledBy (shapesOf w)) 0 n) (on (λ (q : Plan S). perform both j bad q w .memory ≡ w) (admissible s) (λ a. leaves (unruledBy (shapesOf w))) (λ a. leaves 1))
+  where
+    leaves : (r : ℕ) → perform both j bad (answer r bad 0 []) w .memory ≡ w
+    leaves r = ap (λ (o : Outcome S Windows). o .memory) (said-by j w bad bad r)
+
 module _ {S : Type 0} (w : Windows) (bad : S) (s : State) (p : Plan S) where
   pub guarded-one : admissible s ≡ false → performOn w bad (guarded bad s (shapesOf w) p) ≡ record { reply = 1; state = bad; memory = w }
   unfolding guarded
@@ -162,7 +171,7 @@ distance : (c d : ℕ) → c < 2 ^ 61 → d < 2 ^ 57 → Dec (c + d < 2 ^ 61) �
 distance c d p q (yes l) = let e : (c + d) % 2 ^ 61 ≡ c + d = omega arith in rw e (omega arith)
 distance c d p q (no l) = let e : (c + d) % 2 ^ 61 ≡ c + d - 2 ^ 61 = omega arith in rw e (omega arith)
 
-offset-byte : (b i : ℕ) → b % 8 ≡ 0 → b < 2 ^ 64 → i < 2 ^ 60 → offset b (b + i) ≡ 8 * (i / 8)
+pub offset-byte : (b i : ℕ) → b % 8 ≡ 0 → b < 2 ^ 64 → i < 2 ^ 60 → offset b (b + i) ≡ 8 * (i / 8)
 unfolding offset octa
 offset-byte b i al wo l =
     let e : (b + i) / 8 ≡ b / 8 + i / 8 = omega arith in
@@ -177,7 +186,7 @@ byte-of w i r l =
     let e : offset (w .base) (w .base + i) ≡ 8 * (i / 8) = offset-byte (w .base) i (r .base-aligned) (r .base-word) (omega arith) in
     ap (λ (k : ℕ). getD (w .bytes) k 0) (omega arith) ∙ sym (getD-part (w .bytes) (offset (w .base) (w .base + i)) 8 (i % 8) (omega arith))
 
-byte-has : (w : Window) (i : ℕ) → Ruled (shapeOf w) → i < length (w .bytes) → has (shapeOf w) (w .base + i) ≡ true
+pub byte-has : (w : Window) (i : ℕ) → Ruled (shapeOf w) → i < length (w .bytes) → has (shapeOf w) (w .base + i) ≡ true
 unfolding has shapeOf
 byte-has w i r l =
     let n : length (w .bytes) < 2 ^ 60 = r .size-most in

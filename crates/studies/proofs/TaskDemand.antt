@@ -1,30 +1,29 @@
 -- Demand 3 with other tasks' turns in the list: model's demand of a caller in a machine, for task c on its part. What is left is that the list touches nothing
 -- of the frame: its turns' needs keep off it (`turns-off`), or the frame lies in B and others' parts are apart (`owns-off`).
-use mathlib.Core.Path.{_≡_, sym, ap, _∙_, subst}
-use mathlib.Core.Bool.{true}
+use mathlib.Core.Path.{_≡_, sym, _∙_}
 use mathlib.Core.List.{List}
 use Prim.Native.Nat.{ℕ, _+_, _*_, _<_}
 use native.Mathlib.Decide.{ℕ-discrete}
 use lib.ListN.{length, getD, set, length-set}
 use lib.Seq.{getD-set-same, getD-set-other, ext-getD}
-use Rattle.model.specs.Octa.{octa}
-use Rattle.model.specs.Memory.{Windows, Shapes, shapesOf, has, both}
+use Rattle.model.specs.Memory.{Windows, shapesOf, both}
 use Rattle.model.specs.Plan.{Outcome, worst, All, Off}
+use Rattle.model.specs.Lists.{runNeedsBy}
 use Rattle.model.specs.Registers.{rO, sp, fresh, Sized, Words, claimLocal}
 use Rattle.model.specs.Frames.{hole}
-use Rattle.model.specs.Step.{step, fetched}
+use Rattle.model.specs.Step.{Item, step, fetched}
 use Rattle.model.specs.Demand.{Within, opcodeOf, xAt}
 use Rattle.model.specs.declared.State.{State}
 use Rattle.model.proofs.Memory.{has-octa}
 use Rattle.model.proofs.Runs.{worst-of}
 use Rattle.model.proofs.Lists.{runTouches}
-use Rattle.model.proofs.DemandCore.{Paired, PrivateIn}
-use Rattle.model.proofs.Demand.{step-private}
-use Rattle.model.proofs.DemandFetched.{fetched-private}
+use Rattle.model.proofs.DemandCore.{Passed, Paired, PrivateIn, reply-of}
+use Rattle.model.proofs.Demand.{call-passed, step-private}
+use Rattle.model.proofs.DemandFetched.{WasCalled, fetched-passed, fetched-private}
 use Rattle.studies.specs.Tasks.{Own, refusingIn, taskOf, Turn, turn, studies}
-use Rattle.studies.specs.TaskDemand.{TasksAlike, turnOn, PrivateTo, Demand3Tasks, Demand3TasksFetched, OwnFrame, Demand3Own, Demand3OwnFetched}
+use Rattle.studies.specs.TaskDemand.{TasksAlike, turnOn, PrivateTo, Demand3Tasks, Demand3TasksFetched, OwnFrame, ownNeeds, Demand3Own, Demand3OwnFetched}
 use Rattle.studies.proofs.Parts.{judge-octa}
-use Rattle.studies.proofs.Turns.{task-caller, turns-off, owns-off}
+use Rattle.studies.proofs.Turns.{turn-shape, task-caller, turns-off, owns-off}
 
 -- states alike are one where the caller's is set
 set-alike : (c h : ℕ) (ss ts : List State) → TasksAlike c h ss ts → c < length ss → (v : State) → set ss c v ≡ set ts c v
@@ -71,3 +70,30 @@ demand3-tasks-fetched p w ss ts c f is any there ns nt ws wt op alike done pcs o
     (turnOn p w ss c fetched) (turnOn p w ts c fetched) is
     (fetched-private studies (task-caller c p) w ss ts f is (paired p c (hole (taskOf ss c) (xAt w (taskOf ss c))) ss ts alike there ns nt ws wt) op (alike .caller) done pcs
     (turns-off (Off (Within (sp (taskOf ss c) rO) (hole (taskOf ss c) (xAt w (taskOf ss c)) + 1))) is _ _ off))
+
+-- ---- a frame in the caller's own part
+
+frame-off : (p : Own) (w : Windows) (a n c : ℕ) (is : List Turn) (ss : List State) (i : Item) → worst (refusingIn p (shapesOf w)) a n ≡ 0 → OwnFrame p w a n c is
+    → All (Off (Within a n)) (runNeedsBy both studies (ownNeeds c) (turnOn p w ss c i .state) (turnOn p w ss c i .memory) is)
+    → All (Off (Within a n)) (runTouches both studies (turnOn p w ss c i .state) (turnOn p w ss c i .memory) is)
+frame-off p w a n c is ss i fits own off =
+    owns-off p c (Within a n) (shapesOf w)
+    (λ b e. has-octa (shapesOf w .b) b (a + 8 * e .place) (e .named-by) ∙ own .in-b (e .place) (e .place-below))
+    (λ b e. judge-octa p (shapesOf w) b (a + 8 * e .place) (e .named-by) ∙ worst-of (refusingIn p (shapesOf w)) n a (e .place) fits (e .place-below))
+    is (turnOn p w ss c i .state) (turnOn p w ss c i .memory) (unfold both in (turn-shape ss w (turn c p i))) (own .apart) off
+
+pub demand3-own : Demand3Own
+demand3-own p w ss ts c f x y z is own there ns nt ws wt alike done pcs off =
+    let s : State = taskOf ss c in
+    let met : Passed (refusingIn p (shapesOf w)) w s (hole s x) = call-passed f (refusingIn p (shapesOf w)) w s x y z (sym (reply-of studies (task-caller c p) ss w (step (opcodeOf f) x y z)) ∙ done) in
+    private-to p c (hole s x) s (taskOf ts c) (turnOn p w ss c (step (opcodeOf f) x y z)) (turnOn p w ts c (step (opcodeOf f) x y z)) is
+    (step-private studies (task-caller c p) w ss ts f x y z is (paired p c (hole s x) ss ts alike there ns nt ws wt) (alike .caller) done pcs
+    (frame-off p w (sp s rO) (hole s x + 1) c is ss (step (opcodeOf f) x y z) (met .fits) own off))
+
+pub demand3-own-fetched : Demand3OwnFetched
+demand3-own-fetched p w ss ts c f is own there ns nt ws wt op alike done pcs off =
+    let s : State = taskOf ss c in
+    let was : WasCalled (refusingIn p (shapesOf w)) w s = fetched-passed f (refusingIn p (shapesOf w)) w s op (sym (reply-of studies (task-caller c p) ss w fetched) ∙ done) in
+    private-to p c (hole s (xAt w s)) (claimLocal s (xAt w s)) (claimLocal (taskOf ts c) (xAt w s)) (turnOn p w ss c fetched) (turnOn p w ts c fetched) is
+    (fetched-private studies (task-caller c p) w ss ts f is (paired p c (hole s (xAt w s)) ss ts alike there ns nt ws wt) op (alike .caller) done pcs
+    (frame-off p w (sp s rO) (hole s (xAt w s) + 1) c is ss fetched (was .passed .fits) own off))
