@@ -3,3 +3,4 @@ pub mod Parts
 pub mod Turns
 pub mod TaskDemand
 pub mod OthersKept
+pub mod WithoutTasks

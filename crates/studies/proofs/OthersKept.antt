@@ -13,7 +13,7 @@ use lib.Seq.{getD-set-other}
 use borrow.Author.Tests.{eqb-true, eqb-false, le-leb, lt-ltb}
 use Rattle.model.specs.Octa.{octa}
 use Rattle.model.specs.Memory.{Windows, Shapes, shapeOf, shapesOf, offset, has, both}
-use Rattle.model.specs.Plan.{Outcome, mapOutcome, perform, All, Off, Agree}
+use Rattle.model.specs.Plan.{Outcome, mapOutcome, perform, Off, Agree}
 use Rattle.model.specs.Registers.{fresh}
 use Rattle.model.specs.NoMemory.{tell}
 use Rattle.model.specs.Step.{unruledBy, Item, step, exception, fetched, itemPlan, stepPlan, fetchedPlan}
@@ -25,7 +25,7 @@ use Rattle.model.proofs.Lists.{touchesOf, step-kept}
 use Rattle.model.proofs.Apart.{Ruled, ruled-b}
 use Rattle.model.proofs.Entry.{said-by, guarded-leaves, unruled-none, offset-byte, byte-has, bytes-agree}
 use Rattle.studies.specs.Tasks.{Own, owns, refusingIn, taskOf, turn, turnJudge, studies}
-use Rattle.studies.specs.TaskDemand.{turnOn, Disjoint, OthersKept, NoneAltersAnother}
+use Rattle.studies.specs.TaskDemand.{turnOn, Disjoint, NoneAltersAnother}
 use Rattle.studies.proofs.Parts.{passed, owned-below, owns-both, studies-sound}
 use Rattle.studies.proofs.Turns.{turn-is, turn-shape}
 

@@ -1,32 +1,22 @@
 -- Laws of parts and of the judge of a task: what it passes lies in a window, and in the task's part where B has it; disjoint parts have no octabyte in common.
-use mathlib.Core.Path.{_≡_, refl, sym, ap, _∙_, subst}
-use mathlib.Core.Logic.{_≢_, _⊎_, inl, inr}
+use mathlib.Core.Path.{_≡_, refl}
+use mathlib.Core.Logic.{inl, inr}
 use mathlib.Core.Bool.{Bool, true, false, cond, not, _&&_}
-use mathlib.Core.List.{List, [], _∷_}
+use mathlib.Core.List.{List}
 use Prim.Native.Nat.{ℕ, _+_, _≤_, _<_}
 use native.Mathlib.Omega.{arith}
-use native.Mathlib.Decide.{ℕ-discrete}
-use lib.Dec.{leb, ltb, eqb}
-use lib.ListN.{length, set, length-set}
-use lib.Seq.{set-getD, getD-set-same, getD-set-other}
-use borrow.Author.Tests.{eqb-true, eqb-false, leb-true, ltb-true}
+use lib.Dec.{leb}
+use borrow.Author.Tests.{leb-true, ltb-true}
 use Rattle.model.specs.Octa.{octa}
-use Rattle.model.specs.Memory.{Windows, Shapes, shapesOf, offset, has, both}
-use Rattle.model.specs.Plan.{Plan, Outcome, mapPlan, mapOutcome, perform, needs, All, Off}
-use Rattle.model.specs.Lists.{stepOn, needsOf, runNeedsBy}
-use Rattle.model.specs.Registers.{fresh}
-use Rattle.model.specs.Step.{refusing, Item, itemPlan}
+use Rattle.model.specs.Memory.{Shapes, offset, has, both}
+use Rattle.model.specs.Step.{refusing}
 use Rattle.model.specs.declared.State.{State}
 use Rattle.model.proofs.Bools.{and-left, and-right}
-use Rattle.model.proofs.Memory.{both-lawful, has-octa, inside-octa}
-use Rattle.model.proofs.Plan.{touches, touches-off, touches-judged, All-left, All-right, All-both, All-map, All-zip, Always, Always-map, Always-of, Always-mapped, Sound, perform-map, perform-shape}
-use Rattle.model.proofs.Lists.{touchesOf, runTouches, by-reading}
+use Rattle.model.proofs.Memory.{has-octa, inside-octa}
+use Rattle.model.proofs.Plan.{Sound}
 use Rattle.model.proofs.Entry.{judged-inside}
-use Rattle.model.proofs.AdmissibleKept.{Good}
-use Rattle.model.proofs.ItemInvariant.{item-keeps}
-use Rattle.model.proofs.Invariants.{good-keeps}
-use Rattle.studies.specs.Tasks.{Own, owns, foreign, refusingIn, taskOf, Turn, turn, turnJudge, turnPlan, studies, without32, turnNeeds}
-use Rattle.studies.specs.TaskDemand.{Disjoint, PartsApart, ownNeeds}
+use Rattle.studies.specs.Tasks.{Own, owns, foreign, refusingIn, Turn, turn, turnJudge, studies}
+use Rattle.studies.specs.TaskDemand.{Disjoint}
 
 -- ---- the judge of a task
 
