@@ -5,12 +5,11 @@ use mathlib.Core.Bool.{Bool, true, false, cond}
 use mathlib.Core.List.{List}
 use Prim.Native.Nat.{ℕ, _+_, _≤_, _<_}
 use native.Mathlib.Omega.{arith}
-use lib.ListN.{getD}
 use lib.Dec.{leb}
 use borrow.Author.Tests.{leb-false}
 use Rattle.model.specs.Registers.{rO, rG, rL, sp, admissible}
 use Rattle.model.specs.Memory.{Windows, Shapes, shapesOf, both}
-use Rattle.model.specs.Plan.{Plan, Outcome, mapOutcome, perform, All, Off, worst}
+use Rattle.model.specs.Plan.{Plan, Outcome, mapOutcome, perform, All, Off}
 use Rattle.model.specs.Opcodes.{forward, backward, register, immediate, armOf}
 use Rattle.model.specs.Control.{near, sumOf}
 use Rattle.model.specs.Frames.{hole, pushFrame}
@@ -25,8 +24,7 @@ use Rattle.model.proofs.Lists.{runTouches-off, runWider-off}
 use Rattle.model.proofs.AdmissibleKept.{Adm, Good, adm}
 use Rattle.model.proofs.ItemInvariant.{item-keeps}
 use Rattle.model.proofs.Invariants.{good-keeps}
-use Rattle.model.proofs.PushPop.{push-from, push-fits}
-use Rattle.model.proofs.DemandCore.{Caller, Passed, Paired, PrivateIn, touchedBy, reply-of, call-private}
+use Rattle.model.proofs.DemandCore.{Caller, Passed, Calls, push-fits, Paired, PrivateIn, touchedBy, reply-of, call-private}
 
 -- ---- the call
 
@@ -67,7 +65,7 @@ unfolding admissible
 admissible-alike s t e f g = rw (e, f, g)
 
 call-open : (c : Call) (j : ℕ → ℕ) (w : Windows) (s : State) (x y z : ℕ) → admissible s ≡ true → unruledBy (shapesOf w) ≡ 0
-    → perform both j s (itemPlan s (shapesOf w) (step (opcodeOf c) x y z)) w ≡ perform both j s (pushFrame s (hole s x) (targetOfCall c s y z)) w
+    → Calls j w s (step (opcodeOf c) x y z) s (hole s x) (targetOfCall c s y z)
 unfolding itemPlan
 call-open c j w s x y z a r =
     ap (λ (p : Plan State). perform both j s p w) (plan-open (shapesOf w) s (opcodeOf c) x y z a r (call-arm c x y z) ∙ call-plan c s x y z)
@@ -80,7 +78,7 @@ call-passed c j w s x y z d =
     record {
       admitted = met .0;
       fine = met .1;
-      fits = push-fits both both-lawful j s s (hole s x) (targetOfCall c s y z) w
+      fits = push-fits j w s s (hole s x) (targetOfCall c s y z)
           (ap (λ (o : Outcome State Windows). o .reply) (sym (call-open c j w s x y z (met .0) (met .1))) ∙ d);
     }
 
@@ -98,18 +96,10 @@ module _ {S I : Type 0} (mc : Machine S I Shapes) (k : Caller mc) where
       let j : ℕ → ℕ = k .judge (shapesOf w) in
       let met : Passed j w s h = call-passed c j w s x y z (sym (reply-of mc k ss w (step (opcodeOf c) x y z)) ∙ done) in
       let at : admissible t ≡ true = sym (admissible-alike s t (alike .special-same) (alike .marks-same) (alike .mask-same)) ∙ met .admitted in
-      let os : sp s rO ≡ sp t rO = ap (λ (l : List ℕ). getD l rO 0) (alike .special-same) in
-      let fits-t : worst j (sp t rO) (h + 1) ≡ 0 = rw (← os) (met .fits) in
       call-private mc k w ss ts s t h (targetOfCall c s y z) is two (two .words) (two .words-too)
-      (record { size = two .sized; admits = adm s (met .admitted) }) (record { size = two .sized-too; admits = adm t at }) (hole-le s x (adm s (met .admitted))) alike (met .fine)
-      (step (opcodeOf c) x y z) (targetOfCall c t y z)
-      (record { fits = met .fits; opens = call-open c j w s x y z (met .admitted) (met .fine) ∙ push-from both both-lawful j s s h (targetOfCall c s y z) w (met .fits) })
-      (record {
-        fits = fits-t;
-        opens = call-open c j w t x y z at (met .fine)
-            ∙ ap (λ (n : ℕ). perform both j t (pushFrame t n (targetOfCall c t y z)) w) (sym (hole-alike s t x (alike .special-same)))
-            ∙ push-from both both-lawful j t t h (targetOfCall c t y z) w fits-t;
-      })
+      (record { size = two .sized; admits = adm s (met .admitted) }) (record { size = two .sized-too; admits = adm t at }) (hole-le s x (adm s (met .admitted))) alike (met .fine) (met .fits)
+      (step (opcodeOf c) x y z) (targetOfCall c t y z) (call-open c j w s x y z (met .admitted) (met .fine))
+      (call-open c j w t x y z at (met .fine) ∙ ap (λ (n : ℕ). perform both j t (pushFrame t n (targetOfCall c t y z)) w) (sym (hole-alike s t x (alike .special-same))))
 
 -- ---- the machine of 01
 

@@ -15,17 +15,18 @@ use Rattle.model.specs.Memory.{Windows, Shapes, shapesOf, both}
 use Rattle.model.specs.Plan.{Plan, Outcome, mapOutcome, perform, All, Off, worst, puts, Agree}
 use Rattle.model.specs.Opcodes.{opPOP, armOf}
 use Rattle.model.specs.Control.{yzOf}
-use Rattle.model.specs.Frames.{framed, pushedRule, pushed, popFrame}
+use Rattle.model.specs.Frames.{framed, pushedRule, pushed, pushFrame, popFrame}
 use Rattle.model.specs.Lists.{Machine, Ran, stepOn, runs}
 use Rattle.model.specs.Step.{refusalOf, unruledBy, planOf, Item, step, itemPlan}
 use Rattle.model.specs.Demand.{Within, Alike, AtPop, SameOutside}
 use Rattle.model.specs.declared.State.{State}
 use Rattle.model.proofs.Plan.{Kept, Sound, Always, All-map, All-of, puts-shape}
-use Rattle.model.proofs.Entry.{plan-open, bytes-agree}
+use Rattle.model.proofs.Entry.{answered, plan-open, bytes-agree}
 use Rattle.model.proofs.Memory.{both-lawful}
+use Rattle.model.proofs.Runs.{length-tab}
 use Rattle.model.proofs.Lists.{runTouches, SameRun, runs-agree, runs-kept, runTouches-agree, runs-always}
 use Rattle.model.proofs.AdmissibleKept.{Good, adm-of, goes-good, pushed-good}
-use Rattle.model.proofs.PushPop.{called, called-alike, push-is, push-same, pop-is, pop-reg, push-rO}
+use Rattle.model.proofs.PushPop.{called, called-alike, push-from, push-is, push-same, pop-is, pop-reg, push-rO}
 
 -- a caller in a machine: its state in the machine's, by which number its octabytes are refused, and the machine's item that is an item of its own
 pub record Caller {S I : Type 0} (mc : Machine S I Shapes) : Type 1 where
@@ -56,9 +57,12 @@ pub record Passed (j : ℕ → ℕ) (w : Windows) (s : State) (h : ℕ) : Type 0
   pub fits : worst j (sp s rO) (h + 1) ≡ 0
 
 -- at b, item i calls u from s, which is b or b with a register claimed
-pub record Calls (j : ℕ → ℕ) (w : Windows) (b : State) (i : Item) (s : State) (h u : ℕ) : Type 0 where
-  pub fits : worst j (sp s rO) (h + 1) ≡ 0
-  pub opens : perform both j b (itemPlan b (shapesOf w) i) w ≡ pushedOn w s h u
+abbrev pub Calls : (ℕ → ℕ) → Windows → State → Item → State → ℕ → ℕ → Type 0
+Calls j w b i s h u = perform both j b (itemPlan b (shapesOf w) i) w ≡ perform both j b (pushFrame s h u) w
+
+pub push-fits : (j : ℕ → ℕ) (w : Windows) (b s : State) (h u : ℕ) → perform both j b (pushFrame s h u) w .reply ≡ 0 → worst j (sp s rO) (h + 1) ≡ 0
+unfolding pushFrame
+push-fits j w b s h u d = rw (length-tab (h + 1) 0 (framed s h)) at (answered j b (called s h u) 0 (sp s rO) (tab 0 (h + 1) (framed s h)) w d)
 
 pushed-pc : (s : State) (h u : ℕ) → called s h u .pc ≡ u
 unfolding pushed pushedRule spilled withSpecial goes
@@ -188,17 +192,20 @@ module _ {S I : Type 0} (mc : Machine S I Shapes) (k : Caller mc) where
   -- ---- two runs
 
   module _ (w : Windows) (ss ts : S) (s t : State) (h u : ℕ) (is : List I) (two : Paired ss ts)
-      (ws : Words s) (wt : Words t) (gs : Good s) (gt : Good t) (hg : h ≤ sp s rG) (alike : Alike h s t) (fine : unruledBy (shapesOf w) ≡ 0) where
-    pair-core : worst (k .judge (shapesOf w)) (sp s rO) (h + 1) ≡ 0 → All (Off (Within (sp s rO) (h + 1))) (touchedBy (calledBy w ss s h u) is)
+      (ws : Words s) (wt : Words t) (gs : Good s) (gt : Good t) (hg : h ≤ sp s rG) (alike : Alike h s t) (fine : unruledBy (shapesOf w) ≡ 0)
+      (fits : worst (k .judge (shapesOf w)) (sp s rO) (h + 1) ≡ 0) where
+    fits-too : worst (k .judge (shapesOf w)) (sp t rO) (h + 1) ≡ 0
+    fits-too = subst (λ (o : ℕ). worst (k .judge (shapesOf w)) o (h + 1) ≡ 0) (ap (λ (l : List ℕ). getD l rO 0) (alike .special-same)) fits
+
+    pair-core : All (Off (Within (sp s rO) (h + 1))) (touchedBy (calledBy w ss s h u) is)
         → PrivateIn h s t (calledBy w ss s h u) (calledBy w ts t h u) is
-    pair-core fits touched =
+    pair-core touched =
         let os : sp s rO ≡ sp t rO = ap (λ (l : List ℕ). getD l rO 0) (alike .special-same) in
         let gse : sp s rG ≡ sp t rG = ap (λ (l : List ℕ). getD l rG 0) (alike .special-same) in
-        let fits-t : worst (k .judge (shapesOf w)) (sp t rO) (h + 1) ≡ 0 = rw (← os) fits in
         let one : called s h u ≡ called t h u = called-alike s t h u (gs .size) (gt .size) hg alike in
         let st : k .put ss (called s h u) ≡ k .put ts (called t h u) = two .put-same (called s h u) ∙ ap (k .put ts) one in
         let ms : Agree both (Within (sp s rO) h) (pushedOn w s h u .memory) (pushedOn w t h u .memory)
-        = (rw (push-is both both-lawful (k .judge (shapesOf w)) s h u w fits, push-is both both-lawful (k .judge (shapesOf w)) t h u w fits-t)
+        = (rw (push-is both both-lawful (k .judge (shapesOf w)) s h u w fits, push-is both both-lawful (k .judge (shapesOf w)) t h u w fits-too)
         at (push-same both both-lawful (k .judge (shapesOf w)) s t h u w (gs .size) (gt .size) hg alike (sound-at w) fits)) .memory-same in
         let near : All (Off (Within (sp s rO) h)) (touchedBy (calledBy w ss s h u) is) = narrow (sp s rO) h _ touched in
         let same : SameRun both mc (Within (sp s rO) h) (afterIn (calledBy w ss s h u) is) (afterIn (calledBy w ts t h u) is)
@@ -219,7 +226,7 @@ module _ {S I : Type 0} (mc : Machine S I Shapes) (k : Caller mc) where
           window-same = bytes-agree (Within (sp s rO) h) _ _ (ap unruledBy (end-shape w ss s h u is (two .there) ws gs fine hg fits) ∙ fine) (same .memory-same);
           first-back = λ at. back-core w ss s h u is (two .there) ws gs fine hg fits touched
               (subst (λ (q : State). AtPop h (sp q rO) (k .get (afterIn (calledBy w ss s h u) is .state))) ce at);
-          second-back = λ at. back-core w ts t h u is (two .there-too) wt gt fine (subst (λ (g : ℕ). h ≤ g) gse hg) fits-t touched-t
+          second-back = λ at. back-core w ts t h u is (two .there-too) wt gt fine (subst (λ (g : ℕ). h ≤ g) gse hg) fits-too touched-t
               (subst (λ (q : State). AtPop h (sp q rO) (k .get (afterIn (calledBy w ts t h u) is .state))) (ce ∙ one)
               (subst (λ (q : State). AtPop h (sp (k .get (k .put ss (called s h u))) rO) q) ee at));
         }
@@ -231,11 +238,11 @@ module _ {S I : Type 0} (mc : Machine S I Shapes) (k : Caller mc) where
         → PrivateIn h s t (stepOn both mc ss w (k .does i)) (stepOn both mc ts w (k .does i)) is
     unfolding mapOutcome
     call-private i v ca cb pcs =
-        let la : stepOn both mc ss w (k .does i) ≡ calledBy w ss s h u = k .does-is ss w i ∙ ap (mapOutcome (k .put ss)) (ca .opens) in
-        let lb : stepOn both mc ts w (k .does i) ≡ calledBy w ts t h v = k .does-is ts w i ∙ ap (mapOutcome (k .put ts)) (cb .opens) in
+        let la : stepOn both mc ss w (k .does i) ≡ calledBy w ss s h u = k .does-is ss w i ∙ ap (mapOutcome (k .put ss)) (ca ∙ push-from both both-lawful (k .judge (shapesOf w)) (k .get ss) s h u w fits) in
+        let lb : stepOn both mc ts w (k .does i) ≡ calledBy w ts t h v = k .does-is ts w i ∙ ap (mapOutcome (k .put ts)) (cb ∙ push-from both both-lawful (k .judge (shapesOf w)) (k .get ts) t h v w fits-too) in
         let vs : v ≡ u
         = sym (ap (λ (o : Outcome S Windows). k .get (o .state) .pc) lb ∙ ap (λ (q : State). q .pc) (k .get-put ts (called t h v) (two .there-too)) ∙ pushed-pc t h v)
         ∙ sym pcs ∙ (ap (λ (o : Outcome S Windows). k .get (o .state) .pc) la ∙ ap (λ (q : State). q .pc) (k .get-put ss (called s h u) (two .there)) ∙ pushed-pc s h u) in
         let lb2 : stepOn both mc ts w (k .does i) ≡ calledBy w ts t h u = lb ∙ ap (λ (q : ℕ). calledBy w ts t h q) vs in
         subst (λ (a : Outcome S Windows). All (Off (Within (sp s rO) (h + 1))) (touchedBy a is) → PrivateIn h s t a (stepOn both mc ts w (k .does i)) is) (sym la)
-        (λ touched. subst (λ (b : Outcome S Windows). PrivateIn h s t (calledBy w ss s h u) b is) (sym lb2) (pair-core (ca .fits) touched))
+        (λ touched. subst (λ (b : Outcome S Windows). PrivateIn h s t (calledBy w ss s h u) b is) (sym lb2) (pair-core touched))

@@ -28,8 +28,7 @@ use Rattle.model.proofs.Lists.{runTouches-off, runWider-off}
 use Rattle.model.proofs.Entry.{guarded-is, guarded-done}
 use Rattle.model.proofs.AdmissibleKept.{Good, adm, spec-other, claim-good}
 use Rattle.model.proofs.WordsKept.{claim-words}
-use Rattle.model.proofs.PushPop.{push-from, push-fits}
-use Rattle.model.proofs.DemandCore.{Caller, Passed, Paired, PrivateIn, touchedBy, reply-of, call-private}
+use Rattle.model.proofs.DemandCore.{Caller, Passed, Calls, push-fits, Paired, PrivateIn, touchedBy, reply-of, call-private}
 use Rattle.model.proofs.Demand.{targetOfCall, call-plan, call-arm, hole-le, hole-alike, admissible-alike, mmix-caller, private-is}
 
 -- ---- the claim
@@ -127,7 +126,7 @@ instruction-calls c s x y z =
 -- a fetched call whose tetra is known
 fetched-calls : (c : Call) (j : ℕ → ℕ) (w : Windows) (s : State) (u : ℕ) → admissible s ≡ true → unruledBy (shapesOf w) ≡ 0 → worst j (s .pc) 1 ≡ 0
     → tetraOf w s ≡ u → opcodeIn u ≡ opcodeOf c
-    → perform both j s (itemPlan s (shapesOf w) fetched) w ≡ perform both j s (pushFrame (claimLocal s (xIn u)) (hole s (xIn u)) (targetOfCall c (claimLocal s (xIn u)) (yIn u) (zIn u))) w
+    → Calls j w s fetched (claimLocal s (xIn u)) (hole s (xIn u)) (targetOfCall c (claimLocal s (xIn u)) (yIn u) (zIn u))
 unfolding itemPlan fetchedPlan tetraPlan looks
 fetched-calls c j w s u a r there e f =
     ap (λ (p : Plan State). perform both j s p w) (guarded-is s s (shapesOf w) (read 24 (s .pc) 1 (λ v. tetraPlan s (tetraAt s (getD v 0 0)))) a r)
@@ -151,7 +150,7 @@ fetched-passed c j w s op d =
     (ap (λ (q : Plan State). perform both j s q w .reply) (sym (guarded-is s s (shapesOf w) p (met .0) (met .1))) ∙ d) in
     let x : ℕ = xAt w s in
     let fits : worst j (sp (claimLocal s x) rO) (hole s x + 1) ≡ 0
-    = push-fits both both-lawful j s (claimLocal s x) (hole s x) (targetOfCall c (claimLocal s x) (yIn (tetraOf w s)) (zIn (tetraOf w s))) w
+    = push-fits j w s (claimLocal s x) (hole s x) (targetOfCall c (claimLocal s x) (yIn (tetraOf w s)) (zIn (tetraOf w s)))
     (ap (λ (o : Outcome State Windows). o .reply) (sym (fetched-calls c j w s (tetraOf w s) (met .0) (met .1) there refl op)) ∙ d) in
     record {
       passed = record { admitted = met .0; fine = met .1; fits = subst (λ (o : ℕ). worst j o (hole s x + 1) ≡ 0) (claim-other s x rO refl) fits };
@@ -186,19 +185,10 @@ module _ {S I : Type 0} (mc : Machine S I Shapes) (k : Caller mc) where
       let ca : Alike h cs ct = claim-alike s t h x (two .sized) (two .sized-too) alike in
       let os : sp cs rO ≡ sp s rO = claim-other s x rO refl in
       let fits : worst j (sp cs rO) (h + 1) ≡ 0 = subst (λ (o : ℕ). worst j o (h + 1) ≡ 0) (sym os) (met .fits) in
-      let fits-t : worst j (sp ct rO) (h + 1) ≡ 0 = subst (λ (o : ℕ). worst j o (h + 1) ≡ 0) (ap (λ (l : List ℕ). getD l rO 0) (ca .special-same)) fits in
-      call-private mc k w ss ts cs ct h (targetOfCall c cs (yIn u) (zIn u)) is two (claim-words s x (two .words)) (claim-words t x (two .words-too)) gs gt hg ca (met .fine)
-      fetched (targetOfCall c ct (yIn u) (zIn u))
-      (record {
-        fits = fits;
-        opens = fetched-calls c j w s u (met .admitted) (met .fine) (was .there) refl op ∙ push-from both both-lawful j s cs h (targetOfCall c cs (yIn u) (zIn u)) w fits;
-      })
-      (record {
-        fits = fits-t;
-        opens = fetched-calls c j w t u at (met .fine) it (sym (tetra-alike w s t (alike .pc-same))) op
-            ∙ ap (λ (n : ℕ). perform both j t (pushFrame ct n (targetOfCall c ct (yIn u) (zIn u))) w) (sym (hole-alike s t x (alike .special-same)))
-            ∙ push-from both both-lawful j t ct h (targetOfCall c ct (yIn u) (zIn u)) w fits-t;
-      })
+      call-private mc k w ss ts cs ct h (targetOfCall c cs (yIn u) (zIn u)) is two (claim-words s x (two .words)) (claim-words t x (two .words-too)) gs gt hg ca (met .fine) fits
+      fetched (targetOfCall c ct (yIn u) (zIn u)) (fetched-calls c j w s u (met .admitted) (met .fine) (was .there) refl op)
+      (fetched-calls c j w t u at (met .fine) it (sym (tetra-alike w s t (alike .pc-same))) op
+      ∙ ap (λ (n : ℕ). perform both j t (pushFrame ct n (targetOfCall c ct (yIn u) (zIn u))) w) (sym (hole-alike s t x (alike .special-same))))
       pcs (subst (λ (o : ℕ). All (Off (Within o (h + 1))) (touchedBy mc k (stepOn both mc ss w (k .does fetched)) is)) (sym os) off)
 
 -- ---- the machine of 01

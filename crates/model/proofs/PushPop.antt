@@ -6,13 +6,13 @@ use Prim.Native.Nat.{ℕ, zero, suc, _+_, _-_, _*_, _%_, _^_, _≤_, _<_, min}
 use native.Mathlib.Omega.{arith}
 use native.Mathlib.Decide.{ℕ-discrete, decLt}
 use lib.ListN.{length, getD, length-set}
-use lib.Dec.{ltb, eqb}
-use borrow.Author.Tests.{eqb-true, ltb-true, lt-ltb, le-ltb, lt-leb, eq-eqb}
+use lib.Dec.{ltb}
+use borrow.Author.Tests.{ltb-true, lt-ltb, le-ltb, lt-leb, eq-eqb}
 use Rattle.model.specs.Fill.{over, tab}
 use Rattle.model.specs.Octa.{octa}
 use Rattle.model.specs.Registers.{rJ, rO, rG, rL, stackStart, sp, reg, following, Sized, goes, withSpecial, spilled}
 use Rattle.model.specs.Memory.{Store}
-use Rattle.model.specs.Plan.{Plan, answer, Outcome, perform, worst, look, looks, puts, Agree}
+use Rattle.model.specs.Plan.{Plan, answer, perform, worst, look, looks, puts, Agree}
 use Rattle.model.specs.Frames.{framed, slid, slide, pushedRule, pushed, pushFrame, restored, unslide, popped, popTo, popRule, noFrame, misplaced, popFrame}
 use Rattle.model.specs.Demand.{Within, Alike}
 use Rattle.model.proofs.Plan.{worst-head, worst-tail, Kept, Same, Sound, put-agree}
@@ -21,7 +21,7 @@ use Rattle.model.proofs.Runs.{length-tab, worst-of, of-worst, getD-look
 use Rattle.model.specs.declared.State.{State}
 use Rattle.model.proofs.Fill.{over-cong, over-in}
 use Rattle.model.proofs.AdmissibleKept.{spec-other, spec-same}
-use Rattle.model.proofs.Bools.{on, on-both}
+use Rattle.model.proofs.Bools.{on-both}
 
 slide-alike : (s t : State) (h n : ℕ) → Sized s → Sized t → h ≤ n → h ≤ sp s rG → Alike h s t → slide s n ≡ slide t n
 unfolding slide
@@ -106,13 +106,6 @@ module _ {M Sh : Type 0} (st : Store M Sh) (law : Lawful st) where
   pub push-is : (j : ℕ → ℕ) (s : State) (h u : ℕ) (m : M) → worst j (sp s rO) (h + 1) ≡ 0
       → perform st j s (pushFrame s h u) m ≡ record { reply = 0; state = called s h u; memory = puts st m (sp s rO) (tab 0 (h + 1) (framed s h)) }
   push-is j s = push-from j s s
-
-  -- one that is done has room for its frame
-  pub push-fits : (j : ℕ → ℕ) (b s : State) (h u : ℕ) (m : M) → perform st j b (pushFrame s h u) m .reply ≡ 0 → worst j (sp s rO) (h + 1) ≡ 0
-  unfolding pushFrame perform
-  push-fits j b s h u m =
-      rw (length-tab (h + 1) 0 (framed s h))
-      (on {A = Outcome State M} (λ o. o .reply ≡ 0 → worst j (sp s rO) (h + 1) ≡ 0) (eqb (worst j (sp s rO) (h + 1)) 0) (λ e d. eqb-true _ _ e) (λ e d. d))
 
   -- (1) the call: two runs that differ in the locals below the hole
   pub push-same : (j : ℕ → ℕ) (s t : State) (h u : ℕ) (m : M) → Sized s → Sized t → h ≤ sp s rG → Alike h s t → Sound st j (st .shape m) → worst j (sp s rO) (h + 1) ≡ 0
