@@ -32,10 +32,13 @@ performOn w s p = perform both (refusing (shapesOf w)) s p w
 abbrev pub Inside : Windows → ℕ → ℕ → Type 0
 Inside w a n = worst (refusing (shapesOf w)) a n ≡ 0
 
--- an answer that stores nothing
-pub said : {S : Type 0} (w : Windows) (s t : S) (r : ℕ) → performOn w s (answer r t 0 []) ≡ record { reply = r; state = t; memory = w }
+-- an answer that stores nothing, by any judge
+pub said-by : {S : Type 0} (j : ℕ → ℕ) (w : Windows) (s t : S) (r : ℕ) → perform both j s (answer r t 0 []) w ≡ record { reply = r; state = t; memory = w }
 unfolding perform worst puts
-said w s t r = refl
+said-by j w s t r = refl
+
+pub said : {S : Type 0} (w : Windows) (s t : S) (r : ℕ) → performOn w s (answer r t 0 []) ≡ record { reply = r; state = t; memory = w }
+said w s t r = said-by (refusing (shapesOf w)) w s t r
 
 pub said-reply : {S : Type 0} (w : Windows) (s t : S) (r : ℕ) → performOn w s (answer r t 0 []) .reply ≡ r
 said-reply w s t r = ap (λ (o : Outcome _ Windows). o .reply) (said w s t r)
@@ -47,6 +50,32 @@ answered j s t r a vs w =
     on {A = Outcome State Windows} (λ o. o .reply ≡ 0 → worst j a (length vs) ≡ 0) (clear j a (length vs)) (λ e h. eqb-true _ _ e) (λ e h. h)
 
 -- 1, 2 or 22, or the plan
+pub guarded-is : {S : Type 0} (bad : S) (s : State) (w : Shapes) (p : Plan S) → admissible s ≡ true → unruledBy w ≡ 0 → guarded bad s w p ≡ p
+unfolding guarded
+guarded-is bad s w p a r = rw (a, r)
+
+-- one that is done met none of them, by any judge
+pub guarded-done : {S : Type 0} (j : ℕ → ℕ) (w : Windows) (bad : S) (s : State) (p : Plan S) → perform both j bad (guarded bad s (shapesOf w) p) w .reply ≡ 0
+    → (admissible s ≡ true) × (unruledBy (shapesOf w) ≡ 0)
+unfolding guarded
+guarded-done {S} j w bad s p =
+    on (λ (q : Plan S). perform both j bad q w .reply ≡ 0 → (admissible s ≡ true) × (unruledBy (shapesOf w) ≡ 0)) (admissible s)
+    (λ a. on (λ (q : Plan S). perform both j bad q w .reply ≡ 0 → (admissible s ≡ true) × (unruledBy (shapesOf w) ≡ 0)) (eqb (unruledBy (shapesOf w)) 0)
+    (λ e h. (a, eqb-true _ _ e)) (λ e h. (a, sym (reply (unruledBy (shapesOf w))) ∙ h)))
+    (λ a h. absurd (omega (arith, reply 1, h)))
+  where
+    reply : (r : ℕ) → perform both j bad (answer r bad 0 []) w .reply ≡ r
+    reply r = ap (λ (o : Outcome S Windows). o .reply) (said-by j w bad bad r)
+
+-- by 2 or 22 memory is left
+pub guarded-leaves : {S : Type 0} (j : ℕ → ℕ) (w : Windows) (bad : S) (s : State) (p : Plan S) → unruledBy (shapesOf w) ≢ 0 → perform both j bad (guarded bad s (shapesOf w) p) w .memory ≡ w
+unfolding guarded
+guarded-leaves {S} j w bad s p n =
+    rw (ne-eqb (unruledBy (shapesOf w)) 0 n) (on (λ (q : Plan S). perform both j bad q w .memory ≡ w) (admissible s) (λ a. leaves (unruledBy (shapesOf w))) (λ a. leaves 1))
+  where
+    leaves : (r : ℕ) → perform both j bad (answer r bad 0 []) w .memory ≡ w
+    leaves r = ap (λ (o : Outcome S Windows). o .memory) (said-by j w bad bad r)
+
 module _ {S : Type 0} (w : Windows) (bad : S) (s : State) (p : Plan S) where
   pub guarded-one : admissible s ≡ false → performOn w bad (guarded bad s (shapesOf w) p) ≡ record { reply = 1; state = bad; memory = w }
   unfolding guarded
@@ -58,23 +87,23 @@ module _ {S : Type 0} (w : Windows) (bad : S) (s : State) (p : Plan S) where
   guarded-unruled a n = rw (a, ne-eqb (unruledBy (shapesOf w)) 0 n) (said w bad bad (unruledBy (shapesOf w)))
 
   pub guarded-open : admissible s ≡ true → unruledBy (shapesOf w) ≡ 0 → performOn w bad (guarded bad s (shapesOf w) p) ≡ performOn w bad p
-  unfolding guarded
-  guarded-open a r = rw (a, r)
+  guarded-open a r = ap (λ (q : Plan S). performOn w bad q) (guarded-is bad s (shapesOf w) p a r)
 
 -- the step is its arm's plan
+pub plan-open : (w : Shapes) (s : State) (op x y z : ℕ) → admissible s ≡ true → unruledBy w ≡ 0 → refusalOf (armOf op) x y z ≡ 0
+    → stepPlan s w op x y z ≡ planOf s (armOf op) op x y z
+unfolding stepPlan fromThree
+plan-open w s op x y z a r e = guarded-is s s w (fromThree s (armOf op) op x y z) a r ∙ rw e
+
 pub step-open : (w : Windows) (s : State) (op x y z : ℕ) → admissible s ≡ true → unruledBy (shapesOf w) ≡ 0 → refusalOf (armOf op) x y z ≡ 0
     → stepOf w s op x y z ≡ performOn w s (planOf s (armOf op) op x y z)
-unfolding stepOf stepPlan fromThree
-step-open w s op x y z a r e = guarded-open w s s (fromThree s (armOf op) op x y z) a r ∙ rw e
+unfolding stepOf
+step-open w s op x y z a r e = ap (λ (p : Plan State). performOn w s p) (plan-open (shapesOf w) s op x y z a r e)
 
 -- a step that is done met neither 1 nor 2 nor 22
 pub step-done : (w : Windows) (s : State) (op x y z : ℕ) → stepOf w s op x y z .reply ≡ 0 → (admissible s ≡ true) × (unruledBy (shapesOf w) ≡ 0)
-unfolding stepOf stepPlan guarded
-step-done w s op x y z =
-    on (λ (p : Plan State). performOn w s p .reply ≡ 0 → (admissible s ≡ true) × (unruledBy (shapesOf w) ≡ 0)) (admissible s)
-    (λ a. on (λ (p : Plan State). performOn w s p .reply ≡ 0 → (admissible s ≡ true) × (unruledBy (shapesOf w) ≡ 0)) (eqb (unruledBy (shapesOf w)) 0)
-    (λ e h. (a, eqb-true _ _ e)) (λ e h. (a, sym (said-reply w s s (unruledBy (shapesOf w))) ∙ h)))
-    (λ a h. absurd (omega (arith, said-reply w s s 1, h)))
+unfolding stepOf stepPlan
+step-done w s op x y z = guarded-done (refusing (shapesOf w)) w s s (fromThree s (armOf op) op x y z)
 
 -- ---- the windows' numbers
 
@@ -142,7 +171,7 @@ distance : (c d : ℕ) → c < 2 ^ 61 → d < 2 ^ 57 → Dec (c + d < 2 ^ 61) �
 distance c d p q (yes l) = let e : (c + d) % 2 ^ 61 ≡ c + d = omega arith in rw e (omega arith)
 distance c d p q (no l) = let e : (c + d) % 2 ^ 61 ≡ c + d - 2 ^ 61 = omega arith in rw e (omega arith)
 
-offset-byte : (b i : ℕ) → b % 8 ≡ 0 → b < 2 ^ 64 → i < 2 ^ 60 → offset b (b + i) ≡ 8 * (i / 8)
+pub offset-byte : (b i : ℕ) → b % 8 ≡ 0 → b < 2 ^ 64 → i < 2 ^ 60 → offset b (b + i) ≡ 8 * (i / 8)
 unfolding offset octa
 offset-byte b i al wo l =
     let e : (b + i) / 8 ≡ b / 8 + i / 8 = omega arith in
@@ -157,7 +186,7 @@ byte-of w i r l =
     let e : offset (w .base) (w .base + i) ≡ 8 * (i / 8) = offset-byte (w .base) i (r .base-aligned) (r .base-word) (omega arith) in
     ap (λ (k : ℕ). getD (w .bytes) k 0) (omega arith) ∙ sym (getD-part (w .bytes) (offset (w .base) (w .base + i)) 8 (i % 8) (omega arith))
 
-byte-has : (w : Window) (i : ℕ) → Ruled (shapeOf w) → i < length (w .bytes) → has (shapeOf w) (w .base + i) ≡ true
+pub byte-has : (w : Window) (i : ℕ) → Ruled (shapeOf w) → i < length (w .bytes) → has (shapeOf w) (w .base + i) ≡ true
 unfolding has shapeOf
 byte-has w i r l =
     let n : length (w .bytes) < 2 ^ 60 = r .size-most in

@@ -29,6 +29,7 @@ pub mod Invariants
 pub mod RunMeant
 pub mod RunTurns
 pub mod PushPop
+pub mod DemandCore
 pub mod Demand
 pub mod DemandFetched
 pub mod ReaderLeaves

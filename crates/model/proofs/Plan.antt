@@ -37,6 +37,11 @@ unfolding All
 All-map P Q [] f h = tt
 All-map P Q (x ∷ xs) f h = (f x (h .0), All-map P Q xs f (h .1))
 
+pub All-zip : (P Q R : ℕ → Type 0) (xs : List ℕ) → ((a : ℕ) → P a → Q a → R a) → All P xs → All Q xs → All R xs
+unfolding All
+All-zip P Q R [] f h k = tt
+All-zip P Q R (x ∷ xs) f h k = (f x (h .0) (k .0), All-zip P Q R xs f (h .1) (k .1))
+
 pub All-of : (P : ℕ → Type 0) (xs : List ℕ) → ((a : ℕ) → P a) → All P xs
 unfolding All
 All-of P [] f = tt
@@ -86,11 +91,30 @@ unfolding Always
 Always-map P Q f (answer r t a vs) h = f t h
 Always-map P Q f (read q a n k) h = λ vs. Always-map P Q f (k vs) (h vs)
 
+pub Always-of : {S : Type 0} (P : S → Type 0) → ((t : S) → P t) → (p : Plan S) → Always P p
+unfolding Always
+Always-of P f (answer r t a vs) = f t
+Always-of P f (read q a n k) = λ vs. Always-of P f (k vs)
+
+pub Always-mapped : {S T : Type 0} (P : T → Type 0) (f : S → T) (p : Plan S) → Always (λ t. P (f t)) p → Always P (mapPlan f p)
+unfolding Always mapPlan
+Always-mapped P f (answer r t a vs) h = h
+Always-mapped P f (read q a n k) h = λ vs. Always-mapped P f (k vs) (h vs)
+
 module _ {M Sh : Type 0} (st : Store M Sh) where
   -- what a plan comes to read or write: its needs without the missing ones
   unfoldable pub touches : {S : Type 0} → (ℕ → ℕ) → Plan S → M → List ℕ
   touches j (answer r t a vs) m = cond (clear j a (length vs)) (ups a (length vs)) []
   touches j (read q a n k) m = cond (clear j a n) (ups a n ++ touches j (k (looks st m a n)) m) []
+
+  -- it has passed the judge
+  pub touches-judged : {S : Type 0} (j : ℕ → ℕ) (p : Plan S) (m : M) → All (λ a. j a ≡ 0) (touches j p m)
+  unfolding touches
+  touches-judged j (answer r t a vs) m =
+      on (All (λ b. j b ≡ 0)) (clear j a (length vs)) (λ e. ups-judged j (length vs) a (eqb-true _ _ e)) (λ e. unfold All in tt)
+  touches-judged j (read q a n k) m =
+      on (All (λ b. j b ≡ 0)) (clear j a n) (λ e. All-both _ (ups a n) _ (ups-judged j n a (eqb-true _ _ e)) (touches-judged j (k (looks st m a n)) m))
+      (λ e. unfold All in tt)
 
   -- the octabytes of F are as they were
   pub record Kept (F : ℕ → Type 0) (m n : M) : Type 0 where
@@ -248,6 +272,11 @@ module _ {M Sh : Type 0} (st : Store M Sh) where
   perform-map f j s (read q a n k) m =
       ap (λ (o : Outcome _ M). cond (clear j a n) o (record { reply = named q (worst j a n); state = f s; memory = m })) (perform-map f j s (k (looks st m a n)) m)
       ∙ cond-map f (clear j a n) (perform st j s (k (looks st m a n)) m) (record { reply = named q (worst j a n); state = s; memory = m })
+
+  pub needs-map : {S T : Type 0} (f : S → T) (j : ℕ → ℕ) (p : Plan S) (m : M) → needs st j (mapPlan f p) m ≡ needs st j p m
+  unfolding needs mapPlan
+  needs-map f j (answer r t a vs) m = refl
+  needs-map f j (read q a n k) m = λ i. cond (clear j a n) (ups a n ++ needs-map f j (k (looks st m a n)) m i) (missing j a n)
 
   -- a map that leaves the state that is reached
   pub perform-left : {S : Type 0} (f : S → S) (j : ℕ → ℕ) (s : S) (p : Plan S) (m : M)

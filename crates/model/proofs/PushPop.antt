@@ -97,10 +97,15 @@ module _ {M Sh : Type 0} (st : Store M Sh) (law : Lawful st) where
       next : (k : ℕ) → k < n → (f (suc i + k) ≡ g (suc i + k) → ⊥) → F (octa (a + 8 + 8 * k))
       next k l d = let e : a + 8 * suc k ≡ a + 8 + 8 * k = omega arith in let z : i + suc k ≡ suc i + k = omega arith in rw e at (inside (suc k) (omega arith) (rw z d))
 
+  -- the call from s, by an instruction that began at b
+  pub push-from : (j : ℕ → ℕ) (b s : State) (h u : ℕ) (m : M) → worst j (sp s rO) (h + 1) ≡ 0
+      → perform st j b (pushFrame s h u) m ≡ record { reply = 0; state = called s h u; memory = puts st m (sp s rO) (tab 0 (h + 1) (framed s h)) }
+  unfolding pushFrame perform
+  push-from j b s h u m ok = rw (length-tab (h + 1) 0 (framed s h), eq-eqb _ _ ok)
+
   pub push-is : (j : ℕ → ℕ) (s : State) (h u : ℕ) (m : M) → worst j (sp s rO) (h + 1) ≡ 0
       → perform st j s (pushFrame s h u) m ≡ record { reply = 0; state = called s h u; memory = puts st m (sp s rO) (tab 0 (h + 1) (framed s h)) }
-  unfolding pushFrame perform
-  push-is j s h u m ok = rw (length-tab (h + 1) 0 (framed s h), eq-eqb _ _ ok)
+  push-is j s = push-from j s s
 
   -- (1) the call: two runs that differ in the locals below the hole
   pub push-same : (j : ℕ → ℕ) (s t : State) (h u : ℕ) (m : M) → Sized s → Sized t → h ≤ sp s rG → Alike h s t → Sound st j (st .shape m) → worst j (sp s rO) (h + 1) ≡ 0

@@ -8,10 +8,10 @@ use native.Mathlib.Omega.{arith}
 use native.Mathlib.Decide.{ℕ-discrete}
 use lib.Dec.{leb, eqb}
 use lib.ListN.{length, getD}
-use borrow.Author.Tests.{leb-true, eqb-true, eqb-false, ne-eqb}
+use borrow.Author.Tests.{leb-true, ne-eqb}
 use Rattle.model.specs.Octa.{octa}
 use Rattle.model.specs.Memory.{Window, shapeOf, offset, has, Windows, shapesOf, holder, inside, both, ruled}
-use Rattle.model.specs.Plan.{Plan, answer, read, Outcome, perform, worst, clear, named, look, looks}
+use Rattle.model.specs.Plan.{Plan, answer, read, Outcome, perform, worst, clear, look, looks}
 use Rattle.model.specs.Registers.{reg, admissible, halted}
 use Rattle.model.specs.Contexts.{below, contextRest, contextCount, contextAt}
 use Rattle.model.specs.Step.{unruledBy, refusing, stepOf}
@@ -19,10 +19,11 @@ use Rattle.model.specs.Reader.{Part, emptyPart, windowOf, nowhere, octab
 use Rattle.model.specs.Roundtrip.{thresholdAt, countAt, octasAt, firstAt, acrossAt, FromFirstToPacked}
 use Rattle.model.specs.declared.State.{State}
 use Rattle.model.proofs.Bools.{and-left, and-right, on, on-both}
-use Rattle.model.proofs.Runs.{octa-mod, worst-of}
+use Rattle.model.proofs.Runs.{octa-mod, worst-of, perform-read}
+use Rattle.model.proofs.Runs as runs
 use Rattle.model.proofs.SaveUnsave.{looked, Context, context-found, unsavedNext, unsave-open}
 use Rattle.model.proofs.Entry.{performOn, Inside, said-reply, judged-inside, unruled-none}
-use Rattle.model.proofs.Memory.{holder-octa}
+use Rattle.model.proofs.Memory.{both-lawful, holder-octa}
 use Rattle.model.proofs.Held.{holder-has, holder-most, held-at, whole-held, held-mod, across-mod}
 use Rattle.model.proofs.Apart.{Ruled, ruled-a, ruled-b}
 use Rattle.model.proofs.StepByArm.{step-unruled}
@@ -65,20 +66,15 @@ module _ {S T : Type 0} (w : Windows) (s bad : S) (found : ℕ → ℕ → ℕ �
 
 -- ---- a context that is found
 
-named-six : (r : ℕ) → named 6 r ≡ 0 → r ≡ 0
-unfolding named
-named-six r = on (λ (n : ℕ). n ≡ 0 → r ≡ 0) (eqb r 6) (λ e h. absurd (omega arith)) (λ e h. h)
-
 -- a context plan that is done has found a context
 module _ {S : Type 0} (w : Windows) (s bad : S) (found : ℕ → ℕ → ℕ → ℕ → List ℕ → S) where
   abbrev Done : Plan S → Type 0
   Done p = performOn w s p .reply ≡ 0
 
   read-done : (a n : ℕ) (k : List ℕ → Plan S) → Done (read 6 a n k) → Inside w a n × Done (k (looks both w a n))
-  unfolding perform
-  read-done a n k =
-      on {A = Outcome S Windows} (λ o. o .reply ≡ 0 → Inside w a n × Done (k (looks both w a n))) (clear (refusing (shapesOf w)) a n)
-      (λ e h. (eqb-true _ _ e, h)) (λ e h. absurd (eqb-false _ _ e (named-six _ h)))
+  read-done a n k h =
+      let i : Inside w a n = runs.read-done both both-lawful (refusing (shapesOf w)) s 6 a n k w (λ q. omega arith) h in
+      (i, ap (λ (o : Outcome S Windows). o .reply) (sym (perform-read both both-lawful (refusing (shapesOf w)) s 6 a n k w i)) ∙ h)
 
   rest-done : (p g a l : ℕ) → Done (contextRest bad found p g a l) → (l ≤ g) × Inside w (below p (l + 269 - g)) (l + 270 - g)
   unfolding contextRest

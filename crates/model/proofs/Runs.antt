@@ -7,12 +7,14 @@ use native.Mathlib.Omega.{arith}
 use native.Mathlib.Nat.{zero-add}
 use native.Mathlib.Decide.{decLe}
 use lib.ListN.{length, getD}
-use borrow.Author.Tests.{eq-eqb}
+use lib.Dec.{eqb}
+use borrow.Author.Tests.{eq-eqb, eqb-true}
 use Rattle.model.specs.Fill.{tab}
 use Rattle.model.specs.Octa.{octa, valueOf, bytesOf}
 use Rattle.model.specs.Memory.{Store}
-use Rattle.model.specs.Plan.{Plan, read, perform, ups, All, worst, look, looks, puts}
+use Rattle.model.specs.Plan.{Plan, read, Outcome, perform, clear, named, ups, All, worst, look, looks, puts}
 use Rattle.model.specs.Demand.{Within}
+use Rattle.model.proofs.Bools.{on}
 use Rattle.model.proofs.Octa.{value-bytes}
 use Rattle.model.proofs.Plan.{worst-head, worst-tail, Kept, Sound, puts-kept}
 use Rattle.model.proofs.Memory.{Lawful}
@@ -122,3 +124,10 @@ module _ {M Sh : Type 0} (st : Store M Sh) (law : Lawful st) where
   pub perform-read : {S : Type 0} (j : ℕ → ℕ) (s : S) (q a n : ℕ) (k : List ℕ → Plan S) (m : M) → worst j a n ≡ 0 → perform st j s (read q a n k) m ≡ perform st j s (k (looks st m a n)) m
   unfolding perform
   perform-read j s q a n k m h = rw (eq-eqb _ _ h)
+
+  -- a read that is not refused
+  pub read-done : {S : Type 0} (j : ℕ → ℕ) (s : S) (q a n : ℕ) (k : List ℕ → Plan S) (m : M) → q ≢ 0 → perform st j s (read q a n k) m .reply ≡ 0 → worst j a n ≡ 0
+  unfolding perform named
+  read-done {S} j s q a n k m z =
+      on {A = Outcome S M} (λ o. o .reply ≡ 0 → worst j a n ≡ 0) (clear j a n) (λ e h. eqb-true _ _ e)
+      (λ e. on (λ (r : ℕ). r ≡ 0 → worst j a n ≡ 0) (eqb (worst j a n) 6) (λ f h. absurd (z h)) (λ f h. h))

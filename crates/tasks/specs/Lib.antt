@@ -1,0 +1,3 @@
+-- What the contracts of a call of several tasks cite beside the studies.
+pub mod Images
+pub mod Desks
