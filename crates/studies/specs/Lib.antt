@@ -4,3 +4,4 @@ pub mod Schedule
 pub mod Call
 pub mod TaskDemand
 pub mod TasksMeant
+pub mod TaskPoints
