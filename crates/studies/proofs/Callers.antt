@@ -1,5 +1,5 @@
 -- The machine `studies`: each task is a caller in it; what a turn touches, in either reading of the needs.
-use mathlib.Core.Path.{_≡_, refl, _∙_, subst}
+use mathlib.Core.Path.{_≡_, refl, _∙_}
 use mathlib.Core.Logic.{_≢_, _⊎_, inl, inr}
 use mathlib.Core.Bool.{Bool, true, false, cond}
 use mathlib.Core.List.{List, [], _∷_}
@@ -8,17 +8,17 @@ use native.Mathlib.Omega.{arith}
 use native.Mathlib.Decide.{ℕ-discrete}
 use lib.Dec.{eqb}
 use lib.ListN.{length, set, length-set}
-use lib.Seq.{set-getD, getD-set-same, getD-set-other}
+use lib.Seq.{getD-set-same, getD-set-other}
 use borrow.Author.Tests.{eqb-true, eqb-false}
 use Rattle.model.specs.Octa.{octa}
 use Rattle.model.specs.Memory.{Windows, Shapes, shapesOf, has, both}
-use Rattle.model.specs.Plan.{Plan, mapPlan, mapOutcome, perform, needs, All, Off}
+use Rattle.model.specs.Plan.{Plan, mapOutcome, perform, needs, All, Off}
 use Rattle.model.specs.Lists.{stepOn, needsOf, runNeedsBy}
 use Rattle.model.specs.Registers.{fresh}
 use Rattle.model.specs.Step.{Item, itemPlan}
 use Rattle.model.specs.declared.State.{State}
 use Rattle.model.proofs.Memory.{both-lawful}
-use Rattle.model.proofs.Plan.{touches, touches-off, touches-judged, All-left, All-right, All-both, All-map, All-zip, Always, Always-map, Always-of, Always-mapped, perform-map, perform-shape}
+use Rattle.model.proofs.Plan.{touches, touches-off, touches-judged, All-left, All-right, All-both, All-map, All-zip, Always, Always-map, Always-of, Always-mapped, perform-shape}
 use Rattle.model.proofs.Lists.{touchesOf, runTouches, by-reading}
 use Rattle.model.proofs.AdmissibleKept.{Good}
 use Rattle.model.proofs.ItemInvariant.{item-keeps}

@@ -5,6 +5,8 @@ use mathlib.Core.Bool.{Bool, true, false, cond, not, _&&_}
 use mathlib.Core.List.{List}
 use Prim.Native.Nat.{ℕ, _+_, _≤_, _<_}
 use native.Mathlib.Omega.{arith}
+use lib.Dec.{leb, ltb}
+use borrow.Author.Tests.{leb-true, le-leb, lt-ltb}
 use Rattle.model.specs.Octa.{octa}
 use Rattle.model.specs.Memory.{Shapes, offset, has, both}
 use Rattle.model.specs.Step.{refusing}
@@ -56,3 +58,19 @@ owns-both p r d h e f = sides h (owns-is p d e) (owns-is r d f)
 -- an octabyte of B that one task may touch, none on a part apart may
 pub never-both : (p r : Own) (w : Shapes) (a : ℕ) → Disjoint p r → has (w .b) a ≡ true → refusingIn p w a ≡ 0 → refusingIn r w a ≡ 0 → ⊥
 never-both p r w a d h f g = owns-both p r (offset (w .b .from) a) d (passed p w a f .1 h) (passed r w a g .1 h)
+
+-- ---- the whole of B as a part: nothing is foreign
+
+abbrev pub whole : Shapes → Own
+whole w = record { start = 0; size = w .b .size }
+
+pub whole-judge : (w : Shapes) (a : ℕ) → refusingIn (whole w) w a ≡ refusing w a
+unfolding refusingIn foreign owns
+whole-judge w a = go (has (w .b) a) refl
+  where
+    go : (b : Bool) → has (w .b) a ≡ b
+        → cond (has (w .b) a && not (leb 0 (offset (w .b .from) a) && ltb (offset (w .b .from) a) (0 + w .b .size))) 32 (refusing w a) ≡ refusing w a
+    go true e =
+        let l : offset (w .b .from) a + 8 ≤ w .b .size = leb-true _ _ (unfold has in e) in
+        rw (le-leb 0 (offset (w .b .from) a) (omega arith), lt-ltb (offset (w .b .from) a) (0 + w .b .size) (omega arith), e)
+    go false e = rw e

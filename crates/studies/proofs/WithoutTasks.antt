@@ -1,14 +1,13 @@
 -- The claim without tasks follows: it is that of one task whose part is the whole of B. Then 32 refuses nothing, a turn is the step, and so is a list's.
 use mathlib.Core.Path.{_≡_, refl, sym, ap, _∙_, subst}
 use mathlib.Core.Logic.{_≢_}
-use mathlib.Core.Bool.{Bool, true, false, cond, not, _&&_}
+use mathlib.Core.Bool.{false}
 use mathlib.Core.List.{List, [], _∷_}
-use Prim.Native.Nat.{ℕ, zero, suc, _+_, _≤_}
+use Prim.Native.Nat.{ℕ, zero, suc, _+_}
 use native.Mathlib.Omega.{arith}
-use lib.Dec.{leb, ltb, eqb}
+use lib.Dec.{eqb}
 use lib.ListN.{length, getD, set}
-use borrow.Author.Tests.{leb-true, lt-ltb, le-leb}
-use Rattle.model.specs.Memory.{Windows, Shapes, shapesOf, offset, has, inside, both}
+use Rattle.model.specs.Memory.{Windows, Shapes, shapesOf, inside, both}
 use Rattle.model.specs.Plan.{Outcome, mapOutcome, perform, needs, All, Off}
 use Rattle.model.specs.Lists.{Ran, stepOn, needsOf, runs, runNeedsBy}
 use Rattle.model.specs.Registers.{rO, sp, fresh}
@@ -20,25 +19,12 @@ use Rattle.model.specs.declared.State.{State}
 use Rattle.model.proofs.Bools.{on}
 use Rattle.model.proofs.Memory.{both-lawful}
 use Rattle.model.proofs.Plan.{needs-map, perform-shape}
-use Rattle.studies.specs.Tasks.{Own, owns, foreign, refusingIn, taskOf, Turn, turn, turnJudge, turnPlan, studies, without32, turnNeeds}
+use Rattle.studies.specs.Tasks.{Own, refusingIn, taskOf, Turn, turn, turnJudge, turnPlan, studies, without32, turnNeeds}
 use Rattle.studies.specs.TaskDemand.{TasksAlike, turnOn, afterTurns, popIn, GivesBackTo, PrivateTo, WithoutTasks}
+use Rattle.studies.proofs.Judge.{whole, whole-judge}
 use Rattle.studies.proofs.Callers.{turn-does}
 
 -- ---- the whole of B as a part
-
-abbrev whole : Shapes → Own
-whole w = record { start = 0; size = w .b .size }
-
-whole-judge : (w : Shapes) (a : ℕ) → refusingIn (whole w) w a ≡ refusing w a
-unfolding refusingIn foreign owns
-whole-judge w a = go (has (w .b) a) refl
-  where
-    go : (b : Bool) → has (w .b) a ≡ b
-        → cond (has (w .b) a && not (leb 0 (offset (w .b .from) a) && ltb (offset (w .b .from) a) (0 + w .b .size))) 32 (refusing w a) ≡ refusing w a
-    go true e =
-        let l : offset (w .b .from) a + 8 ≤ w .b .size = leb-true _ _ (unfold has in e) in
-        rw (le-leb 0 (offset (w .b .from) a) (omega arith), lt-ltb (offset (w .b .from) a) (0 + w .b .size) (omega arith), e)
-    go false e = rw e
 
 never-32 : (w : Shapes) (xs : List ℕ) → without32 (refusing w) xs ≡ xs
 unfolding without32

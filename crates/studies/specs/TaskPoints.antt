@@ -8,7 +8,7 @@ use lib.Dec.{eqb}
 use lib.ListN.{replicate}
 use Rattle.model.specs.Octa.{bytesOf}
 use Rattle.model.specs.Memory.{Windows}
-use Rattle.model.specs.Registers.{rJ, rO, rS, rG, rL, stackStart, goes, withSpecial, stored}
+use Rattle.model.specs.Registers.{rJ, rO, rS, rG, stackStart, goes, withSpecial}
 use Rattle.model.specs.Bench.{sameList, sameState, sameWindows, start}
 use Rattle.model.specs.declared.State.{State}
 use Rattle.studies.specs.Call.{Tasked, tasksOf}

@@ -1,7 +1,7 @@
 -- 02, change 12: "up to eight programs that share window A, each with its own part of the stack window". One task on its own part; and several as one machine,
 -- whose state is the list of the tasks' states and whose items are turns: each names its task, that task's part, and what the task does.
 use Prim.Native.Nat.{ℕ, _+_}
-use mathlib.Core.Bool.{Bool, cond, not, _&&_}
+use mathlib.Core.Bool.{Bool, false, cond, not, _&&_, _||_}
 use mathlib.Core.List.{List, [], _∷_}
 use lib.Dec.{leb, ltb, eqb}
 use lib.ListN.{getD, set}
@@ -31,6 +31,11 @@ foreign p w x = has (w .b) x && not (owns p (offset (w .b .from) x))
 -- in the place of 6 alone (`named`)
 unfoldable pub refusingIn : Own → Shapes → ℕ → ℕ
 refusingIn p w x = cond (foreign p w x) 32 (refusing w x)
+
+-- one of some octabytes does
+unfoldable pub anyForeign : Own → Shapes → List ℕ → Bool
+anyForeign p w [] = false
+anyForeign p w (x ∷ xs) = foreign p w x || anyForeign p w xs
 
 -- the machine of one task
 unfoldable pub mmixIn : Own → Machine State Item Shapes

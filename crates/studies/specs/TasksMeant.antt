@@ -8,13 +8,13 @@ use mathlib.Core.List.{List, [], _∷_, _++_}
 use lib.Dec.{eqb}
 use lib.ListN.{length, getD, replicate}
 use Rattle.model.specs.Memory.{Windows, shapesOf, ruled, shares, both}
-use Rattle.model.specs.Lists.{Ran, runs}
+use Rattle.model.specs.Lists.{Ran, stepOn, needsOf, runs}
 use Rattle.model.specs.Registers.{Sized}
-use Rattle.model.specs.Step.{unruledBy, fetched}
+use Rattle.model.specs.Step.{unruledBy, Item, fetched, mmix}
 use Rattle.model.specs.Run.{grantMost}
 use Rattle.model.specs.Unseen.{SameSeen}
 use Rattle.model.specs.declared.State.{State}
-use Rattle.studies.specs.Tasks.{Own, owns, taskOf, Turn, turn, studies}
+use Rattle.studies.specs.Tasks.{Own, owns, anyForeign, mmixIn, taskOf, Turn, turn, studies}
 use Rattle.studies.specs.Schedule.{Given, Scheduled, Desk}
 use Rattle.studies.specs.Call.{tasksIn, partAt, overlaps, tasksRuled, allAdmissible, turnRun, callOf, Tasked, wholeRefused, tasksOf}
 
@@ -35,6 +35,18 @@ pub record CallListed (w : Windows) (ss : List State) (ns : List ℕ) (d : Desk 
   pub answers-are : runs both studies ss w (triedTurns ns (d .given)) .answers ≡ triedAnswers (d .given)
   pub states-are : runs both studies ss w (triedTurns ns (d .given)) .state ≡ d .states
   pub memory-is : runs both studies ss w (triedTurns ns (d .given)) .memory ≡ d .memory
+
+-- ---- 32
+
+pub record ForeignMeant : Type 0 where
+  -- 32 "leaves everything"; what it does not refuse is done, or refused, as on all of B: what each other number leaves is said there (RepliesLeave)
+  pub either : (p : Own) (w : Windows) (s : State) (i : Item)
+      → (stepOn both (mmixIn p) s w i ≡ stepOn both mmix s w i) ⊎ (stepOn both (mmixIn p) s w i ≡ record { reply = 32; state = s; memory = w })
+  -- "a needed or fetched octabyte lies in the stack window outside the task's own part": just there
+  pub thirty-two : (p : Own) (w : Windows) (s : State) (i : Item) → Sized s
+      → eqb (stepOn both (mmixIn p) s w i .reply) 32 ≡ anyForeign p (shapesOf w) (needsOf both (mmixIn p) s w i)
+  -- on all of B nothing is
+  pub whole : (w : Windows) (s : State) (i : Item) → stepOn both (mmixIn (record { start = 0; size = length (w .b .bytes) })) s w i ≡ stepOn both mmix s w i
 
 -- ---- the call
 

@@ -8,7 +8,6 @@ use Rattle.model.specs.Octa.{written}
 use Rattle.model.specs.Memory.{Windows}
 use Rattle.model.specs.Run.{Stopped}
 use Rattle.model.specs.Numbers.{numberOf, replyOf}
-use Rattle.model.specs.declared.State.{State}
 use Rattle.image.specs.Image.{stateOf, storedIn}
 use Rattle.studies.specs.Tasks.{Own}
 use Rattle.studies.specs.Schedule.{countBy, refusalBy, Desk}
