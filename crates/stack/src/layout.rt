@@ -11,12 +11,12 @@ pub(crate) const CONTEXT_SPECIALS: usize = 12;
 /// l + this − g is the number of its first special, of its packed octabyte, and how many octabytes there are.
 pub(crate) const AT_SPECIALS: u64 = 257;
 
-pub(crate) const AT_PACKED: u64 = 269;
+pub const AT_PACKED: u64 = 269;
 
-pub(crate) const CONTEXT_OCTAS: u64 = 270;
+pub const CONTEXT_OCTAS: u64 = 270;
 
 /// The packed octabyte is rG times this, and rA.
-pub(crate) const PACKED_RG: u64 = 0x100000000000000;
+pub const PACKED_RG: u64 = 0x100000000000000;
 
 /// Below a saved context's packed octabyte: how many locals it has, and the address of the first. (The Rust's other fields serve nobody here.)
 pub struct SaveContextLayout {

@@ -2,7 +2,7 @@
 use mathlib.Core.Path.{_≡_, refl, sym, ap, _∙_}
 use mathlib.Core.Logic.{_⊎_, inl, inr, ⊎-elim}
 use mathlib.Core.Bool.{Bool, true, false, cond, _||_}
-use mathlib.Core.List.{List, [], _∷_, _++_}
+use mathlib.Core.List.{List, [], _∷_}
 use Prim.Native.Nat.{ℕ, zero, suc, _+_, _≤_}
 use native.Mathlib.Omega.{arith}
 use lib.Dec.{eqb}
@@ -21,15 +21,7 @@ use Rattle.model.proofs.Leaves.{replies-leave}
 use Rattle.studies.specs.Tasks.{Own, foreign, refusingIn, anyForeign, mmixIn}
 use Rattle.studies.specs.TasksMeant.{ForeignMeant}
 use Rattle.studies.proofs.Judge.{whole-judge}
-
-any-both : (p : Own) (w : Shapes) (xs ys : List ℕ) → anyForeign p w (xs ++ ys) ≡ (anyForeign p w xs || anyForeign p w ys)
-unfolding anyForeign
-any-both p w [] ys = refl
-any-both p w (x ∷ xs) ys = rw (any-both p w xs ys) (assoc (foreign p w x) (anyForeign p w xs) (anyForeign p w ys))
-  where
-    assoc : (a b c : Bool) → (a || (b || c)) ≡ ((a || b) || c)
-    assoc true b c = refl
-    assoc false b c = refl
+use Rattle.studies.proofs.AnyForeign.{any-append}
 
 -- ---- a group of needs
 
@@ -74,14 +66,14 @@ group p w (suc n) a = go (foreign p w a) refl (group p w n (a + 8))
     go false e (inl t) = inl (record {
       same = rw (head false e, t .same);
       none = rw (e, t .none);
-      none-missing = any-both p w (cond (eqb (refusingIn p w a) 0) [] (a ∷ [])) (missing (refusingIn p w) (a + 8) n)
+      none-missing = any-append p w (cond (eqb (refusingIn p w a) 0) [] (a ∷ [])) (missing (refusingIn p w) (a + 8) n)
           ∙ rw (t .none-missing) (on (λ (xs : List ℕ). (anyForeign p w xs || false) ≡ false) (eqb (refusingIn p w a) 0) (λ f. refl) (λ f. rw e));
     })
     go false e (inr t) =
         let m = refusing-most w a in
         inr (record {
           is-32 = rw (head false e, t .is-32) (omega arith);
-          some = any-both p w (cond (eqb (refusingIn p w a) 0) [] (a ∷ [])) (missing (refusingIn p w) (a + 8) n)
+          some = any-append p w (cond (eqb (refusingIn p w a) 0) [] (a ∷ [])) (missing (refusingIn p w) (a + 8) n)
               ∙ rw (t .some) (or-true (anyForeign p w (cond (eqb (refusingIn p w a) 0) [] (a ∷ []))));
         })
       where
@@ -125,11 +117,11 @@ module _ (p : Own) (w : Windows) where
 
       free : Free p (shapesOf w) a n → (b : Bool) → clear j a n ≡ b → AsWhole s (k (looks both w a n)) ⊎ Refused s (k (looks both w a n)) → AsWhole s (read q a n k) ⊎ Refused s (read q a n k)
       free g true e (inl h) = inl (record {
-        none = unfold needs in (rw e (any-both p (shapesOf w) (ups a n) (needs both j (k (looks both w a n)) w) ∙ rw (g .none) (h .none)));
+        none = unfold needs in (rw e (any-append p (shapesOf w) (ups a n) (needs both j (k (looks both w a n)) w) ∙ rw (g .none) (h .none)));
         same = unfold perform in (rw (← (g .same), e) (h .same));
       })
       free g true e (inr h) = inr (record {
-        some = unfold needs in (rw e (any-both p (shapesOf w) (ups a n) (needs both j (k (looks both w a n)) w) ∙ rw (g .none) (h .some)));
+        some = unfold needs in (rw e (any-append p (shapesOf w) (ups a n) (needs both j (k (looks both w a n)) w) ∙ rw (g .none) (h .some)));
         left = unfold perform in (rw e (h .left));
       })
       free g false e h = inl (record { none = unfold needs in (rw e (g .none-missing)); same = unfold perform in (rw (← (g .same), e)) })

@@ -7,6 +7,7 @@ pub mod Counts
 pub mod SameCall
 pub mod Parts
 pub mod Judge
+pub mod AnyForeign
 pub mod Foreign
 pub mod Turns
 pub mod Callers

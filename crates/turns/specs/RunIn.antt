@@ -1,15 +1,14 @@
--- One task's turn: a run on A and the task's own part of B, 32 told apart from 6 and 24; and whether an octabyte of a list is foreign to the task.
+-- One task's turn: a run on A and the task's own part of B, 32 told apart from 6 and 24.
 use Prim.Native.Nat.{ℕ, _+_, _%_, _^_}
-use mathlib.Core.Bool.{Bool, false, cond, _||_}
-use mathlib.Core.List.{List, [], _∷_}
+use mathlib.Core.Bool.{Bool, cond, _||_}
 use lib.Dec.{ltb, eqb}
 use lib.ListN.{take, drop}
-use Rattle.model.specs.Memory.{Windows, Shapes, shapesOf, both}
+use Rattle.model.specs.Memory.{Windows, shapesOf, both}
 use Rattle.model.specs.Registers.{admissible}
 use Rattle.model.specs.Step.{unruledBy, fetched}
 use Rattle.model.specs.Run.{Stopped, grantMost, refusedWhole, runFor}
 use Rattle.model.specs.declared.State.{State}
-use Rattle.studies.specs.Tasks.{Own, foreign, mmixIn}
+use Rattle.studies.specs.Tasks.{Own, mmixIn}
 use Rattle.studies.specs.Call.{partRuled}
 
 -- 1, 2, 22 and 25 as a run judges them, then 33 where the part is none of B's; then instruction by instruction
@@ -29,7 +28,6 @@ viewed p w = record {
   b = record { base = (w .b .base + p .start) % 2 ^ 64; bytes = take (p .size) (drop (p .start) (w .b .bytes)) };
 }
 
--- one of these octabytes lies in B outside the part
-unfoldable pub anyForeign : Own → Shapes → List ℕ → Bool
-anyForeign p w [] = false
-anyForeign p w (x ∷ xs) = foreign p w x || anyForeign p w xs
+-- 6 or 24: an octabyte, or the tetra at PC, is in neither window
+abbrev pub lost : ℕ → Bool
+lost n = eqb n 6 || eqb n 24

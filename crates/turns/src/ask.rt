@@ -1,18 +1,20 @@
-// Whether the instruction at PC needs an octabyte of B outside its task's part: what it needs on A and the part, arm by arm. It is asked of an instruction that was
-// refused, so that nothing of it is done.
+// Whether the instruction at PC needs an octabyte of B outside its task's part: what it needs on A and the part, arm by arm. It is asked of an
+// instruction that was refused, so that nothing of it is done.
 ghost use mathlib.Core.Path.{_≡_};
-ghost use mathlib.Core.Bool.{true};
-ghost use mathlib.Core.List.{List};
-ghost use Prim.Native.Nat.{ℕ, _≤_};
-ghost use Rattle.model.specs.Memory.{Shape, shapesOf};
+ghost use mathlib.Core.Bool.{true, cond};
+ghost use mathlib.Core.List.{List, []};
+ghost use Prim.Native.Nat.{ℕ, _+_};
+ghost use lib.Dec.{ltb};
+ghost use Rattle.model.specs.Memory.{shapesOf};
 ghost use Rattle.model.specs.Plan.{ups};
-ghost use Rattle.model.specs.Registers.{admissible};
+ghost use Rattle.model.specs.Registers.{rO, rG, sp, admissible};
 ghost use Rattle.model.specs.Opcodes.{armOf};
+ghost use Rattle.model.specs.Frames.{hole};
+ghost use Rattle.model.specs.Contexts.{extent};
 ghost use Rattle.model.specs.Step.{unruledBy, fetchedNeeds};
 ghost use Rattle.model.specs.StepNeeds.{popNeeds, unsaveNeeds, armNeeds};
 ghost use Rattle.model.specs.Parts.{made, lent};
-ghost use Rattle.studies.specs.Tasks.{foreign};
-ghost use Rattle.turns.specs.RunIn.{anyForeign, Held, wholeOf, ownOf};
+ghost use Rattle.turns.specs.Ask.{isForeign, asks, OwnOnly, Counted};
 use decode::opcode;
 use model::Bases;
 use model::State;
@@ -31,7 +33,9 @@ pub(crate) struct Whole {
 const NEITHER: u64 = 2;
 
 /// Whether the octabyte that `addr` names lies in B outside the part.
-fn is_foreign(whole: Whole, addr: u64) -> bool {
+fn is_foreign(whole: Whole, addr: u64) -> bool
+    ensures { λ r. ⌜ r ≡ isForeign whole addr ⌝ }
+{
     let at = machine::window::distance(whole.base, addr);
     if whole.len < 8 {
         return false;
@@ -49,7 +53,9 @@ fn is_foreign(whole: Whole, addr: u64) -> bool {
 }
 
 /// Whether one of the n octabytes from `addr` up does.
-fn has_foreign(whole: Whole, addr: u64, n: u64) -> bool {
+fn has_foreign(whole: Whole, addr: u64, n: u64) -> bool
+    ensures { λ r. ⌜ r ≡ asks whole (ups addr n) ⌝ }
+{
     let mut place = addr;
     let mut i: u64 = 0;
     while i < n {
@@ -63,7 +69,12 @@ fn has_foreign(whole: Whole, addr: u64, n: u64) -> bool {
 }
 
 /// A call's frame.
-fn push_asks(special: &[u64; 32], whole: Whole, x: u8) -> bool {
+fn push_asks(special: &[u64; 32], whole: Whole, x: u8) -> bool
+    requires { ⌜ Counted (now special) ⌝ }
+    ensures { λ r. ⌜ ((general : List ℕ) (pc halt marks mask : ℕ) → r
+        ≡ asks whole (ups (sp (made general (now (special .entry)) pc halt marks mask) rO)
+        (hole (made general (now (special .entry)) pc halt marks mask) x + 1))) ⌝ }
+{
     let rg = special[State::RG];
     let rl = special[State::RL];
     let ro = special[State::RO];
@@ -75,7 +86,11 @@ fn push_asks(special: &[u64; 32], whole: Whole, x: u8) -> bool {
 }
 
 /// POP's octabyte below rO, and then the locals.
-fn pop_asks(special: &[u64; 32], a: &[u8], b: &[u8], at: Bases, whole: Whole) -> bool {
+fn pop_asks(special: &[u64; 32], a: &[u8], b: &[u8], at: Bases, whole: Whole) -> bool
+    requires { ⌜ OwnOnly whole (lent at (now a) (now b)) ⌝ }
+    ensures { λ r. ⌜ ((general : List ℕ) (pc halt marks mask : ℕ) → r
+        ≡ asks whole (popNeeds (lent at (now (a .entry)) (now (b .entry))) (made general (now (special .entry)) pc halt marks mask))) ⌝ }
+{
     let ro = special[State::RO];
     let rg = special[State::RG];
     if ro <= State::STACK_START {
@@ -101,7 +116,12 @@ fn pop_asks(special: &[u64; 32], a: &[u8], b: &[u8], at: Bases, whole: Whole) ->
 }
 
 /// The context that SAVE stores.
-fn save_asks(special: &[u64; 32], whole: Whole, x: u8) -> bool {
+fn save_asks(special: &[u64; 32], whole: Whole, x: u8) -> bool
+    requires { ⌜ Counted (now special) ⌝ }
+    ensures { λ r. ⌜ ((general : List ℕ) (pc halt marks mask : ℕ) → r
+        ≡ asks whole (cond (ltb x (sp (made general (now (special .entry)) pc halt marks mask) rG)) []
+        (ups (sp (made general (now (special .entry)) pc halt marks mask) rO) (extent (made general (now (special .entry)) pc halt marks mask))))) ⌝ }
+{
     let rg = special[State::RG];
     let rl = special[State::RL];
     let ro = special[State::RO];
@@ -112,7 +132,10 @@ fn save_asks(special: &[u64; 32], whole: Whole, x: u8) -> bool {
 }
 
 /// UNSAVE's packed octabyte, then the local count, then the rest.
-fn unsave_asks(a: &[u8], b: &[u8], at: Bases, whole: Whole, address: u64) -> bool {
+fn unsave_asks(a: &[u8], b: &[u8], at: Bases, whole: Whole, address: u64) -> bool
+    requires { ⌜ OwnOnly whole (lent at (now a) (now b)) ⌝ }
+    ensures { λ r. ⌜ r ≡ asks whole (unsaveNeeds (lent at (now (a .entry)) (now (b .entry))) address) ⌝ }
+{
     if is_foreign(whole, address) {
         return true;
     }
@@ -156,7 +179,12 @@ fn arm_asks(
     x: u8,
     y: u8,
     z: u8,
-) -> bool {
+) -> bool
+    requires { ⌜ Counted (now special) × OwnOnly whole (lent at (now a) (now b)) ⌝ }
+    ensures { λ r. ⌜ ((pc halt marks mask : ℕ) → r
+        ≡ asks whole (armNeeds (lent at (now (a .entry)) (now (b .entry))) (made (now (general .entry)) (now (special .entry)) pc halt marks mask)
+        (armOf op) x y z)) ⌝ }
+{
     if opcode::is_among(op, opcode::FIRST_LOAD, opcode::LAST_LOAD) {
         return is_foreign(whole, instruction::control::sum(general, op, y, z));
     }
@@ -187,7 +215,11 @@ pub(crate) fn asks_foreign(
     b: &[u8],
     at: Bases,
     whole: Whole,
-) -> bool {
+) -> bool
+    requires { ⌜ Counted (now special) × OwnOnly whole (lent at (now a) (now b)) × (unruledBy (shapesOf (lent at (now a) (now b))) ≡ 0) ⌝ }
+    ensures { λ r. ⌜ ((halt marks mask : ℕ) → admissible (made (now (general .entry)) (now (special .entry)) pc halt marks mask) ≡ true → r
+        ≡ asks whole (fetchedNeeds (lent at (now (a .entry)) (now (b .entry))) (made (now (general .entry)) (now (special .entry)) pc halt marks mask))) ⌝ }
+{
     let found = machine::memory::read_octa(a, b, at, pc);
     if found.holder == NEITHER {
         return is_foreign(whole, pc);
@@ -198,10 +230,11 @@ pub(crate) fn asks_foreign(
     let x = (tetra / 0x1_0000 % 0x100) as u8;
     let y = (tetra / 0x100 % 0x100) as u8;
     let z = (tetra % 0x100) as u8;
+    if !opcode::claims(op) {
+        return arm_asks(general, special, a, b, at, whole, op, x, y, z);
+    }
     let mut claimed = *general;
     let mut specials = *special;
-    if opcode::claims(op) {
-        machine::registers::claim_local(&mut claimed, &mut specials, x);
-    }
+    stack::pass::claim_local(&mut claimed, &mut specials, x);
     arm_asks(&claimed, &specials, a, b, at, whole, op, x, y, z)
 }
