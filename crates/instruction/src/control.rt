@@ -39,7 +39,7 @@ pub(crate) fn jump(pc: &mut u64, op: u8, x: u8, y: u8, z: u8) -> Reply
 }
 
 /// $Y + $Z for an even opcode, $Y + Z for an odd one.
-pub(crate) fn sum(general: &[u64; 256], op: u8, y: u8, z: u8) -> u64
+pub fn sum(general: &[u64; 256], op: u8, y: u8, z: u8) -> u64
     ensures { λ r. ⌜ ((special : List ℕ) (pc halt marks mask : ℕ) → r
         ≡ sumOf (made (now (general .entry)) special pc halt marks mask) (lastOf op) y z) ⌝ }
 {

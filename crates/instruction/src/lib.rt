@@ -13,7 +13,7 @@
 
 pub mod calls;
 pub mod contexts;
-mod control;
+pub mod control;
 mod load_store;
 mod operations;
 pub mod registers;

@@ -1,8 +1,9 @@
 -- The desk as code has it: the tasks' states are the images' bytes, and counts and refusals stand in the place of the turns given.
 use Prim.Native.Nat.{ℕ, _+_, _*_, _^_, _≤_}
 use mathlib.Core.Path.{_≡_}
+use mathlib.Core.Bool.{true}
 use mathlib.Core.List.{List}
-use lib.ListN.{getD}
+use lib.ListN.{length, getD}
 use Rattle.model.specs.Fill.{tab}
 use Rattle.model.specs.Octa.{written}
 use Rattle.model.specs.Memory.{Windows}
@@ -11,9 +12,9 @@ use Rattle.model.specs.Numbers.{numberOf, replyOf}
 use Rattle.image.specs.Image.{stateOf, storedIn}
 use Rattle.studies.specs.Tasks.{Own}
 use Rattle.studies.specs.Schedule.{countBy, refusalBy, Desk}
-use Rattle.studies.specs.Call.{partAt, tasksMost}
+use Rattle.studies.specs.Call.{tasksIn, partAt, tasksMost}
 use Rattle.turns.specs.RunIn.{runIn}
-use Rattle.tasks.specs.Images.{imageIn}
+use Rattle.tasks.specs.Images.{imagesFit, eachLength, imageIn}
 
 -- the turn of a task on its image
 unfoldable pub imageTurn : Windows → List ℕ → Own → ℕ → Stopped (List ℕ) Windows
@@ -32,6 +33,10 @@ imagesTurn e ns k g l w = record {
   state = written l (k * e) (imageTurn w (imageIn e l k) (partAt ns k) g .state);
   memory = imageTurn w (imageIn e l k) (partAt ns k) g .memory;
 }
+
+-- .. of as many as there are parts
+abbrev pub tasksTurn : List ℕ → List ℕ → ℕ → ℕ → List ℕ → Windows → Stopped (List ℕ) Windows
+tasksTurn ns l = imagesTurn (eachLength (tasksIn ns) l) ns
 
 -- a turn that replied r and did n
 pub record Turned (o : Stopped (List ℕ) Windows) (r n : ℕ) (m : List ℕ) (v : Windows) : Type 0 where
@@ -52,6 +57,15 @@ pub record At (d : Desk (List ℕ) Windows) (left : ℕ) (images : List ℕ) (w 
 abbrev pub Shown : Desk (List ℕ) Windows → List ℕ → Windows → List ℕ → List ℕ → Type 0
 Shown d images w counts refusals = At d (d .left) images w counts refusals
 
--- no count passes a number of 32 bits, nor does it with all that is left
-abbrev pub Small : ℕ → List ℕ → Type 0
-Small left counts = (k : ℕ) → getD counts k 0 + left ≤ 2 ^ 32
+-- where turns can be given: no more than eight tasks, images that fit, and no count passes a number of 32 bits, nor does it with all that is left
+pub record Ready (ns images : List ℕ) (left : ℕ) (counts : List ℕ) : Type 0 where
+  pub few : tasksIn ns ≤ tasksMost
+  pub fit : imagesFit (tasksIn ns) images ≡ true
+  pub small : (k : ℕ) → getD counts k 0 + left ≤ 2 ^ 32
+
+-- what code has of each desk d becomes what it has of f d
+pub record Played (ns : List ℕ) (f : Desk (List ℕ) Windows → Desk (List ℕ) Windows) (left : ℕ) (l : List ℕ) (w : Windows) (cs rs : List ℕ)
+    (left' : ℕ) (m : List ℕ) (v : Windows) (ds ts : List ℕ) : Type 0 where
+  pub at : (d : Desk (List ℕ) Windows) → At d left l w cs rs → At (f d) left' m v ds ts
+  pub ready : Ready ns m left' ds
+  pub long : length m ≡ length l

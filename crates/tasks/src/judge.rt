@@ -1,13 +1,15 @@
 // What refuses a call of several tasks whole.
 ghost use mathlib.Core.Path.{_≡_};
+ghost use mathlib.Core.Bool.{_&&_};
 ghost use mathlib.Core.List.{List};
 ghost use Prim.Native.Nat.{ℕ, _+_, _*_, _≤_};
+ghost use lib.Dec.{ltb};
 ghost use lib.ListN.{length};
 ghost use Rattle.model.specs.Memory.{shapesOf};
 ghost use Rattle.model.specs.Parts.{lent};
 ghost use Rattle.studies.specs.Tasks.{owns};
 ghost use Rattle.studies.specs.Call.{tasksIn, partAt, eachBelow, partRuled, overlaps, partClear, tasksRuled, allAdmissible, callRefusal};
-ghost use Rattle.tasks.specs.Images.{imagesFit, eachLength, statesIn};
+ghost use Rattle.tasks.specs.Images.{eachLength, statesIn};
 use image::IMAGE_LEN;
 use image::OLD_IMAGE_LEN;
 use model::Bases;
@@ -37,17 +39,24 @@ fn is_owned(start: u64, len: u64, at: u64) -> bool
     false
 }
 
-/// Whether two parts overlap: the first byte of one lies in the other.
+/// Whether a part that is not empty begins in another, that from `start` on.
+fn begins_in(start: u64, len: u64, other: u64, other_len: u64) -> bool
+    ensures { λ r. ⌜ r ≡ ltb 0 «other_len» && owns (record { start = start; size = len }) other ⌝ }
+{
+    if other_len == 0 {
+        return false;
+    }
+    is_owned(start, len, other)
+}
+
+/// Whether two parts overlap: one begins in the other.
 fn overlap(start: u64, len: u64, other: u64, other_len: u64) -> bool
     ensures { λ r. ⌜ r ≡ overlaps (record { start = start; size = len }) (record { start = other; size = «other_len» }) ⌝ }
 {
-    if 0 < other_len && is_owned(start, len, other) {
+    if begins_in(start, len, other, other_len) {
         return true;
     }
-    if 0 < len && is_owned(other, other_len, start) {
-        return true;
-    }
-    false
+    begins_in(other, other_len, start, len)
 }
 
 /// A task's own part of B.
@@ -156,7 +165,7 @@ pub(crate) fn each_len(len: usize, n: usize) -> usize
 
 /// Whether they are images of admissible states, all of one length.
 fn are_admissible(images: &[u8], n: usize) -> bool
-    requires { ⌜ n ≤ 8 ⌝ }
+    requires { ⌜ (1 ≤ n) × (n ≤ 8) ⌝ }
     ensures { λ r. ⌜ r ≡ allAdmissible n (statesIn n (now (images .entry))) ⌝ }
 {
     let each = each_len(images.len(), n);
@@ -185,8 +194,8 @@ pub(crate) fn call_refusal(
     q: u64,
     grant: u64,
 ) -> u64
-    ensures { λ r. ⌜ r ≡ callRefusal (shapesOf (lent at (now (a .entry)) (now (b .entry)))) (statesIn (tasksIn (now (parts .entry))) (now (images .entry)))
-        (now (parts .entry)) q grant ⌝ }
+    ensures { λ r. ⌜ r ≡ callRefusal (shapesOf (lent at (now (a .entry)) (now (b .entry))))
+        (statesIn (tasksIn (now (parts .entry))) (now (images .entry))) (now (parts .entry)) q grant ⌝ }
 {
     let number = machine::memory::windows_refusal(a, b, at);
     if number != 0 {

@@ -11,8 +11,8 @@ mod schedule;
 /// The most tasks.
 pub const TASKS_MAX: usize = 8;
 
-/// A call of several tasks: 2, 22, 25, 33 and then 1 refuse it whole; else each task has its turns until the grant is spent or all have stopped. `parts` has start and
-/// length of each task's part of B, `images` their states. Counts and refusals are written at every reply.
+/// A call of several tasks: 2, 22, 25, 33 and then 1 refuse it whole; else each task has its turns until the grant is spent or all have stopped.
+/// `parts` has start and length of each task's part of B, `images` their states. Counts and refusals are written at every reply.
 pub fn run(
     at: Bases,
     q: u64,

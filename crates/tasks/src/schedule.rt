@@ -4,15 +4,14 @@ ghost use mathlib.Core.Path.{_≡_};
 ghost use mathlib.Core.Bool.{true};
 ghost use mathlib.Core.List.{List};
 ghost use Prim.Native.Nat.{ℕ, _+_, _≤_, _<_};
-ghost use lib.ListN.{length};
 ghost use Rattle.model.specs.Fill.{tab};
 ghost use Rattle.model.specs.Memory.{Windows};
 ghost use Rattle.model.specs.Parts.{lent};
+ghost use Rattle.model.specs.Run.{grantMost};
 ghost use Rattle.image.specs.Image.{isImage};
 ghost use Rattle.studies.specs.Schedule.{Given, refusalBy, anyRuns, Desk, turnOf, turnsFrom, rounds};
 ghost use Rattle.studies.specs.Call.{tasksIn, tasksMost};
-ghost use Rattle.tasks.specs.Images.{imagesFit, eachLength};
-ghost use Rattle.tasks.specs.Desks.{imageTurn, imagesTurn, Turned, At, Shown, Small};
+ghost use Rattle.tasks.specs.Desks.{imageTurn, tasksTurn, Turned, At, Shown, Ready, Played};
 use super::judge;
 use image::Rest;
 use model::Bases;
@@ -81,12 +80,10 @@ fn turn(
     refusals: &mut [u64; 8],
     k: usize,
 ) -> u64
-    requires { ⌜ (k < tasksIn (now parts)) × (tasksIn (now parts) ≤ 8) × (imagesFit (tasksIn (now parts)) (now images) ≡ true) × (Small left (now counts)) ⌝ }
-    ensures { λ r. ⌜ ((d : Desk (List ℕ) Windows)
-        → At d left (now (images .entry)) (lent at (now (a .entry)) (now (b .entry))) (now (counts .entry)) (now (refusals .entry))
-        → At (turnOf (imagesTurn (eachLength (tasksIn (now (parts .entry))) (now (images .entry))) (now (parts .entry))) (tasksIn (now (parts .entry))) q k d)
-        r (now (images .exit)) (lent at (now (a .exit)) (now (b .exit))) (now (counts .exit)) (now (refusals .exit)))
-        × (Small r (now (counts .exit))) × (length (now (images .exit)) ≡ length (now (images .entry))) ⌝ }
+    requires { ⌜ (k < tasksIn (now parts)) × Ready (now parts) (now images) left (now counts) ⌝ }
+    ensures { λ r. ⌜ Played (now (parts .entry)) (turnOf (tasksTurn (now (parts .entry)) (now (images .entry))) (tasksIn (now (parts .entry))) q k)
+        left (now (images .entry)) (lent at (now (a .entry)) (now (b .entry))) (now (counts .entry)) (now (refusals .entry))
+        r (now (images .exit)) (lent at (now (a .exit)) (now (b .exit))) (now (counts .exit)) (now (refusals .exit)) ⌝ }
 {
     if left == 0 {
         return 0;
@@ -127,12 +124,11 @@ fn round(
     counts: &mut [u64; 8],
     refusals: &mut [u64; 8],
 ) -> u64
-    requires { ⌜ (tasksIn (now parts) ≤ 8) × (imagesFit (tasksIn (now parts)) (now images) ≡ true) × (Small left (now counts)) ⌝ }
-    ensures { λ r. ⌜ ((d : Desk (List ℕ) Windows)
-        → At d left (now (images .entry)) (lent at (now (a .entry)) (now (b .entry))) (now (counts .entry)) (now (refusals .entry))
-        → At (turnsFrom (imagesTurn (eachLength (tasksIn (now (parts .entry))) (now (images .entry))) (now (parts .entry))) (tasksIn (now (parts .entry))) q 0 (tasksIn (now (parts .entry))) d)
-        r (now (images .exit)) (lent at (now (a .exit)) (now (b .exit))) (now (counts .exit)) (now (refusals .exit)))
-        × (Small r (now (counts .exit))) × (length (now (images .exit)) ≡ length (now (images .entry))) ⌝ }
+    requires { ⌜ Ready (now parts) (now images) left (now counts) ⌝ }
+    ensures { λ r. ⌜ Played (now (parts .entry))
+        (turnsFrom (tasksTurn (now (parts .entry)) (now (images .entry))) (tasksIn (now (parts .entry))) q 0 (tasksIn (now (parts .entry))))
+        left (now (images .entry)) (lent at (now (a .entry)) (now (b .entry))) (now (counts .entry)) (now (refusals .entry))
+        r (now (images .exit)) (lent at (now (a .exit)) (now (b .exit))) (now (counts .exit)) (now (refusals .exit)) ⌝ }
 {
     let n = parts.len() / 2;
     let mut rest = left;
@@ -182,10 +178,10 @@ pub(crate) fn rounds(
     counts: &mut [u64; 8],
     refusals: &mut [u64; 8],
 )
-    requires { ⌜ (tasksIn (now parts) ≤ 8) × (imagesFit (tasksIn (now parts)) (now images) ≡ true) × (grant ≤ 1000000) × (Small grant (now counts)) ⌝ }
+    requires { ⌜ Ready (now parts) (now images) grant (now counts) × (grant ≤ grantMost) ⌝ }
     ensures { λ _. ⌜ ((d : Desk (List ℕ) Windows)
         → At d grant (now (images .entry)) (lent at (now (a .entry)) (now (b .entry))) (now (counts .entry)) (now (refusals .entry))
-        → Shown (rounds (imagesTurn (eachLength (tasksIn (now (parts .entry))) (now (images .entry))) (now (parts .entry))) (tasksIn (now (parts .entry))) q (grant + tasksIn (now (parts .entry))) d)
+        → Shown (rounds (tasksTurn (now (parts .entry)) (now (images .entry))) (tasksIn (now (parts .entry))) q (grant + tasksIn (now (parts .entry))) d)
         (now (images .exit)) (lent at (now (a .exit)) (now (b .exit))) (now (counts .exit)) (now (refusals .exit))) ⌝ }
 {
     let n = parts.len() / 2;

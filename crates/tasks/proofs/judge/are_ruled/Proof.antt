@@ -1,0 +1,64 @@
+-- `are_ruled` meets its contract. The loop's invariant: the first k parts obey their rule.
+use mathlib.Core.Path.{_≡_}
+use mathlib.Core.Bool.{true}
+use Prim.Native.Nat.{_≤_, _-_}
+use native.Mathlib.Omega.{arith}
+use Rattle.tasks.proofs.Judged.{below-none, ruledSo, ruled-fails, ruled-more, ruled-all}
+use borrow.Author.Needs.{needs}
+use Rattle.tasks.proofs.judge.are_ruled.Statement.{statement}
+use Rattle.tasks.proofs.judge.are_ruled.Tie as tie
+
+abbrev Inv-loop : tie.InvT-loop
+Inv-loop parts n b-len k₀ k = (k ≤ n) × (ruledSo b-len parts k ≡ true)
+
+abbrev μ-loop : tie.MeasureT-loop
+μ-loop parts n b-len k₀ k = n - k
+
+loop-holds : tie.Need-loop-holds Inv-loop μ-loop
+loop-holds c = (omega arith, below-none _)
+
+part-at-requires : tie.Need-part-at-requires Inv-loop μ-loop
+part-at-requires c κs = search needs
+
+is-part-requires : tie.Need-is-part-requires Inv-loop μ-loop
+is-part-requires c κs = search needs
+
+returns : tie.Need-returns Inv-loop μ-loop
+returns c =
+    let turn = c .before .before .before .before in
+    ruled-fails (turn .before .before .args .b-len) (turn .before .before .args .parts .now) (turn .loop .k) _ (c .before .before .part-at .ensures) _ (c .before .is-part .ensures)
+    (turn .before .before .args .n) (omega arith) (c .if1 .taken)
+
+add-k : tie.Need-add-k Inv-loop μ-loop
+add-k c = search needs
+
+loop-less : tie.Need-loop-less Inv-loop μ-loop
+loop-less c = search needs
+
+loop-again : tie.Need-loop-again Inv-loop μ-loop
+loop-again c =
+    let turn = c .before .before .before .before in (
+      omega arith,
+      ruled-more (turn .before .before .args .b-len) (turn .before .before .args .parts .now) (turn .loop .k) _ (c .before .before .part-at .ensures) _ (c .before .is-part .ensures)
+          (c .if1 .left) (turn .loop .inv .1),
+    )
+
+returns-2 : tie.Need-returns-2 Inv-loop μ-loop
+returns-2 c =
+    let start = c .before .before .before in
+    ruled-all (start .args .b-len) (start .args .parts .now) _ (c .before .loop .k) (omega arith) (c .before .loop .inv .1)
+
+pub are-ruled-spec : {M : Type 1} → statement M
+are-ruled-spec =
+    tie.close
+    (tie.spec
+    Inv-loop
+    μ-loop
+    loop-holds
+    part-at-requires
+    is-part-requires
+    returns
+    add-k
+    loop-less
+    loop-again
+    returns-2)
