@@ -1,4 +1,4 @@
-//! The C library: what a relay host calls, on numbers and byte slices. 0 is done; 1 to 31 are the refusals.
+//! The C library: what a relay host calls, on numbers and byte slices. 0 is done; 1 to 33 are the refusals.
 
 ghost use Rattle.model.specs.Control.{branchFields, jumpFields};
 ghost use Rattle.model.specs.Field.{fieldOf, answerOf};
@@ -7,6 +7,7 @@ ghost use Rattle.model.specs.Kept.{pointIn};
 ghost use Rattle.image.specs.Image.{Decoded, Encoded};
 ghost use Rattle.store.specs.Store.{Took, GoneBack};
 ghost use Rattle.sets.specs.Sets.{pairsOf, pairsIn, PutSet};
+ghost use Rattle.tasks.specs.Images.{TasksRan};
 ghost use Rattle.mmix.specs.Entries.{lentAt, Initialized, Stepped, SteppedState, RanImage, RanState, Raised, RaisedState, SetImage, ContextAt, FieldTold};
 use image::Answer;
 use image::Rest;
@@ -221,6 +222,31 @@ pub extern "C" fn mmix_run(
         },
     );
     reply
+}
+
+/// Several tasks on their images and the two windows, by turns of up to `q` instructions: `parts` has start and length of each task's part of B. `counts` becomes how
+/// many each did, `refusals` the number that stopped it, or 0.
+#[no_mangle]
+pub extern "C" fn mmix_tasks(
+    base_a: u64,
+    base_b: u64,
+    q: u64,
+    grant: u64,
+    images: &mut [u8],
+    parts: &[u64],
+    a: &mut [u8],
+    b: &mut [u8],
+    counts: &mut [u64; 8],
+    refusals: &mut [u64; 8],
+) -> u64
+    ensures { λ r. ⌜ TasksRan (now (images .entry)) (lentAt «base_a» «base_b» (now (a .entry)) (now (b .entry))) (now (parts .entry)) q grant r
+        (now (images .exit)) (lentAt «base_a» «base_b» (now (a .exit)) (now (b .exit))) (now (counts .exit)) (now (refusals .exit)) ⌝ }
+{
+    let at = Bases {
+        a: base_a,
+        b: base_b,
+    };
+    tasks::run(at, q, grant, images, parts, a, b, counts, refusals)
 }
 
 /// One exception on an image.
