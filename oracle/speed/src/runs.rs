@@ -1,5 +1,6 @@
 //! Runs of programs: nanoseconds an instruction. Each program goes round for ever, so a run ends where its grant is spent, and
-//! the next one goes on. Where the Rust has all of a program's arms, its fetched instruction stands beside.
+//! the next one goes on. Where the Rust has all of a program's arms, its fetched instruction stands beside; and the same program in eight tasks, 1,000
+//! instructions a turn.
 
 use std::hint::black_box;
 
@@ -7,7 +8,7 @@ use oracle::lent::{Window, Windows};
 use oracle::model::Model;
 use oracle::opcodes::*;
 use oracle::state::{MARKS_MAX, RG, RJ, RL, RO, RS, STACK_START, State};
-use oracle::subject::Subject;
+use oracle::subject::{Subject, Told};
 use taken_plain::mmix::MMix;
 
 use crate::{Silent, least};
@@ -15,6 +16,12 @@ use crate::{Silent, least};
 /// Instructions a call: long enough that judging state and windows is not seen, and a call of 100 beside it.
 const GRANT: u64 = 2_000;
 const SHORT: u64 = 100;
+/// Of eight tasks: the most instructions a turn, one turn each, and bytes of each one's part of B.
+const TASKS: u64 = 8;
+const TURN: u64 = 1_000;
+const PART: u64 = 0x800;
+/// At most so many times one run of the same instructions.
+const TASKS_HELD: f64 = 1.5;
 
 /// What a program is held to.
 #[derive(Clone, Copy)]
@@ -182,12 +189,12 @@ fn check(subject: &impl Subject, program: &Program) {
     }
 }
 
-/// Nanoseconds an instruction: the Rust's, a run on parts, a short one, and a run on an image.
+/// Nanoseconds an instruction: the Rust's, a run on parts, a short one, a run on an image, and eight tasks.
 #[derive(Clone, Copy)]
-pub struct Times([f64; 4]);
+pub struct Times([f64; 5]);
 
 impl Times {
-    pub const NONE: Self = Self([f64::INFINITY; 4]);
+    pub const NONE: Self = Self([f64::INFINITY; 5]);
 
     pub fn least(&self, other: &Self) -> Self {
         Self(std::array::from_fn(|k| self.0[k].min(other.0[k])))
@@ -200,6 +207,30 @@ fn on_parts(subject: &impl Subject, program: &Program, grant: u64) -> f64 {
         black_box(subject.run_parts(black_box(grant), (&mut state).into(), windows.lend(), &mut done));
     });
     call / grant as f64
+}
+
+/// Eight tasks that run the program, each with its stack and data in its own part: images, parts and windows.
+fn eight(program: &Program) -> (Vec<u8>, Vec<u64>, Windows) {
+    let (state, mut windows) = start(program);
+    windows.b.bytes = vec![0; (TASKS * PART) as usize];
+    let image = |k: u64| {
+        let mut state = state.clone();
+        state.special[RO] = STACK_START + k * PART;
+        (state.special[RS], state.general[6]) = (state.special[RO], state.special[RO] + 0x400);
+        state.image()
+    };
+    ((0..TASKS).flat_map(image).collect(), (0..TASKS).flat_map(|k| [k * PART, PART]).collect(), windows)
+}
+
+fn in_tasks(subject: &impl Subject, program: &Program) -> f64 {
+    let (mut images, parts, mut windows) = eight(program);
+    let (mut counts, mut refusals) = ([0; 8], [0; 8]);
+    let call = least(|| {
+        let told = Told { counts: &mut counts, refusals: &mut refusals };
+        black_box(subject.tasks(TURN, black_box(TASKS * TURN), &mut images, &parts, windows.lend(), told));
+    });
+    assert!(counts == [TURN; 8] && refusals == [0; 8], "{}: {counts:?}, {refusals:?}", program.name);
+    call / (TASKS * TURN) as f64
 }
 
 pub fn measured(subject: &impl Subject, program: &Program) -> Times {
@@ -219,7 +250,7 @@ pub fn measured(subject: &impl Subject, program: &Program) -> Times {
         black_box(subject.run(black_box(GRANT), &mut image, windows.lend(), &mut done));
     });
     let parts = [GRANT, SHORT].map(|grant| on_parts(subject, program, grant));
-    Times([fetched, parts[0], parts[1], on_image / GRANT as f64])
+    Times([fetched, parts[0], parts[1], on_image / GRANT as f64, in_tasks(subject, program)])
 }
 
 /// The programs whose name holds a text; each is checked first.
@@ -235,7 +266,7 @@ pub fn print(programs: &[Program], times: &[Times], branch: f64) {
         return;
     }
     println!("\nruns, nanoseconds an instruction");
-    println!("{:<34}{:>10}{:>10}{:>10}{:>10}", "program", "fetched", "run", "of 100", "image");
+    println!("{:<34}{:>10}{:>10}{:>10}{:>10}{:>10}", "program", "fetched", "run", "of 100", "image", "tasks");
     for (program, Times(row)) in programs.iter().zip(times) {
         let columns = row.map(|t| if t.is_finite() { format!("{t:>10.2}") } else { format!("{:>10}", "-") });
         println!("{:<34}{}", program.name, columns.concat());
@@ -250,4 +281,7 @@ pub fn print(programs: &[Program], times: &[Times], branch: f64) {
         let verdict = if met { "met" } else { "NOT MET" };
         println!("{:<34}{what:<18}{ratio:>8.2}   {sense:<8} {bound:>3}   {verdict}", program.name);
     }
+    let worst = times.iter().map(|Times([_, run, .., tasks])| tasks / run).fold(0.0, f64::max);
+    let verdict = if worst <= TASKS_HELD { "met" } else { "NOT MET" };
+    println!("{:<34}{:<18}{worst:>8.2}   at most  {TASKS_HELD:>3}   {verdict}", "eight tasks, the worst of these", "tasks / run");
 }
