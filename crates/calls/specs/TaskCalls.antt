@@ -1,6 +1,6 @@
--- Demand 3 as a host meets it with several tasks: lists of calls of the C functions, in any mix, each on what the one before left. The host holds each task as an
--- image or a struct, and lends two windows. A call is one of crate mmix's specs/Calls on what one task holds, with all of B; or mmix_tasks on the images of all
--- tasks, each with its part of B. `TasksRan` is the contract of mmix_tasks.
+-- Demand 3 as a host meets it with several tasks: lists of calls of the C functions, in any mix, each on what the one before left. The host holds each task
+-- as an image or a struct, and lends two windows. A call is one of crate mmix's specs/Calls on what one task holds, with all of B; or mmix_tasks on the images
+-- of all tasks, each with its part of B. `TasksRan` is the contract of mmix_tasks.
 use Prim.Native.Nat.{ℕ, zero, suc, _+_, _*_, _<_}
 use mathlib.Core.Path.{_≡_}
 use mathlib.Core.Logic.{_≢_, _⊎_}
@@ -87,7 +87,8 @@ unfoldable pub turnsOf : ℕ → Own → List Item → List Turn
 turnsOf k p [] = []
 turnsOf k p (i ∷ is) = turn k p i ∷ turnsOf k p is
 
--- the turns that a call on hs and w asks for where it replies r, with the count n of a run; of mmix_tasks those that it tried, and none where it is refused whole
+-- the turns that a call on hs and w asks for where it replies r, with the count n of a run; of mmix_tasks those that it tried, none where it is
+-- refused whole
 unfoldable pub turnsBy : List Held → Windows → TaskEntry → ℕ → ℕ → List Turn
 turnsBy hs w (alone k e) r n = turnsOf k (wholeOf w) (askedBy e r n)
 turnsBy hs w (together e ns q grant) r n = cond (eqb r 0) (triedTurns ns (callOf w (statesHeld hs) ns q grant .given)) []

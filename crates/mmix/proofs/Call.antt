@@ -61,7 +61,7 @@ unfolding hasRoom
 room-same l m k e = ap (λ (n : ℕ). eqb n imageLength || (eqb n oldImageLength && eqb k 0)) (sym e)
 
 -- an image with a state put into it
-held-as : (l m : List ℕ) (s : State) → hasRoom l (s .mask) ≡ true → Sized s → m ≡ imageAs l s → HeldIs (image m) s
+pub held-as : (l m : List ℕ) (s : State) → hasRoom l (s .mask) ≡ true → Sized s → m ≡ imageAs l s → HeldIs (image m) s
 unfolding HeldIs
 held-as l m s e z d =
     let n : length m ≡ length l = ap length d ∙ keeps-length .as-length l s (room-image l (s .mask) e) z in

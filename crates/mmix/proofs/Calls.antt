@@ -26,12 +26,12 @@ use Rattle.mmix.proofs.Forms.{formAfter, form-after, same-held}
 use Rattle.mmix.proofs.Chains.{Kept, kept, Ended, SameCalls, same-calls, twins-at, same-form, chain-ended}
 
 -- one call that asks for a step
-record StepMade (g : Held) (w : Windows) (op x y z r : ℕ) (k : Held) (v : Windows) : Type 0 where
-  reply-is : r ≡ stepOf w (heldState g) op x y z .reply
-  state-is : heldState k ≡ stepOf w (heldState g) op x y z .state
-  window-is : v ≡ stepOf w (heldState g) op x y z .memory
-  whole : Intact k
-  bytes : Bytes v
+pub record StepMade (g : Held) (w : Windows) (op x y z r : ℕ) (k : Held) (v : Windows) : Type 0 where
+  pub reply-is : r ≡ stepOf w (heldState g) op x y z .reply
+  pub state-is : heldState k ≡ stepOf w (heldState g) op x y z .state
+  pub window-is : v ≡ stepOf w (heldState g) op x y z .memory
+  pub whole : Intact k
+  pub bytes : Bytes v
 
 -- no run asks for a step
 unfoldable isFetched : Item → ℕ
@@ -49,7 +49,7 @@ unfolding triedItems
 no-step r n op x y z =
     on {A = List Item} (λ l. l ≡ step op x y z ∷ [] → ⊥) (eqb r 25) (λ b e. omega (arith, ap length e)) (λ b. none-step (cond (eqb r 0) n (suc n)) op x y z)
 
-asked-step : (e : Entry) (r n q m op x y z : ℕ) → askedBy e r n ≡ step op x y z ∷ [] → askedBy e q m ≡ step op x y z ∷ []
+pub asked-step : (e : Entry) (r n q m op x y z : ℕ) → askedBy e r n ≡ step op x y z ∷ [] → askedBy e q m ≡ step op x y z ∷ []
 unfolding askedBy
 asked-step (on-image b i) r n q m op x y z a = a
 asked-step (run-image b g) r n q m op x y z a = absurd (no-step r n op x y z a)
@@ -69,7 +69,7 @@ answered-step (run-parts g) r n op x y z a = absurd (no-step r n op x y z a)
 answered-step decode r n op x y z a = absurd (omega (arith, ap length a))
 answered-step (encode b) r n op x y z a = absurd (omega (arith, ap length a))
 
-step-made : (g : Held) (w : Windows) (c : Made) (op x y z : ℕ) → Intact g → Bytes w → asked c ≡ step op x y z ∷ []
+pub step-made : (g : Held) (w : Windows) (c : Made) (op x y z : ℕ) → Intact g → Bytes w → asked c ≡ step op x y z ∷ []
     → InstructionFits op x y z → Meets g w c → StepMade g w op x y z (c .reply) (c .held) (c .window)
 unfolding Fits AllFit runs stepOn mmix itemPlan both stepOf
 step-made g w c op x y z h b a f m =
@@ -85,7 +85,7 @@ step-made g w c op x y z h b a f m =
     }
 
 -- a POP on what is held and windows that are those of r
-returns : (h : ℕ) (s : State) (g : Held) (v : Windows) (r : Ran State Windows) → Intact g → Bytes v → heldState g ≡ r .state → v ≡ r .memory
+pub returns : (h : ℕ) (s : State) (g : Held) (v : Windows) (r : Ran State Windows) → Intact g → Bytes v → heldState g ≡ r .state → v ≡ r .memory
     → ((x y z : ℕ) → GivesBack h s (popAfter r x y z)) → Returns h s g v
 returns h s g v r i b es ev back c x y z a f m =
     let t : StepMade g v 0xF8 x y z (c .reply) (c .held) (c .window) = step-made g v c 0xF8 x y z i b a f m in
@@ -114,7 +114,7 @@ needs-first P (i ∷ is) js s w h =
     All-both P (needsOf both mmix s w i) _ (All-left P (needsOf both mmix s w i) _ h)
     (needs-first P is js (stepOn both mmix s w i .state) (stepOn both mmix s w i .memory) (All-right P (needsOf both mmix s w i) _ h))
 
-shapes-outside : (F : ℕ → Type 0) (v w : Windows) → SameOutside F v w → shapesOf v ≡ shapesOf w
+pub shapes-outside : (F : ℕ → Type 0) (v w : Windows) → SameOutside F v w → shapesOf v ≡ shapesOf w
 unfolding shapesOf shapeOf
 shapes-outside F v w h = λ i. record {
   a = record { from = h .in-a .base-same i; size = h .in-a .length-same i };

@@ -101,10 +101,10 @@ lists-of-calls g w cs h b f c = chain-ended g w cs (intact g h) b f c .carried
 -- ---- two lists of the same calls: reply by reply the same, where the first's items answer alike in both
 
 -- one call in each, of one function: reply, count and what was asked for are the same where the first's items answer alike in both
-record SameCall (e : Entry) (r n q m : ℕ) : Type 0 where
-  reply-same : r ≡ q
-  count-same : countedBy e n ≡ countedBy e m
-  items-same : askedBy e r n ≡ askedBy e q m
+pub record SameCall (e : Entry) (r n q m : ℕ) : Type 0 where
+  pub reply-same : r ≡ q
+  pub count-same : countedBy e n ≡ countedBy e m
+  pub items-same : askedBy e r n ≡ askedBy e q m
 
 ran-same : (grant : ℕ) (s : State) (v : Windows) (t : State) (u : Windows) (r n q m : ℕ) → Sized s → Counted s v grant r n → Counted t u grant q m
     → Twins s v t u (triedItems r n) → (r ≡ q) × (n ≡ m)
@@ -112,7 +112,7 @@ ran-same grant s v t u r n q m z c d h =
     let k : SameEnd (runOf v s grant) (runOf u t grant) = run-same grant s v t u z (rw (c .reply-is, c .count-is) at h) in
     (c .reply-is ∙ k .reply-same ∙ sym (d .reply-is), c .count-is ∙ k .count-same ∙ sym (d .count-is))
 
-same-call : (e : Entry) (g k i j : Held) (v u w x : Windows) (r n q m : ℕ) → Intact g → Intact k → MeetsBy g v e r n i w → MeetsBy k u e q m j x
+pub same-call : (e : Entry) (g k i j : Held) (v u w x : Windows) (r n q m : ℕ) → Intact g → Intact k → MeetsBy g v e r n i w → MeetsBy k u e q m j x
     → Twins (heldState g) v (heldState k) u (askedBy e r n) → SameCall e r n q m
 unfolding askedBy answeredBy MovedBy countedBy Twins runs
 same-call (on-image b f) g k i j v u w x r n q m hg hk c d h =

@@ -21,11 +21,11 @@ module _ (w : Windows) (ss : List State) (ns : List ℕ) (q : ℕ) where
   abbrev itsTurns : ℕ → Stopped (List State) Windows → List Turn
   itsTurns k r = replicate (tried r) (turn k (partAt ns k) fetched)
 
-  turn-listed : (k g : ℕ) (ts : List State) (m : Windows) → IsList both studies (turn k (partAt ns k) fetched) ts m (turnRun ns k g ts m)
+  pub turn-listed : (k g : ℕ) (ts : List State) (m : Windows) → IsList both studies (turn k (partAt ns k) fetched) ts m (turnRun ns k g ts m)
   unfolding turnRun
   turn-listed k g ts m = run-listed both studies (turn k (partAt ns k) fetched) g ts m
 
-  given-listed : (k : ℕ) (d : Desk (List State) Windows) (r : Stopped (List State) Windows) → IsList both studies (turn k (partAt ns k) fetched) (d .states) (d .memory) r
+  pub given-listed : (k : ℕ) (d : Desk (List State) Windows) (r : Stopped (List State) Windows) → IsList both studies (turn k (partAt ns k) fetched) (d .states) (d .memory) r
       → CallListed w ss ns d → CallListed w ss ns (gave (turnRun ns) (tasksIn ns) q k d r)
   unfolding triedTurns triedAnswers
   given-listed k d r t h = record {

@@ -81,6 +81,7 @@ overlaps-swap p r e = rw (or-left (begins p r) _ e, or-right (begins p r) _ e)
 -- ---- a call that 33 does not refuse
 
 pub record CallRuled (ns : List ℕ) (q : ℕ) : Type 0 where
+  pub tasks-some : 1 ≤ tasksIn ns
   pub tasks-few : tasksIn ns ≤ 8
   pub turn-some : 1 ≤ q
   pub clear : (k : ℕ) → k < tasksIn ns → partClear ns k ≡ true
@@ -93,6 +94,7 @@ call-ruled b ns q e =
     let t : ((leb 1 q && leb q turnMost) && (eachBelow (tasksIn ns) (λ k. partRuled b (partAt ns k)) && eachBelow (tasksIn ns) (partClear ns))) ≡ true
     = and-right (leb 1 (tasksIn ns) && leb (tasksIn ns) 8) _ r in
     record {
+      tasks-some = leb-true _ _ (and-left (leb 1 (tasksIn ns)) _ (and-left _ _ r));
       tasks-few = leb-true _ _ (and-right (leb 1 (tasksIn ns)) _ (and-left _ _ r));
       turn-some = leb-true _ _ (and-left (leb 1 q) _ (and-left _ _ t));
       clear = at-below (tasksIn ns) (partClear ns) (and-right (eachBelow (tasksIn ns) (λ k. partRuled b (partAt ns k))) _ (and-right (leb 1 q && leb q turnMost) _ t));

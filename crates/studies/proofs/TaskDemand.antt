@@ -1,6 +1,7 @@
 -- Demand 3 with other tasks' turns in the list: model's demand of a caller in a machine, for task c on its part. What is left is that the list touches nothing
 -- of the frame: its turns' needs keep off it (`turns-off`), or the frame lies in B and others' parts are apart (`owns-off`).
 use mathlib.Core.Path.{_≡_, sym, _∙_}
+use mathlib.Core.Logic.{_≢_}
 use mathlib.Core.List.{List}
 use Prim.Native.Nat.{ℕ, _+_, _*_, _<_}
 use native.Mathlib.Decide.{ℕ-discrete}
@@ -25,21 +26,22 @@ use Rattle.studies.specs.TaskDemand.{TasksAlike, turnOn, PrivateTo, Dema
 use Rattle.studies.proofs.Judge.{judge-octa}
 use Rattle.studies.proofs.Callers.{turn-shape, task-caller, turns-off, owns-off}
 
--- states alike are one where the caller's is set
-set-alike : (c h : ℕ) (ss ts : List State) → TasksAlike c h ss ts → c < length ss → (v : State) → set ss c v ≡ set ts c v
-set-alike c h ss ts a l v =
-    ext-getD fresh (set ss c v) (set ts c v) (length-set ss c v ∙ a .count-same ∙ sym (length-set ts c v)) (λ k q. go k (ℕ-discrete k c))
+-- lists that differ at c alone are one where that is set
+pub set-alike : {A : Type 0} (d : A) (c : ℕ) (xs ys : List A) → length xs ≡ length ys → ((k : ℕ) → k ≢ c → getD xs k d ≡ getD ys k d) → c < length xs
+    → (v : A) → set xs c v ≡ set ys c v
+set-alike {A} d c xs ys n others l v =
+    ext-getD d (set xs c v) (set ys c v) (length-set xs c v ∙ n ∙ sym (length-set ys c v)) (λ k q. go k (ℕ-discrete k c))
   where
-    go : (k : ℕ) → Dec (k ≡ c) → getD (set ss c v) k fresh ≡ getD (set ts c v) k fresh
-    go k (yes e) = rw e (getD-set-same ss c v fresh l ∙ sym (getD-set-same ts c v fresh (rw (← (a .count-same)) l)))
-    go k (no n) = getD-set-other ss c k v fresh n ∙ a .others k n ∙ sym (getD-set-other ts c k v fresh n)
+    go : (k : ℕ) → Dec (k ≡ c) → getD (set xs c v) k d ≡ getD (set ys c v) k d
+    go k (yes e) = rw e (getD-set-same xs c v d l ∙ sym (getD-set-same ys c v d (rw (← n) l)))
+    go k (no m) = getD-set-other xs c k v d m ∙ others k m ∙ sym (getD-set-other ys c k v d m)
 
 paired : (p : Own) (c h : ℕ) (ss ts : List State) → TasksAlike c h ss ts → c < length ss → Sized (taskOf ss c) → Sized (taskOf ts c) → Words (taskOf ss c) → Words (taskOf ts c)
     → Paired studies (task-caller c p) ss ts
 paired p c h ss ts a l ns nt ws wt = record {
   there = l;
   there-too = rw (← (a .count-same)) l;
-  put-same = set-alike c h ss ts a l;
+  put-same = set-alike fresh c ss ts (a .count-same) (a .others) l;
   sized = ns;
   sized-too = nt;
   words = ws;

@@ -48,7 +48,7 @@ alone o = record { reply = o .reply; state = o .state ∷ []; memory = o .memory
 abbrev ranAlone : Ran State Windows → Ran (List State) Windows
 ranAlone r = record { answers = r .answers; state = r .state ∷ []; memory = r .memory }
 
-mmix-shape : (s : State) (m : Windows) (i : Item) → shapesOf (stepOn both mmix s m i .memory) ≡ shapesOf m
+pub mmix-shape : (s : State) (m : Windows) (i : Item) → shapesOf (stepOn both mmix s m i .memory) ≡ shapesOf m
 unfolding stepOn both
 mmix-shape s m i = perform-shape both both-lawful (mmix .judge s (both .shape m) i) s (mmix .plan s (both .shape m) i) m
 
@@ -61,16 +61,25 @@ module _ (sh : Shapes) where
   judge-is : (m : Windows) → shapesOf m ≡ sh → refusingIn (whole sh) (shapesOf m) ≡ refusing (shapesOf m)
   judge-is m e = rw e (λ i. λ a. whole-judge sh a i)
 
+  -- a turn of any task on the whole of B is a step
+  pub turn-whole : (k : ℕ) (ss : List State) (m : Windows) (i : Item) → shapesOf m ≡ sh
+      → stepOn both studies ss m (turn k (whole sh) i) ≡ mapOutcome (λ t. set ss k t) (stepOn both mmix (taskOf ss k) m i)
+  turn-whole k ss m i e =
+      turn-does k (whole sh) ss m i
+      ∙ ap (λ (j : ℕ → ℕ). mapOutcome (λ (t : State). set ss k t) (perform both j (taskOf ss k) (itemPlan (taskOf ss k) (shapesOf m) i) m)) (judge-is m e)
+      ∙ (unfold stepOn mmix both in refl)
+
+  pub needs-whole : (k : ℕ) (ss : List State) (m : Windows) (i : Item) → shapesOf m ≡ sh → turnNeeds ss m (turn k (whole sh) i) ≡ needsOf both mmix (taskOf ss k) m i
+  unfolding turnNeeds needsOf studies turnJudge turnPlan mmix both
+  needs-whole k ss m i e =
+      ap (without32 (refusingIn (whole sh) (shapesOf m))) (needs-map both (λ t. set ss k t) (refusingIn (whole sh) (shapesOf m)) (itemPlan (taskOf ss k) (shapesOf m) i) m)
+      ∙ ap (λ (j : ℕ → ℕ). without32 j (needs both j (itemPlan (taskOf ss k) (shapesOf m) i) m)) (judge-is m e) ∙ never-32 (shapesOf m) _
+
   turn-alone : (s : State) (m : Windows) (i : Item) → shapesOf m ≡ sh → stepOn both studies (s ∷ []) m (turn 0 (whole sh) i) ≡ alone (stepOn both mmix s m i)
-  turn-alone s m i e =
-      turn-does 0 (whole sh) (s ∷ []) m i
-      ∙ ap (λ (j : ℕ → ℕ). mapOutcome (λ (t : State). t ∷ []) (perform both j s (itemPlan s (shapesOf m) i) m)) (judge-is m e) ∙ (unfold stepOn mmix mapOutcome both in refl)
+  turn-alone s m i e = turn-whole 0 (s ∷ []) m i e ∙ (unfold mapOutcome in refl)
 
   needs-alone : (s : State) (m : Windows) (i : Item) → shapesOf m ≡ sh → turnNeeds (s ∷ []) m (turn 0 (whole sh) i) ≡ needsOf both mmix s m i
-  unfolding turnNeeds needsOf studies turnJudge turnPlan mmix both
-  needs-alone s m i e =
-      ap (without32 (refusingIn (whole sh) (shapesOf m))) (needs-map both (λ t. set (s ∷ []) 0 t) (refusingIn (whole sh) (shapesOf m)) (itemPlan s (shapesOf m) i) m)
-      ∙ ap (λ (j : ℕ → ℕ). without32 j (needs both j (itemPlan s (shapesOf m) i) m)) (judge-is m e) ∙ never-32 (shapesOf m) _
+  needs-alone s m i e = needs-whole 0 (s ∷ []) m i e
 
   runs-alone : (is : List Item) (s : State) (m : Windows) → shapesOf m ≡ sh → runs both studies (s ∷ []) m (turnsOf sh is) ≡ ranAlone (runs both mmix s m is)
   unfolding turnsOf runs

@@ -1,0 +1,12 @@
+-- Proofs of demand 3 of the C functions with several tasks, in the order in which they use each other.
+pub mod Agreed
+pub mod HeldLists
+pub mod HeldImages
+pub mod Ranges
+pub mod WholeTurns
+pub mod Alone
+pub mod SameDesks
+pub mod Together
+pub mod TaskChains
+pub mod TaskPop
+pub mod TaskCalls
