@@ -10,7 +10,7 @@ use oracle::lent::{Bases, Lent, Shown};
 use oracle::model::points::STORE_LEN;
 use oracle::opcodes::STB;
 use oracle::state::{IMAGE_LEN, State, WINDOW_MAX};
-use oracle::subject::{Aim, Found, Parts, Subject};
+use oracle::subject::{Aim, Found, Parts, Subject, Told};
 
 unsafe extern "C" {
     fn write(file: c_int, bytes: *const c_void, count: usize) -> isize;
@@ -88,6 +88,12 @@ impl Subject for Probe {
     fn exceptions_parts(&self, _: u8, _: Instruction, _: u64, _: u64, _: Parts) -> u64 {
         0
     }
+    /// q says around what: images, windows A and B, the eight counts, the eight refusals.
+    fn tasks(&self, q: u64, _: u64, images: &mut [u8], _: &[u64], lent: Lent, told: Told) -> u64 {
+        // SAFETY: eight numbers of eight bytes each.
+        let bytes = |numbers: &mut [u64; 8]| unsafe { std::slice::from_raw_parts_mut(numbers.as_mut_ptr().cast(), 64) };
+        self.around([images, lent.a, lent.b, bytes(told.counts), bytes(told.refusals)][q as usize])
+    }
     /// Around the image where there are no pairs, else around the eight bytes of the place.
     fn put_set(&self, image: &mut [u8], pairs: &[u8], place: &mut u64) -> u64 {
         // SAFETY: the eight bytes of the place.
@@ -119,8 +125,8 @@ impl Subject for Probe {
 /// Two calls in turn: flush against the page after the buffer, then against the one before it. The buffer is an image;
 /// window A or B of a step by each of its functions, where loads and stores of its last bytes and its first go, the other one
 /// as long as a window may be; the same of a run, and its count; the reader's word which window it is; the four bytes of a field;
-/// a store, and what is given back; the image of a set, and its place.
-fn twice(probe: Probe) -> [[u64; 2]; 22] {
+/// a store, and what is given back; the image of a set, and its place; what a call of eight tasks is lent.
+fn twice(probe: Probe) -> [[u64; 2]; 27] {
     let guarded = Guarded::new(Box::new(probe), Guard::Pages);
     let (mut image, mut state) = (vec![0; IMAGE_LEN], State::zero());
     let at = Bases { a: 0, b: 1 << 32 };
@@ -162,16 +168,24 @@ fn twice(probe: Probe) -> [[u64; 2]; 22] {
     steps.push([set(&[0; 16]), set(&[0; 16])]);
     let mut set = || guarded.put_set_parts((&mut state).into(), &[0; 8], &mut 0);
     steps.push([set(), set()]);
-    steps.try_into().expect("twenty-two")
+    for q in 0..5 {
+        let call = || {
+            let (mut a, mut b, mut images) = (vec![0; WINDOW_MAX], vec![0; WINDOW_MAX], vec![0; 8 * IMAGE_LEN]);
+            let told = Told { counts: &mut [0; 8], refusals: &mut [0; 8] };
+            guarded.tasks(q, 0, &mut images, &[0; 16], Lent { at, a: &mut a, b: &mut b }, told)
+        };
+        steps.push([call(), call()]);
+    }
+    steps.try_into().expect("twenty-seven")
 }
 
 #[test]
 fn pages_beside_a_buffer_cannot_be_touched() {
-    assert_eq!(twice(Probe::ReadAround), [[2, 1]; 22]);
+    assert_eq!(twice(Probe::ReadAround), [[2, 1]; 27]);
 }
 
 #[test]
 fn canaries_see_a_byte_written() {
-    assert_eq!(twice(Probe::WriteAfter), [[2, WROTE_OUTSIDE]; 22]);
-    assert_eq!(twice(Probe::WriteBefore), [[WROTE_OUTSIDE, 1]; 22]);
+    assert_eq!(twice(Probe::WriteAfter), [[2, WROTE_OUTSIDE]; 27]);
+    assert_eq!(twice(Probe::WriteBefore), [[WROTE_OUTSIDE, 1]; 27]);
 }
