@@ -99,6 +99,19 @@ module _ (l : List ℕ) (e : isImage l ≡ true) where
   pub decoded : (s t : State) → t ≡ stateOf l → Decoded l s 0 t
   decoded s t d = record { reply-is = if-image _ _; state-is = d ∙ if-image _ _ }
 
+-- images of one length are alike to a state
+pub as-same : (l m : List ℕ) (s : State) → length m ≡ length l → imageAs l s ≡ imageAs m s
+unfolding imageAs
+as-same l m s e = ap (λ (n : ℕ). cond (eqb n oldImageLength) (oldImageOf s) (imageOf s)) (sym e)
+
+pub image-same : (l m : List ℕ) → length m ≡ length l → isImage m ≡ isImage l
+unfolding isImage
+image-same l m e = ap (λ (n : ℕ). eqb n imageLength || eqb n oldImageLength) e
+
+pub room-same : (l m : List ℕ) (k : ℕ) → length m ≡ length l → hasRoom l k ≡ hasRoom m k
+unfolding hasRoom
+room-same l m k e = ap (λ (n : ℕ). eqb n imageLength || (eqb n oldImageLength && eqb k 0)) (sym e)
+
 module _ (l : List ℕ) (s : State) where
   pub stored-is : hasRoom l (s .mask) ≡ true → storedIn l s ≡ imageAs l s
   unfolding storedIn

@@ -1,11 +1,10 @@
 -- One call of a C function on what a host holds: it is no or one step or exception, or a run's fetched instructions, on the state that is held.
 use mathlib.Core.Path.{_≡_, refl, sym, ap, subst, _∙_}
 use mathlib.Core.Logic.{_⊎_, inl, inr}
-use mathlib.Core.Bool.{true, cond, _&&_, _||_}
+use mathlib.Core.Bool.{true}
 use mathlib.Core.List.{List, [], _∷_}
 use Prim.Native.Nat.{ℕ, _≤_}
 use native.Mathlib.Omega.{arith}
-use lib.Dec.{eqb}
 use lib.ListN.{length}
 use Rattle.model.specs.Memory.{Windows, both}
 use Rattle.model.specs.Plan.{perform, worst, puts}
@@ -17,13 +16,12 @@ use Rattle.model.specs.Run.{runOf}
 use Rattle.model.specs.declared.State.{State}
 use Rattle.model.proofs.Numbers.{step-number, run-number}
 use Rattle.model.proofs.Leaves.{replies-leave}
-use Rattle.model.specs.Kept.{imageLength, oldImageLength}
-use Rattle.image.specs.Image.{imageOf, oldImageOf, isImage, hasRoom, imageAs, stateOf}
+use Rattle.image.specs.Image.{isImage, hasRoom, imageAs, stateOf}
 use Rattle.mmix.specs.Calls.{Held, image, struct, heldState, HeldIs, HeldFits, Entry, on-image, run-image, on-lent, on-parts, run-parts, decode, encode, triedItems, triedAnswers, askedBy, answeredBy, MovedBy, ImageCall, StateCall, AsImage, AsStruct, MeetsBy}
 use Rattle.mmix.specs.Entries.{RanImage, RanState}
 use Rattle.model.proofs.Invariants.{items-keep}
 use Rattle.image.proofs.RoundTrips.{round-trips, keeps-length}
-use Rattle.image.proofs.Coded.{room-image, if-image, chosen, stored-is}
+use Rattle.image.proofs.Coded.{room-image, if-image, chosen, stored-is, as-same, room-same}
 use Rattle.mmix.proofs.Tried.{RunListed, run-tried}
 
 -- ---- what is held
@@ -46,19 +44,6 @@ intact (struct s) h = record { sized = h .0; words = h .1; back = refl }
 long-of : (l : List ℕ) → Intact (image l) → isImage l ≡ true
 unfolding HeldIs heldState
 long-of l h = room-image l _ (h .back .1)
-
--- images of one length are alike to a state
-pub as-same : (l m : List ℕ) (s : State) → length m ≡ length l → imageAs l s ≡ imageAs m s
-unfolding imageAs
-as-same l m s e = ap (λ (n : ℕ). cond (eqb n oldImageLength) (oldImageOf s) (imageOf s)) (sym e)
-
-pub image-same : (l m : List ℕ) → length m ≡ length l → isImage m ≡ isImage l
-unfolding isImage
-image-same l m e = ap (λ (n : ℕ). eqb n imageLength || eqb n oldImageLength) e
-
-pub room-same : (l m : List ℕ) (k : ℕ) → length m ≡ length l → hasRoom l k ≡ hasRoom m k
-unfolding hasRoom
-room-same l m k e = ap (λ (n : ℕ). eqb n imageLength || (eqb n oldImageLength && eqb k 0)) (sym e)
 
 -- an image with a state put into it
 pub held-as : (l m : List ℕ) (s : State) → hasRoom l (s .mask) ≡ true → Sized s → m ≡ imageAs l s → HeldIs (image m) s

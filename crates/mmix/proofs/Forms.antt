@@ -15,10 +15,10 @@ use Rattle.model.specs.declared.State.{State}
 use Rattle.model.proofs.Invariants.{items-keep}
 use Rattle.image.specs.Image.{isImage, imageAs, stateOf}
 use Rattle.image.proofs.RoundTrips.{round-trips, keeps-length}
-use Rattle.image.proofs.Coded.{room-image, if-other, of-image, stored-is}
+use Rattle.image.proofs.Coded.{room-image, if-other, of-image, stored-is, as-same}
 use Rattle.mmix.specs.Calls.{Held, image, struct, heldState, HeldIs, Entry, on-image, run-image, on-lent, on-parts, run-parts, decode, encode, ImageCall, EncodedInto, AsImage, AsStruct, MeetsBy}
 use Rattle.mmix.specs.Entries.{RanImage}
-use Rattle.mmix.proofs.Call.{as-same, run-sized}
+use Rattle.mmix.proofs.Call.{run-sized}
 
 -- 0 for a struct, else one more than the image's length
 unfoldable pub form : Held → ℕ

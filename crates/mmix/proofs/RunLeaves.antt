@@ -29,10 +29,10 @@ use Rattle.image.specs.Image.{isImage, hasRoom, imageAs, stateOf}
 use Rattle.mmix.specs.Entries.{RanImage, RanState}
 use Rattle.mmix.specs.Leaves.{NotLoadedLeaves, tetraIn, TetraCallLeaves, LastCallLeaves, OfCall, RunCallLeaves}
 use Rattle.image.proofs.RoundTrips.{round-trips, keeps-length}
-use Rattle.image.proofs.Coded.{if-other, stored-is}
+use Rattle.image.proofs.Coded.{if-other, stored-is, as-same, image-same}
 use Rattle.mmix.proofs.Entries.{ran}
 use Rattle.mmix.proofs.Tried.{InRange, run-range}
-use Rattle.mmix.proofs.Call.{as-same, image-same, run-mask, Counted, state-counted, image-ran}
+use Rattle.mmix.proofs.Call.{run-mask, Counted, state-counted, image-ran}
 use Rattle.mmix.proofs.OwnNumbers.{fetched-own}
 use Rattle.mmix.proofs.ImageLeaves.{halt-same, halted-same, not-loaded, trapped-image}
 

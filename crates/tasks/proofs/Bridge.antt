@@ -28,17 +28,13 @@ use Rattle.studies.specs.Call.{partAt, partRuled, turnMost, turnRun}
 use Rattle.studies.proofs.SameCall.{SameStop, SameDesk, call-same}
 use Rattle.studies.proofs.Turns.{turn-run}
 use Rattle.turns.specs.RunIn.{runIn}
+use Rattle.image.proofs.Coded.{as-same}
 use Rattle.tasks.specs.Images.{imageIn, statesFrom}
 use Rattle.tasks.specs.Desks.{imageTurn, imagesTurn}
 use Rattle.tasks.proofs.ImageParts.{ends-before, length-states, state-at}
 use Rattle.tasks.proofs.Alone.{Held, Ran, run-held, run-in-open}
 
 -- ---- an image that is written
-
--- the length alone says which image it becomes
-pub as-same : (l m : List ℕ) (s : State) → length l ≡ length m → imageAs l s ≡ imageAs m s
-unfolding imageAs
-as-same l m s e = rw e
 
 -- images of e bytes each, image k of which becomes v
 module _ (e : ℕ) (l : List ℕ) (n k : ℕ) (v : List ℕ) (fits : length l ≡ n * e) (few : k < n) (long : length v ≡ e) where
@@ -93,7 +89,7 @@ module _ (l : List ℕ) (is : isImage l ≡ true) (h : Shapes) (s : State) (w : 
   whole-as = record {
     admitted = rw state-as (k .admitted);
     words = rw state-as (k .words);
-    back = ap (imageAs (imageAs l s)) state-as ∙ as-same (imageAs l s) l s length-as;
+    back = ap (imageAs (imageAs l s)) state-as ∙ as-same (imageAs l s) l s (sym length-as);
   }
 
 -- ---- the relation, and that a turn keeps it

@@ -25,11 +25,12 @@ use Rattle.studies.specs.Schedule.{Given, countBy, refusalBy, Desk, rounds, ope
 use Rattle.studies.specs.Call.{tasksIn, callRefusal, turnRun, callOf, Tasked, tasksMost, worked, wholeRefused, tasksOf}
 use Rattle.studies.proofs.CallOrder.{TasksPass, tasks-pass}
 use Rattle.studies.proofs.SameCall.{SameDesk}
+use Rattle.image.proofs.Coded.{as-same}
 use Rattle.tasks.specs.Images.{imagesFit, eachLength, imageIn, statesFrom, statesIn, imagesWith, TasksRan}
 use Rattle.tasks.specs.Desks.{tasksTurn, At, Shown, Ready}
 use Rattle.tasks.proofs.Judged.{Ruled, ruled-so}
 use Rattle.tasks.proofs.ImageParts.{ends-before, image-in, fit-long, fit-from, states-fit, admitted-at}
-use Rattle.tasks.proofs.Bridge.{as-same, Whole, Bridged, bridge}
+use Rattle.tasks.proofs.Bridge.{Whole, Bridged, bridge}
 
 -- ---- the images with their states in them
 
@@ -45,7 +46,7 @@ module _ (e n : ℕ) (t : List ℕ) (fits : length t ≡ n * e) (wholes : (k : �
       ∙ images-from m (suc k) (written l (k * e) (imageIn e t k)) (omega arith) (length-written l (k * e) (imageIn e t k) ∙ h) more
     where
       image : imageAs (imageIn e l k) (stateOf (imageIn e t k)) ≡ imageIn e t k
-      image = as-same (imageIn e l k) (imageIn e t k) (stateOf (imageIn e t k)) (length-part l (k * e) e ∙ sym (length-part t (k * e) e)) ∙ wholes k (omega arith) .back
+      image = as-same (imageIn e l k) (imageIn e t k) (stateOf (imageIn e t k)) (length-part t (k * e) e ∙ sym (length-part l (k * e) e)) ∙ wholes k (omega arith) .back
 
       more : (i : ℕ) → i < suc k * e → getD (written l (k * e) (imageIn e t k)) i 0 ≡ getD t i 0
       more i b = at (lt-or-le i (k * e))
