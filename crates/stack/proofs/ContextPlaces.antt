@@ -161,17 +161,17 @@ module _ (w : Windows) (p g : ℕ) (k : Layout) (e : LayoutIs w p g k) where
       (λ h. on (λ (n : ℕ). P (layoutAnswer p g (look both w at-count) n)) (leb (look both w at-count) g) (λ f. a h (leb-true _ _ f)) (λ f. b h (leb-false _ _ f)))
       c)
 
-  pub told-outside : (r : Reply) → k ≡ Outside r → (inside (shapesOf w) at-count ≡ false) × (r ≡ Missing)
+  told-outside : (r : Reply) → k ≡ Outside r → (inside (shapesOf w) at-count ≡ false) × (r ≡ Missing)
   told-outside r =
       by-number (λ (y : Layout). y ≡ Outside r → (inside (shapesOf w) at-count ≡ false) × (r ≡ Missing))
       (λ h f q. let z : _≡_ {A = ℕ} 0 1 = cc in absurd (omega arith)) (λ h f q. let z : _≡_ {A = ℕ} 0 1 = cc in absurd (omega arith)) (λ h q. (h, cc))
 
-  pub told-excess : (n : ℕ) → k ≡ Excess n → (inside (shapesOf w) at-count ≡ true) × (g < look both w at-count)
+  told-excess : (n : ℕ) → k ≡ Excess n → (inside (shapesOf w) at-count ≡ true) × (g < look both w at-count)
   told-excess n =
       by-number (λ (y : Layout). y ≡ Excess n → (inside (shapesOf w) at-count ≡ true) × (g < look both w at-count))
       (λ h f q. let z : _≡_ {A = ℕ} 0 1 = cc in absurd (omega arith)) (λ h f q. (h, f)) (λ h q. let z : _≡_ {A = ℕ} 0 1 = cc in absurd (omega arith))
 
-  pub told-found : (l : SaveContextLayout) → k ≡ layout.Found l
+  told-found : (l : SaveContextLayout) → k ≡ layout.Found l
       → (inside (shapesOf w) at-count ≡ true) × (look both w at-count ≤ g) × (l ≡ layoutAt p g (look both w at-count))
   told-found l =
       by-number (λ (y : Layout). y ≡ layout.Found l → (inside (shapesOf w) at-count ≡ true) × (look both w at-count ≤ g) × (l ≡ layoutAt p g (look both w at-count)))

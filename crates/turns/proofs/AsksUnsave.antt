@@ -1,28 +1,26 @@
--- What UNSAVE asks, over plain variables: the packed octabyte, then the local count by its layout, then the rest.
+-- What UNSAVE asks, over plain variables: the packed octabyte, then the local count, then the rest.
 use mathlib.Core.Path.{_≡_, refl, sym, ap, _∙_}
-use mathlib.Core.Bool.{Bool, true, false, cond, _&&_, _||_}
+use mathlib.Core.Bool.{Bool, true, false, cond, _&&_}
 use mathlib.Core.List.{[]}
 use Prim.Native.Nat.{ℕ, _+_, _-_, _/_, _%_, _^_, _≤_, _<_}
 use native.Mathlib.Omega.{arith}
 use lib.Dec.{leb}
 use borrow.Author.Tests.{le-leb, lt-leb}
-use Rattle.model.specs.Memory.{Windows, shapesOf, holder, inside, both}
+use Rattle.model.specs.Memory.{Windows, shapesOf, holder, both}
 use Rattle.model.specs.Plan.{ups, look}
 use Rattle.model.specs.Contexts.{below}
-use Rattle.model.specs.StepNeeds.{unsaveNeedsRest, unsaveNeedsCount, unsaveNeeds}
-use Rattle.model.specs.declared.Reply.{Reply}
+use Rattle.model.specs.StepNeeds.{run, unsaveNeedsRest, unsaveNeedsCount, unsaveNeeds}
 use Rattle.machine.specs.Octas.{readOcta}
-use Rattle.stack.specs.SaveUnsave.{layoutAt, LayoutIs}
-use Rattle.stack.specs.declared.layout.Layout.{Layout}
 use Rattle.stack.specs.declared.layout.Layout.the-variants as layout
-use Rattle.stack.specs.declared.layout.SaveContextLayout.{SaveContextLayout}
-use Rattle.stack.proofs.ContextPlaces.{told-outside, told-excess, told-found}
+use Rattle.model.proofs.Memory.{holder-octa}
+use Rattle.model.proofs.Runs.{octa-mod}
+use Rattle.machine.proofs.Octas.{read-mod}
 use Rattle.stack.proofs.PassedOctas.{octa-held}
 use Rattle.studies.specs.Tasks.{anyForeign}
 use Rattle.turns.specs.Ask.{ownOf, wholeOf, isForeign, asks, OwnOnly}
 use Rattle.turns.specs.declared.ask.Whole.{Whole}
-use Rattle.studies.proofs.AnyForeign.{foreign-mod, any-mod, or-none}
-use Rattle.turns.proofs.Asks.{asks-one, asks-last, one-foreign, one-missing, one-there}
+use Rattle.studies.proofs.AnyForeign.{foreign-mod, any-mod}
+use Rattle.turns.proofs.Asks.{asks-last, one-foreign, one-missing, one-there}
 
 module _ (h : Whole) (w : Windows) (o : OwnOnly h w) (p : ℕ) (r : Bool) (e : r ≡ isForeign h p) where
   pub unsave-foreign : r ≡ true → true ≡ asks h (unsaveNeeds w p)
@@ -55,39 +53,50 @@ module _ (h : Whole) (w : Windows) (o : OwnOnly h w) (p : ℕ) (r : Bool) (e : r
           go true = refl
           go false = refl
 
-      module _ (lo : 32 ≤ v / 2 ^ 56) (hi : v / 2 ^ 56 ≤ 255) (am : v % 2 ^ 56 ≤ 0x3FFFF) (y : Layout) (ly : LayoutIs w p (v / 2 ^ 56) y) where
-        abbrev g : ℕ
-        g = v / 2 ^ 56
+      pub unsave-open : (s : Bool) → s ≡ asks h (unsaveNeedsCount w p (v / 2 ^ 56) (v % 2 ^ 56)) → s ≡ asks h (unsaveNeeds w p)
+      unsave-open s b = b ∙ sym opened
 
-        -- where the local count is, and what it is
-        abbrev at : ℕ
-        at = below p (269 - g)
+-- the local count of a context whose packed octabyte is at p, of the threshold g; m is its address
+module _ (h : Whole) (w : Windows) (o : OwnOnly h w) (p g : ℕ) (lo : 32 ≤ g) (hi : g ≤ 255) where
+  abbrev at : ℕ
+  at = below p (269 - g)
 
-        abbrev count : ℕ
-        count = look both w at
+  opens : (ra : ℕ) → ra ≤ 0x3FFFF → unsaveNeedsCount w p g ra ≡ run w at 1 (unsaveNeedsRest w p g (look both w at))
+  unfolding unsaveNeedsCount
+  opens ra am = rw (le-leb 32 g lo, le-leb g 255 hi, le-leb ra 0x3FFFF am)
 
-        counted : asks h (unsaveNeeds w p) ≡ (isForeign h at || (inside (shapesOf w) at && asks h (unsaveNeedsRest w p g count)))
-        unfolding unsaveNeedsCount
-        counted = opened ∙ rw (le-leb 32 g lo, le-leb g 255 hi, le-leb (v % 2 ^ 56) 0x3FFFF am) (asks-one h w o at (unsaveNeedsRest w p g count))
+  module _ (m : ℕ) (e : m ≡ at % 2 ^ 64) (r : Bool) (f : r ≡ isForeign h m) where
+    same : m % 2 ^ 64 ≡ at % 2 ^ 64
+    same = omega arith
 
-        rest : inside (shapesOf w) at ≡ true → asks h (unsaveNeeds w p) ≡ asks h (unsaveNeedsRest w p g count)
-        rest i = counted ∙ rw (o .none-foreign at i, i)
+    asked : r ≡ isForeign h at
+    asked = f ∙ foreign-mod (ownOf h) (wholeOf h) m at same
 
-        pub unsave-outside : (t : Reply) → y ≡ layout.Outside t → (m : ℕ) → m ≡ at % 2 ^ 64 → (s : Bool) → s ≡ isForeign h m → s ≡ asks h (unsaveNeeds w p)
-        unsave-outside t z m a s b =
-            let x : inside (shapesOf w) at ≡ false = told-outside w p g y ly t z .0 in
-            b ∙ foreign-mod (ownOf h) (wholeOf h) m at (omega arith) ∙ sym (counted ∙ rw x (or-none (isForeign h at)))
+    pub count-foreign : r ≡ true → (ra : ℕ) → ra ≤ 0x3FFFF → true ≡ asks h (unsaveNeedsCount w p g ra)
+    count-foreign t ra am = one-foreign h w o at (unsaveNeedsRest w p g (look both w at)) r asked t ∙ ap (asks h) (sym (opens ra am))
 
-        pub unsave-excess : (c : ℕ) → y ≡ layout.Excess c → false ≡ asks h (unsaveNeeds w p)
+    module _ (t : r ≡ false) (k : ℕ) (n : k ≡ holder (shapesOf w) m) where
+      held : k ≡ holder (shapesOf w) at
+      held = n ∙ holder-octa (shapesOf w) m at (octa-mod m at same)
+
+      pub count-missing : k ≡ 2 → (ra : ℕ) → ra ≤ 0x3FFFF → false ≡ asks h (unsaveNeedsCount w p g ra)
+      count-missing q ra am = one-missing h w o at (unsaveNeedsRest w p g (look both w at)) r asked t k held q ∙ ap (asks h) (sym (opens ra am))
+
+      -- v is the count
+      module _ (q : k ≡ 2 → ⊥) (v : ℕ) (d : v ≡ readOcta w m) where
+        counted : look both w at ≡ v
+        counted = sym (d ∙ read-mod w m at same ∙ octa-held w at (λ z. q (held ∙ z)))
+
+        there : (ra : ℕ) → ra ≤ 0x3FFFF → asks h (unsaveNeedsCount w p g ra) ≡ asks h (unsaveNeedsRest w p g v)
+        there ra am = ap (asks h) (opens ra am) ∙ one-there h w o at (unsaveNeedsRest w p g (look both w at)) r asked t k held q ∙ rw counted
+
+        pub count-excess : g < v → (ra : ℕ) → ra ≤ 0x3FFFF → false ≡ asks h (unsaveNeedsCount w p g ra)
         unfolding unsaveNeedsRest anyForeign
-        unsave-excess c z = let x = told-excess w p g y ly c z in sym (rest (x .0) ∙ rw (lt-leb count g (x .1)))
+        count-excess l ra am = sym (there ra am ∙ rw (lt-leb v g l))
 
-        pub unsave-found : (l : SaveContextLayout) → y ≡ layout.Found l → (s : Bool) → s ≡ asks h (ups (l .«locals_base») (l .«local_count» + 270 - g)) → s ≡ asks h (unsaveNeeds w p)
-        unfolding unsaveNeedsRest layoutAt
-        unsave-found l z s b =
-            let x = told-found w p g y ly l z in
-            let first : l .«locals_base» ≡ below p (count + 269 - g) % 2 ^ 64 = ap (λ (q : SaveContextLayout). q .«locals_base») (x .2) in
-            let many : l .«local_count» ≡ count = ap (λ (q : SaveContextLayout). q .«local_count») (x .2) in
-            b ∙ ap (λ (n : ℕ). asks h (ups (l .«locals_base») (n + 270 - g))) many
-            ∙ any-mod (ownOf h) (wholeOf h) (count + 270 - g) (l .«locals_base») (below p (count + 269 - g)) (omega arith)
-            ∙ sym (rest (x .0) ∙ rw (le-leb count g (x .1)) (asks-last h w o (below p (count + 269 - g)) (count + 270 - g)))
+        pub count-rest : v ≤ g → (b : ℕ) → b ≡ below p (v + 269 - g) % 2 ^ 64 → (s : Bool) → s ≡ asks h (ups b (v + 270 - g))
+            → (ra : ℕ) → ra ≤ 0x3FFFF → s ≡ asks h (unsaveNeedsCount w p g ra)
+        unfolding unsaveNeedsRest
+        count-rest l b a s c ra am =
+            c ∙ any-mod (ownOf h) (wholeOf h) (v + 270 - g) b (below p (v + 269 - g)) (omega arith)
+            ∙ sym (there ra am ∙ rw (le-leb v g l) (asks-last h w o (below p (v + 269 - g)) (v + 270 - g)))

@@ -3,7 +3,7 @@
 ghost use mathlib.Core.Path.{_≡_};
 ghost use mathlib.Core.Bool.{true, cond};
 ghost use mathlib.Core.List.{List, []};
-ghost use Prim.Native.Nat.{ℕ, _+_};
+ghost use Prim.Native.Nat.{ℕ, _+_, _≤_};
 ghost use lib.Dec.{ltb};
 ghost use Rattle.model.specs.Memory.{shapesOf};
 ghost use Rattle.model.specs.Plan.{ups};
@@ -12,14 +12,13 @@ ghost use Rattle.model.specs.Opcodes.{armOf};
 ghost use Rattle.model.specs.Frames.{hole};
 ghost use Rattle.model.specs.Contexts.{extent};
 ghost use Rattle.model.specs.Step.{unruledBy, fetchedNeeds};
-ghost use Rattle.model.specs.StepNeeds.{popNeeds, unsaveNeeds, armNeeds};
+ghost use Rattle.model.specs.StepNeeds.{popNeeds, unsaveNeedsCount, unsaveNeeds, armNeeds};
 ghost use Rattle.model.specs.Parts.{made, lent};
 ghost use Rattle.turns.specs.Ask.{isForeign, asks, OwnOnly, Counted};
 use decode::opcode;
 use model::Bases;
 use model::State;
 use stack::layout;
-use stack::layout::Layout;
 
 /// Where the whole of B lies and which part of it is the task's own.
 pub(crate) struct Whole {
@@ -131,6 +130,27 @@ fn save_asks(special: &[u64; 32], whole: Whole, x: u8) -> bool
     has_foreign(whole, ro, rl + layout::CONTEXT_OCTAS - rg)
 }
 
+/// The local count of a context with the threshold rg, then the rest. (Not by the stack's layout: what has one caller stands in line there.)
+fn count_asks(a: &[u8], b: &[u8], at: Bases, whole: Whole, address: u64, rg: u64) -> bool
+    requires { ⌜ (32 ≤ rg) × (rg ≤ 255) × OwnOnly whole (lent at (now a) (now b)) ⌝ }
+    ensures { λ r. ⌜ ((ra : ℕ) → ra ≤ 0x3FFFF → r ≡ asks whole (unsaveNeedsCount (lent at (now (a .entry)) (now (b .entry))) address rg ra)) ⌝ }
+{
+    let marker = machine::number::wrapping_sub(address, 8 * (layout::AT_PACKED - rg));
+    if is_foreign(whole, marker) {
+        return true;
+    }
+    let octa = machine::memory::read_octa(a, b, at, marker);
+    if octa.holder == NEITHER {
+        return false;
+    }
+    let count = octa.value;
+    if rg < count {
+        return false;
+    }
+    let first = machine::number::wrapping_sub(address, 8 * (count + layout::AT_PACKED - rg));
+    has_foreign(whole, first, count + layout::CONTEXT_OCTAS - rg)
+}
+
 /// UNSAVE's packed octabyte, then the local count, then the rest.
 fn unsave_asks(a: &[u8], b: &[u8], at: Bases, whole: Whole, address: u64) -> bool
     requires { ⌜ OwnOnly whole (lent at (now a) (now b)) ⌝ }
@@ -152,19 +172,7 @@ fn unsave_asks(a: &[u8], b: &[u8], at: Bases, whole: Whole, address: u64) -> boo
     if machine::registers::STATUS_MAX < ra {
         return false;
     }
-    let found = layout::save_context_layout(a, b, at, address, rg as u8);
-    match found {
-        Layout::Found(l) => {
-            let count = l.local_count;
-            let first = l.locals_base;
-            has_foreign(whole, first, count + layout::CONTEXT_OCTAS - rg)
-        }
-        Layout::Excess(_) => false,
-        Layout::Outside(_) => {
-            let marker = machine::number::wrapping_sub(address, 8 * (layout::AT_PACKED - rg));
-            is_foreign(whole, marker)
-        }
-    }
+    count_asks(a, b, at, whole, address, rg)
 }
 
 /// What the arm of an opcode needs, on the registers that it works on.
