@@ -34,7 +34,7 @@
  * Threads: a function touches only what it is handed, so threads may call any of them at the same time, each on objects of
  * its own.
  *
- * Stack, most that was measured, in bytes: mmix_step_lent 5,800; mmix_run 5,600; mmix_decode 4,700; mmix_step 3,500;
+ * Stack, most that was measured, in bytes: mmix_tasks 7,900; mmix_step_lent 5,800; mmix_run 5,600; mmix_decode 4,700; mmix_step 3,500;
  * mmix_run_parts 3,100; mmix_put_set 3,000; mmix_take and mmix_go_back 2,600; mmix_exceptions, mmix_initialize and mmix_encode
  * 2,500; mmix_step_parts 1,000; mmix_context, mmix_exceptions_parts and mmix_put_set_parts 300; mmix_branch_field and
  * mmix_jump_field none. There is no recursion.

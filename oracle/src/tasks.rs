@@ -47,7 +47,7 @@ struct Left {
 
 type Situation = (&'static str, fn(&Drawn, &Left) -> bool);
 
-const SITUATIONS: [Situation; 16] = [
+const SITUATIONS: [Situation; 17] = [
     ("one task", |call, left| left.reply == 0 && call.parts.len() == 2),
     ("eight tasks", |call, left| left.reply == 0 && call.parts.len() == 16),
     ("nine tasks, or none", |call, left| left.reply == 33 && matches!(call.parts.len(), 0 | 18)),
@@ -59,6 +59,10 @@ const SITUATIONS: [Situation; 16] = [
     ("an empty part that is fine", |call, left| left.reply == 0 && call.pairs().any(|(_, len)| len == 0)),
     ("an empty part at the end of B", |call, left| {
         left.reply == 0 && call.pairs().any(|(start, len)| len == 0 && start == call.windows.b.size())
+    }),
+    ("an empty part inside another", |call, left| {
+        let inside = |(at, none): (u64, u64)| none == 0 && call.pairs().any(|(start, len)| start < at && at - start < len);
+        left.reply == 0 && call.pairs().any(inside)
     }),
     ("the grant is spent", |call, left| left.reply == 0 && call.grant > 0 && left.counts.iter().sum::<u64>() == call.grant),
     ("all have stopped", |call, left| left.reply == 0 && left.refusals[..call.parts.len() / 2].iter().all(|r| *r != 0)),
@@ -134,7 +138,7 @@ impl Drawn {
     }
 }
 
-/// Parts of B for so many tasks: side by side or with gaps, some empty, in any order.
+/// Parts of B for so many tasks: side by side or with gaps, some empty, anywhere, in any order.
 fn parts(random: &mut Random, count: u64, octabytes: u64) -> Vec<u64> {
     let mut cuts: Vec<u64> = (0..2 * count).map(|_| 8 * random.below(octabytes + 1)).collect();
     cuts.sort_unstable();
@@ -149,6 +153,9 @@ fn parts(random: &mut Random, count: u64, octabytes: u64) -> Vec<u64> {
     let mut pairs: Vec<[u64; 2]> = cuts.chunks_exact(2).map(|cut| [cut[0], cut[1] - cut[0]]).collect();
     for k in (1..pairs.len()).rev() {
         pairs.swap(k, random.below(k as u64 + 1) as usize);
+    }
+    if random.one_in(6) && count > 1 {
+        pairs[0] = [8 * random.below(octabytes + 1), 0];
     }
     pairs.concat()
 }

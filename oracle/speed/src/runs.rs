@@ -19,7 +19,7 @@ const SHORT: u64 = 100;
 /// Of eight tasks: the most instructions a turn, one turn each, and bytes of each one's part of B.
 const TASKS: u64 = 8;
 const TURN: u64 = 1_000;
-const PART: u64 = 0x800;
+const PART: u64 = 0x2000;
 /// At most so many times one run of the same instructions.
 const TASKS_HELD: f64 = 1.5;
 
