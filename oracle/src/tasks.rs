@@ -235,7 +235,7 @@ fn drawn(random: &mut Random) -> Drawn {
     let mut images_len = each * states.len();
     if random.one_in(24) {
         let other = if each == IMAGE_LEN { OLD_IMAGE_LEN } else { IMAGE_LEN };
-        let lengths = [0, images_len + 8, images_len + each, images_len.saturating_sub(8), images_len.max(other) - each + other];
+        let lengths = [0, images_len + 1, images_len + 8, images_len + each, images_len.saturating_sub(8), images_len.max(other) - each + other];
         images_len = Some(random.pick(&lengths)).filter(|len| *len != other * states.len()).unwrap_or(images_len);
     }
     let q = random.pick(&[1, 1, 2, 3, 7, 40, TURN_MOST, TURN_MOST]);
