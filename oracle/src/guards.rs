@@ -211,8 +211,7 @@ impl Subject for Guarded {
 
     fn tasks(&self, q: u64, grant: u64, images: &mut [u8], parts: &[u64], lent: Lent, told: Told) -> u64 {
         let (Lent { at, a, b }, mut copy) = (lent, parts.to_vec());
-        let buffers =
-            [images, octabytes_of(&mut copy), a, b, bytes_of(told.counts), bytes_of(told.refusals)];
+        let buffers = [images, octabytes_of(&mut copy), a, b, bytes_of(told.counts), bytes_of(told.refusals)];
         let reply = self.call(buffers, |[images, parts, a, b, counts, refusals]| {
             let told = Told { counts: of_bytes(counts), refusals: of_bytes(refusals) };
             self.subject.tasks(q, grant, images, of_octabytes(parts), Lent { at, a, b }, told)

@@ -293,7 +293,9 @@ impl Subject for Library {
         let (bytes, len, pairs) = (self.lent_mut(images), images.len(), self.lent(parts));
         let (in_a, in_b, a_len, b_len) = (self.lent_mut(a), self.lent_mut(b), a.len(), b.len());
         let count = parts.len();
-        unsafe { mmix_tasks(at.a, at.b, q, grant, bytes, len, pairs, count, in_a, a_len, in_b, b_len, counts, refusals) }
+        unsafe {
+            mmix_tasks(at.a, at.b, q, grant, bytes, len, pairs, count, in_a, a_len, in_b, b_len, counts, refusals)
+        }
     }
 
     #[inline]

@@ -61,10 +61,13 @@ const SITUATIONS: [Situation; 17] = [
         left.reply == 0 && call.pairs().any(|(start, len)| len == 0 && start == call.windows.b.size())
     }),
     ("an empty part inside another", |call, left| {
-        let inside = |(at, none): (u64, u64)| none == 0 && call.pairs().any(|(start, len)| start < at && at - start < len);
+        let inside =
+            |(at, none): (u64, u64)| none == 0 && call.pairs().any(|(start, len)| start < at && at - start < len);
         left.reply == 0 && call.pairs().any(inside)
     }),
-    ("the grant is spent", |call, left| left.reply == 0 && call.grant > 0 && left.counts.iter().sum::<u64>() == call.grant),
+    ("the grant is spent", |call, left| {
+        left.reply == 0 && call.grant > 0 && left.counts.iter().sum::<u64>() == call.grant
+    }),
     ("all have stopped", |call, left| left.reply == 0 && left.refusals[..call.parts.len() / 2].iter().all(|r| *r != 0)),
     ("some stopped and the grant is spent", |call, left| {
         let stopped = left.refusals.iter().any(|r| *r != 0);
@@ -235,7 +238,14 @@ fn drawn(random: &mut Random) -> Drawn {
     let mut images_len = each * states.len();
     if random.one_in(24) {
         let other = if each == IMAGE_LEN { OLD_IMAGE_LEN } else { IMAGE_LEN };
-        let lengths = [0, images_len + 1, images_len + 8, images_len + each, images_len.saturating_sub(8), images_len.max(other) - each + other];
+        let lengths = [
+            0,
+            images_len + 1,
+            images_len + 8,
+            images_len + each,
+            images_len.saturating_sub(8),
+            images_len.max(other) - each + other,
+        ];
         images_len = Some(random.pick(&lengths)).filter(|len| *len != other * states.len()).unwrap_or(images_len);
     }
     let q = random.pick(&[1, 1, 2, 3, 7, 40, TURN_MOST, TURN_MOST]);

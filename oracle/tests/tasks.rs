@@ -50,7 +50,11 @@ fn call(q: u64, grant: u64, states: &[State], parts: &[u64], windows: &Windows) 
         let told = Told { counts: &mut counts, refusals: &mut refusals };
         let reply = subject.tasks(q, grant, &mut images, parts, lent.lend(), told);
         if reply != 0 {
-            assert!((counts, refusals) == ([0; 8], [0; 8]) && images == given && lent == *windows, "{}", subject.name());
+            assert!(
+                (counts, refusals) == ([0; 8], [0; 8]) && images == given && lent == *windows,
+                "{}",
+                subject.name()
+            );
         }
         let states = images.chunks_exact(IMAGE_LEN).map(State::of_image).collect();
         Left { reply, counts, refusals, states, windows: lent }
@@ -73,7 +77,9 @@ fn three() -> (Vec<State>, Windows) {
 #[test]
 fn turns_in_order() {
     let (states, windows) = three();
-    for (q, grant, counts) in [(2, 10, [4, 4, 2]), (7, 100, [35, 35, 30]), (1000, 7, [7, 0, 0]), (1, 0, [0, 0, 0]), (1, 1, [1, 0, 0])] {
+    for (q, grant, counts) in
+        [(2, 10, [4, 4, 2]), (7, 100, [35, 35, 30]), (1000, 7, [7, 0, 0]), (1, 0, [0, 0, 0]), (1, 1, [1, 0, 0])]
+    {
         let left = call(q, grant, &states, &quarters(3), &windows);
         assert_eq!((left.reply, &left.counts[..3], left.refusals), (0, &counts[..], [0; 8]), "q {q}, grant {grant}");
     }
@@ -121,8 +127,11 @@ fn asks(instruction: [u8; 4], set: impl Fn(&mut State)) -> u64 {
 
 #[test]
 fn thirty_two_at_the_edges() {
-    let at = |k: u8, address: u64| move |state: &mut State| state.general[k as usize] = STACK_START.wrapping_add(address);
-    for (address, reply) in [(0, 32), (63, 32), (64, 0), (127, 0), (128, 32), (192, 32), (255, 32), (256, 6), (8u64.wrapping_neg(), 6)] {
+    let at =
+        |k: u8, address: u64| move |state: &mut State| state.general[k as usize] = STACK_START.wrapping_add(address);
+    for (address, reply) in
+        [(0, 32), (63, 32), (64, 0), (127, 0), (128, 32), (192, 32), (255, 32), (256, 6), (8u64.wrapping_neg(), 6)]
+    {
         assert_eq!(asks([LDO, 1, 250, 249], at(250, address)), reply, "a load at {address}");
         assert_eq!(asks([STO, 1, 250, 249], at(250, address)), reply, "a store at {address}");
     }
@@ -136,7 +145,9 @@ fn thirty_two_at_the_edges() {
     // 32 wins where one octabyte is foreign and another missing: 240 and 248 are in no part, 256 is in no window
     assert_eq!(asks([PUSHJ, 2, 0, 1], stack(240)), 32);
     // the fetch
-    for (pc, reply) in [(STACK_START, 32), (STACK_START + 252, 32), (STACK_START + 256, 24), (STACK_START + 64, 4), (1 << 40, 24)] {
+    for (pc, reply) in
+        [(STACK_START, 32), (STACK_START + 252, 32), (STACK_START + 256, 24), (STACK_START + 64, 4), (1 << 40, 24)]
+    {
         assert_eq!(asks([JMP, 0, 0, 1], move |state| state.pc = pc), reply, "PC {pc:x}");
     }
 }

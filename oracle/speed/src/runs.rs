@@ -283,5 +283,8 @@ pub fn print(programs: &[Program], times: &[Times], branch: f64) {
     }
     let worst = times.iter().map(|Times([_, run, .., tasks])| tasks / run).fold(0.0, f64::max);
     let verdict = if worst <= TASKS_HELD { "met" } else { "NOT MET" };
-    println!("{:<34}{:<18}{worst:>8.2}   at most  {TASKS_HELD:>3}   {verdict}", "eight tasks, the worst of these", "tasks / run");
+    println!(
+        "{:<34}{:<18}{worst:>8.2}   at most  {TASKS_HELD:>3}   {verdict}",
+        "eight tasks, the worst of these", "tasks / run"
+    );
 }
