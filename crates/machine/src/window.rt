@@ -8,7 +8,7 @@ ghost use Rattle.model.specs.Memory.{shapeOf, ruledOne, offset, has, one};
 ghost use Rattle.machine.specs.Octas.{lentOne, roomIn, heldRange, readBy, writtenBy, writtenRunBy};
 
 /// The longest window, in bytes.
-pub const WINDOW_MAX: usize = 65536;
+pub const WINDOW_MAX: usize = 1048576;
 
 /// Whether length and base obey the window's rule.
 pub fn is_ruled(window: &[u8], base: u64) -> bool

@@ -253,8 +253,8 @@ neitherRuled w = not (ruled (record { a = w; b = shape 8 0 })) && not (ruled (re
 
 unfoldable pub ruledShapes : Bool
 ruledShapes =
-    eitherRuled (shape 0 65536) && (eitherRuled (shape (2 ^ 64 - 8) 8) && (eitherRuled (shape 8 0)
-    && (neitherRuled (shape 0 65544) && (neitherRuled (shape 0 4) && (neitherRuled (shape 4 8) && (neitherRuled (shape (2 ^ 64) 8) && neitherRuled (shape 1 0)))))))
+    eitherRuled (shape 0 1048576) && (eitherRuled (shape (2 ^ 64 - 8) 8) && (eitherRuled (shape 8 0)
+    && (neitherRuled (shape 0 1048584) && (neitherRuled (shape 0 4) && (neitherRuled (shape 4 8) && (neitherRuled (shape (2 ^ 64) 8) && neitherRuled (shape 1 0)))))))
 
 -- ---- the special registers' numbers, and the fresh state's, one by one
 
