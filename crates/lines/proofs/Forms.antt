@@ -1,7 +1,6 @@
--- Laws of a line held against a form: a byte further, a part further, how long a line of a form is; and of the numbers in it.
+-- Laws of a line held against a form: a byte further, a part further, how long a line of a form is and one of its bytes; and of the numbers in it.
 use mathlib.Core.Path.{_≡_, refl, sym, ap, _∙_}
-use mathlib.Core.Logic.{_⊎_, inl, inr, ⊎-elim}
-use mathlib.Core.Bool.{Bool, true, false, cond, _&&_, _||_}
+use mathlib.Core.Bool.{Bool, true, false, cond, _&&_}
 use mathlib.Core.List.{List, [], _∷_, _++_, append-nil}
 use Prim.Native.Nat.{ℕ, zero, suc, _+_, _-_, _*_, _^_, _≤_, _<_}
 use native.Mathlib.Omega.{arith}
@@ -11,12 +10,11 @@ use lib.Dec.{leb}
 use lib.Pow.{pow-add, pow-mono}
 use lib.ListN.{length, getD, drop, length-append, length-replicate, drop-of-length-le}
 use lib.Seq.{drop-cons}
-use Rattle.model.proofs.Bools.{and-right}
-use Rattle.model.proofs.Fill.{flag}
+use Rattle.model.proofs.Bools.{and-left, and-right}
 use Rattle.text.specs.Codes.{codes}
 use Rattle.text.specs.Digits.{digitOf, numberOf}
 use Rattle.text.proofs.Digits.{digit-most}
-use Rattle.lines.specs.Line.{mark, fitsByte, fits, head, bases, middle, close, marks, pointForm, digitsAt, hexAt, octasA, octasB, isForm, lengthDigits, stateDigits, oldStateDigits, octasMax, isNew, isOld, isPoint}
+use Rattle.lines.specs.Line.{mark, fitsByte, fits, head, bases, middle, close, marks, pointForm, digitsAt, hexAt, octasA, octasB, isForm}
 use Rattle.lines.specs.Met.{met}
 use Rattle.lines.specs.declared.line.Met.{Met}
 
@@ -215,36 +213,17 @@ module _ (w d k : ℕ) (l : List ℕ) where
   unfolding isForm
   neither-large g h = rw (le-leb (octasA w l) k g, le-leb (octasB w l) k h)
 
--- of one form or the other
-module _ (l : List ℕ) where
-  pub point-new : isNew l ≡ true → isPoint l ≡ true
-  unfolding isPoint
-  point-new e = rw e
-
-  pub point-old : isOld l ≡ true → isPoint l ≡ true
-  unfolding isPoint
-  point-old e = rw e (or-true (isNew l))
-    where
-      or-true : (t : Bool) → (t || true) ≡ true
-      or-true true = refl
-      or-true false = refl
-
-  pub point-not : isNew l ≡ false → isOld l ≡ false → isPoint l ≡ false
-  unfolding isPoint
-  point-not e f = rw (e, f)
-
-  pub which-form : isPoint l ≡ true → (isNew l ≡ true) ⊎ ((isNew l ≡ false) × (isOld l ≡ true))
-  unfolding isPoint
-  which-form e = ⊎-elim (λ n. inl n) (λ n. inr (n, rw n at e)) (flag (isNew l))
-
--- never of both: with the same windows one is sixteen bytes longer
-of-length : (w d k : ℕ) (l : List ℕ) → isForm w d k l ≡ true → length l ≡ 88 + 2 * w + d + 16 * (octasA w l + octasB w l)
+-- how long a line of a form is by its own lengths
+pub of-length : (w d k : ℕ) (l : List ℕ) → isForm w d k l ≡ true → length l ≡ 88 + 2 * w + d + 16 * (octasA w l + octasB w l)
 unfolding isForm
 of-length w d k l e =
     length-fits (pointForm w d (octasA w l + octasB w l)) l (and-right (leb (octasB w l) k) _ (and-right (leb (octasA w l) k) _ e)) ∙ length-form w d (octasA w l + octasB w l)
 
-pub not-both : (l : List ℕ) → isOld l ≡ true → isNew l ≡ false
-unfolding isNew isOld
-not-both l e =
-    ⊎-elim (λ n. absurd (omega (arith, of-length lengthDigits stateDigits octasMax l n, of-length lengthDigits oldStateDigits octasMax l e))) (λ n. n)
-    (flag (isForm lengthDigits stateDigits octasMax l))
+-- ---- a byte of a line of a form
+
+pub fits-at : (p l : List ℕ) (i : ℕ) → fits p l ≡ true → i < length p → fitsByte (getD p i 0) (getD l i 0) ≡ true
+unfolding fits
+fits-at [] l i e h = absurd (omega arith)
+fits-at (c ∷ p) [] i e h = cc
+fits-at (c ∷ p) (b ∷ l) zero e h = and-left (fitsByte c b) _ e
+fits-at (c ∷ p) (b ∷ l) (suc i) e h = fits-at p l i (and-right (fitsByte c b) _ e) (omega arith)

@@ -1,5 +1,7 @@
 -- The theorems of this crate, and the laws of its definitions.
 pub mod Forms
+pub mod Formed
+pub mod Padded
 pub mod Held
 pub mod Turns
 pub mod Splits

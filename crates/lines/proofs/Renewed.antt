@@ -1,173 +1,248 @@
--- Which point a line has and what is written of it, by its form: a new line is the line of its point, and an old one becomes it with an empty mask.
+-- Which point a line has and what is written of it: its point's line, which is the line itself with digits 0 more where its form is an older one.
 use mathlib.Core.Path.{_≡_, refl, sym, ap, _∙_}
-use mathlib.Core.Logic.{⊎-elim}
-use mathlib.Core.Bool.{true, false}
-use mathlib.Core.List.{List, _++_, append-assoc}
-use Prim.Native.Nat.{ℕ, _+_, _*_}
+use mathlib.Core.Bool.{true}
+use mathlib.Core.List.{List, [], _∷_, _++_, append-assoc, append-nil}
+use Prim.Native.Nat.{ℕ, zero, suc, _+_, _-_, _*_, _/_, _%_, _^_, _≤_, _<_}
 use native.Mathlib.Omega.{arith}
-use lib.ListN.{length, take, drop, replicate, length-append, length-replicate, replicate-append-replicate}
-use lib.Seq.{take-at, drop-at}
+use native.Mathlib.Nat.{pow-succ', add-suc, add-zero}
+use native.Mathlib.Numerals.{add-one}
+use lib.ListN.{length, replicate, length-append, length-replicate, replicate-append-replicate}
 use Rattle.model.specs.Octa.{part}
-use Rattle.model.specs.Kept.{imageLength, oldImageLength, Point, full, octasOf}
+use Rattle.model.specs.Kept.{imageLength, Point, full, octasOf}
 use Rattle.model.proofs.Slices.{part-padded}
-use Rattle.model.proofs.Kept.{at-own, full-bytes}
+use Rattle.model.proofs.Kept.{full-bytes}
 use Rattle.text.specs.Codes.{codes}
 use Rattle.text.specs.Text.{glyph}
-use Rattle.lines.specs.Line.{mark, head, bases, middle, close, marks, pointForm, lengthDigits, stateDigits, oldStateDigits, isNew, isOld, isPoint, oldEnd, noMask, grown, renewed}
-use Rattle.lines.specs.PointLine.{hexOf, digitsOf, inForm, pointDigits, lineOf, nameOf, pointBy, pointOf, Read}
-use Rattle.lines.proofs.Forms.{which-form, not-both}
-use Rattle.lines.proofs.Marks.{marksIn, marks-append, marks-marks, in-append, length-in}
+use Rattle.lines.specs.Line.{mark, head, bases, middle, close, marks, pointForm, lengthDigits, oldLengthDigits, stateDigits, oldStateDigits, isNew, isOld, isShort, isShortOld, isPoint, widths, widthsOf, zeros, widened, renewed}
+use Rattle.lines.specs.PointLine.{hexOf, digitsOf, inForm, pointDigits, lineOf, nameOf, pointBy, pointOf, Read, Older}
+use Rattle.lines.specs.declared.line.Widths.{Widths}
+use Rattle.lines.proofs.Forms.{length-head, length-bases, length-space}
+use Rattle.lines.proofs.Formed.{Formed, formed, as-new, point-old, point-short, point-short-old, old-widths, short-widths, short-old-widths}
+use Rattle.lines.proofs.Marks.{marksIn, marks-marks, in-append, length-in}
 use Rattle.lines.proofs.Hex.{length-hex, length-digits, digits-bytes}
+use Rattle.lines.proofs.Padded.{widened-none, widened-parts}
 use Rattle.lines.proofs.LinePoint.{lineBy, ReadBy, read-by}
 
--- ---- which point, and what is written
+-- ---- which point, and what is written, by a line's widths
 
-module _ (l : List ℕ) where
-  pub new-point : isNew l ≡ true → pointOf l ≡ pointBy stateDigits l
+module _ (l : List ℕ) (w d : ℕ) (e : widthsOf l ≡ widths w d) where
+  its-point : pointOf l ≡ full (pointBy w d l)
   unfolding pointOf
-  new-point e = rw e
+  its-point = ap (λ (x : Widths). full (pointBy (x .lengths) (x .state) l)) e
 
-  pub new-same : isNew l ≡ true → renewed l ≡ l
+  pub its-own : renewed l ≡ widened w d l
   unfolding renewed
-  new-same e = rw e
+  its-own = ap (λ (x : Widths). widened (x .lengths) (x .state) l) e
 
-  old-point : isNew l ≡ false → pointOf l ≡ full (pointBy oldStateDigits l)
-  unfolding pointOf
-  old-point e = rw e
+pub new-point : (l : List ℕ) → isNew l ≡ true → pointOf l ≡ full (pointBy lengthDigits stateDigits l)
+new-point l e = its-point l lengthDigits stateDigits (as-new l e)
 
-  old-grown : isNew l ≡ false → renewed l ≡ grown l
-  unfolding renewed
-  old-grown e = rw e
+pub new-same : (l : List ℕ) → isNew l ≡ true → renewed l ≡ l
+new-same l e = its-own l lengthDigits stateDigits (as-new l e) ∙ widened-none l
 
--- ---- a form in which k of the state's digits stand after d, and one without them
+-- ---- a form with its digits in it, part by part
 
-abbrev front : List ℕ
-front = head ++ (marks lengthDigits ++ (codes " " ++ (marks lengthDigits ++ bases)))
+head-marks : marksIn head ≡ 1
+unfolding head codes marksIn
+head-marks = refl
 
-abbrev from : ℕ → List ℕ
-from m = middle ++ (marks (16 * m) ++ close)
+bases-marks : marksIn bases ≡ 32
+unfolding bases codes marksIn
+bases-marks = refl
 
-front-marks : marksIn front ≡ 41
-unfolding head bases codes marksIn
-front-marks = refl
+space-marks : marksIn (codes " ") ≡ 0
+unfolding codes marksIn
+space-marks = refl
 
-front-long : length front ≡ 83
-unfolding head bases codes
-front-long = refl
+abbrev rest : ℕ → List ℕ
+rest m = middle ++ (marks (16 * m) ++ close)
 
-module _ (d : ℕ) where
-  abbrev upTo : List ℕ
-  upTo = front ++ marks d
+module _ (w d m : ℕ) (x a b t i v : List ℕ) (nx : length x ≡ 1) (na : length a ≡ w) (nb : length b ≡ w) (nt : length t ≡ 32) (ni : length i ≡ d) where
+  abbrev f₅ : List ℕ
+  f₅ = marks d ++ rest m
 
-  without-form : (m : ℕ) → pointForm lengthDigits d m ≡ upTo ++ from m
+  abbrev f₄ : List ℕ
+  f₄ = bases ++ f₅
+
+  abbrev f₃ : List ℕ
+  f₃ = marks w ++ f₄
+
+  abbrev f₂ : List ℕ
+  f₂ = codes " " ++ f₃
+
+  in-parts : inForm (pointForm w d m) (x ++ (a ++ (b ++ (t ++ (i ++ v)))))
+      ≡ inForm head x ++ (inForm (marks w) a ++ (inForm (codes " ") [] ++ (inForm (marks w) b ++ (inForm bases t ++ (inForm (marks d) i ++ inForm (rest m) v)))))
   unfolding pointForm
-  without-form m = simp append-assoc
+  in-parts =
+      in-append head (marks w ++ f₂) x (a ++ (b ++ (t ++ (i ++ v)))) (nx ∙ sym head-marks)
+      ∙ ap (λ (r : List ℕ). inForm head x ++ r) (in-append (marks w) f₂ a (b ++ (t ++ (i ++ v))) (na ∙ sym (marks-marks w))
+      ∙ ap (λ (r : List ℕ). inForm (marks w) a ++ r) (in-append (codes " ") f₃ [] (b ++ (t ++ (i ++ v))) (sym space-marks)
+      ∙ ap (λ (r : List ℕ). inForm (codes " ") [] ++ r) (in-append (marks w) f₄ b (t ++ (i ++ v)) (nb ∙ sym (marks-marks w))
+      ∙ ap (λ (r : List ℕ). inForm (marks w) b ++ r) (in-append bases f₅ t (i ++ v) (nt ∙ sym bases-marks)
+      ∙ ap (λ (r : List ℕ). inForm bases t ++ r) (in-append (marks d) (rest m) i v (ni ∙ sym (marks-marks d)))))))
 
-  with-form : (k m : ℕ) → pointForm lengthDigits (d + k) m ≡ upTo ++ (marks k ++ from m)
-  unfolding pointForm
-  with-form k m = rw (sym (replicate-append-replicate d k mark)) (simp append-assoc)
+-- ---- digits 0 more
 
-  upTo-long : (ds : List ℕ) → length (inForm upTo ds) ≡ 83 + d
-  upTo-long ds = length-in upTo ds ∙ omega (arith, length-append front (marks d), front-long, length-replicate {A = ℕ} d mark)
+in-zeros : (k : ℕ) → inForm (marks k) (replicate k 0) ≡ zeros k
+unfolding inForm glyph
+in-zeros zero = refl
+in-zeros (suc k) = ap (λ (r : List ℕ). 0x30 ∷ r) (in-zeros k)
 
--- a point's digits, likewise: numbers, the image's and the windows'
-module _ (name : ℕ) (p : Point) where
-  abbrev numbers : List ℕ
-  numbers = hexOf 1 name ++ (hexOf lengthDigits (octasOf (p .a)) ++ (hexOf lengthDigits (octasOf (p .b)) ++ (hexOf 16 (p .baseA) ++ hexOf 16 (p .baseB))))
+zeros-before : (k w : ℕ) (a : List ℕ) → inForm (marks (k + w)) (replicate k 0 ++ a) ≡ zeros k ++ inForm (marks w) a
+zeros-before k w a =
+    ap (λ (p : List ℕ). inForm p (replicate k 0 ++ a)) (sym (replicate-append-replicate k w mark))
+    ∙ in-append (marks k) (marks w) (replicate k 0) a (length-replicate {A = ℕ} k 0 ∙ sym (marks-marks k))
+    ∙ ap (λ (r : List ℕ). r ++ inForm (marks w) a) (in-zeros k)
 
-  abbrev windows : List ℕ
-  windows = digitsOf (p .a) ++ digitsOf (p .b)
+zeros-after : (d k : ℕ) (i : List ℕ) → length i ≡ d → inForm (marks (d + k)) (i ++ replicate k 0) ≡ inForm (marks d) i ++ zeros k
+zeros-after d k i n =
+    ap (λ (p : List ℕ). inForm p (i ++ replicate k 0)) (sym (replicate-append-replicate d k mark))
+    ∙ in-append (marks d) (marks k) i (replicate k 0) (n ∙ sym (marks-marks d))
+    ∙ ap (λ (r : List ℕ). inForm (marks d) i ++ r) (in-zeros k)
 
-  digits-parts : pointDigits name p ≡ numbers ++ (digitsOf (p .image) ++ windows)
-  unfolding pointDigits
-  digits-parts = simp append-assoc
+hex-zero : (k : ℕ) → hexOf k 0 ≡ replicate k 0
+unfolding hexOf
+hex-zero zero = refl
+hex-zero (suc k) = ap (λ (r : List ℕ). r ++ (0 ∷ [])) (hex-zero k) ∙ replicate-append-replicate k 1 0 ∙ ap (λ (j : ℕ). replicate j 0) (add-one k)
 
-  numbers-long : length numbers ≡ 41
-  numbers-long = omega (
-    arith,
-    length-append (hexOf 1 name) (hexOf lengthDigits (octasOf (p .a)) ++ (hexOf lengthDigits (octasOf (p .b)) ++ (hexOf 16 (p .baseA) ++ hexOf 16 (p .baseB)))),
-    length-append (hexOf lengthDigits (octasOf (p .a))) (hexOf lengthDigits (octasOf (p .b)) ++ (hexOf 16 (p .baseA) ++ hexOf 16 (p .baseB))),
-    length-append (hexOf lengthDigits (octasOf (p .b))) (hexOf 16 (p .baseA) ++ hexOf 16 (p .baseB)),
-    length-append (hexOf 16 (p .baseA)) (hexOf 16 (p .baseB)),
-    length-hex 1 name,
-    length-hex lengthDigits (octasOf (p .a)),
-    length-hex lengthDigits (octasOf (p .b)),
-    length-hex 16 (p .baseA),
-    length-hex 16 (p .baseB),
-  )
+hex-none : (r : List ℕ) → r ++ hexOf 0 0 ≡ r
+unfolding hexOf
+hex-none r = append-nil r
 
--- the lines in both forms, where e is the digits of the image, z those that stand after them in one, and us and ws those before and after
-module _ (d k m : ℕ) (us e z ws : List ℕ) (nu : length us ≡ 41) (ne : length e ≡ d) (nz : length z ≡ k) where
-  abbrev first : List ℕ
-  first = inForm (upTo d) (us ++ e)
+hex-last : (j u : ℕ) → hexOf (suc j) u ≡ hexOf j (u / 16) ++ (u % 16 ∷ [])
+unfolding hexOf
+hex-last j u = refl
 
-  as-many : length (us ++ e) ≡ marksIn (upTo d)
-  as-many = omega (arith, length-append us e, marks-append front (marks d), front-marks, marks-marks d)
+hex-wide : (k w v : ℕ) → v < 16 ^ w → hexOf (k + w) v ≡ replicate k 0 ++ hexOf w v
+hex-wide k zero v h =
+    let e : v ≡ 0 = omega arith in
+    rw (e, add-zero k) (hex-zero k ∙ sym (hex-none (replicate k 0)))
+hex-wide k (suc w) v h =
+    let n : v / 16 < 16 ^ w = omega (arith, pow-succ' 16 w) in
+    ap (λ (j : ℕ). hexOf j v) (add-suc k w) ∙ hex-last (k + w) v
+    ∙ ap (λ (r : List ℕ). r ++ (v % 16 ∷ [])) (hex-wide k w (v / 16) n)
+    ∙ append-assoc (replicate k 0) (hexOf w (v / 16)) (v % 16 ∷ [])
+    ∙ ap (λ (r : List ℕ). replicate k 0 ++ r) (sym (hex-last w v))
 
-  without : inForm (pointForm lengthDigits d m) (us ++ (e ++ ws)) ≡ first ++ inForm (from m) ws
-  without = rw (without-form d m, ← append-assoc us e ws) (in-append (upTo d) (from m) (us ++ e) ws as-many)
-
-  with-more : inForm (pointForm lengthDigits (d + k) m) (us ++ ((e ++ z) ++ ws)) ≡ first ++ (inForm (marks k) z ++ inForm (from m) ws)
-  with-more =
-      rw (with-form d k m, append-assoc e z ws, ← append-assoc us e (z ++ ws))
-      (in-append (upTo d) (marks k ++ from m) (us ++ e) (z ++ ws) as-many
-      ∙ ap (λ (r : List ℕ). first ++ r) (in-append (marks k) (from m) z ws (nz ∙ sym (marks-marks k))))
-
-  -- one from the other
-  put-in : (l : List ℕ) → l ≡ inForm (pointForm lengthDigits d m) (us ++ (e ++ ws))
-      → inForm (pointForm lengthDigits (d + k) m) (us ++ ((e ++ z) ++ ws)) ≡ take (83 + d) l ++ (inForm (marks k) z ++ drop (83 + d) l)
-  put-in l q =
-      with-more
-      ∙ sym (rw (q ∙ without, take-at first (inForm (from m) ws) (83 + d) (upTo-long d (us ++ e)), drop-at first (inForm (from m) ws) (83 + d) (upTo-long d (us ++ e))))
-
--- ---- an old line
-
-no-mask : inForm (marks 16) (replicate 16 0) ≡ noMask
-unfolding inForm noMask codes glyph
-no-mask = refl
-
-more-digits : (l : List ℕ) → length l ≡ oldImageLength → digitsOf (part l 0 imageLength) ≡ digitsOf l ++ replicate 16 0
+no-digits : (k : ℕ) → digitsOf (replicate k 0) ≡ replicate (k + k) 0
 unfolding digitsOf
-more-digits l n =
-    let e : imageLength ≡ length l + 8 = omega arith in
-    ap (λ (k : ℕ). digitsOf (part l 0 k)) e ∙ ap digitsOf (part-padded l 8) ∙ digits-bytes l (replicate 8 0)
+no-digits zero = refl
+no-digits (suc k) =
+    let e : suc (suc (k + k)) ≡ suc k + suc k = omega arith in
+    ap (λ (r : List ℕ). 0 ∷ 0 ∷ r) (no-digits k) ∙ ap (λ (j : ℕ). replicate j 0) e
 
-becomes : (name : ℕ) (p : Point) (l : List ℕ) → length (p .image) ≡ oldImageLength → lineBy oldImageLength name p ≡ l → lineOf name (full p) ≡ grown l
-unfolding lineOf grown
-becomes name p l n e =
-    let m : ℕ = octasOf (p .a) + octasOf (p .b) in
-    ap (inForm (pointForm lengthDigits stateDigits m)) (digits-parts name (full p) ∙ ap (λ (i : List ℕ). numbers name p ++ (i ++ windows name p)) (more-digits (p .image) n))
-    ∙ put-in oldStateDigits 16 m (numbers name p) (digitsOf (p .image)) (replicate 16 0) (windows name p) (numbers-long name p)
-    (omega (arith, length-digits (p .image))) (length-replicate {A = ℕ} 16 0) l (sym e ∙ ap (inForm (pointForm lengthDigits oldStateDigits m)) (digits-parts name p))
-    ∙ ap (λ (z : List ℕ). take oldEnd l ++ (z ++ drop oldEnd l)) no-mask
+more-digits : (l : List ℕ) (n : ℕ) → length l ≡ n → n ≤ imageLength → digitsOf (part l 0 imageLength) ≡ digitsOf l ++ replicate (stateDigits - 2 * n) 0
+more-digits l n e h =
+    let k : ℕ = imageLength - n in
+    let f : imageLength ≡ length l + k = omega arith in
+    let g : k + k ≡ stateDigits - 2 * n = omega arith in
+    ap (λ (j : ℕ). digitsOf (part l 0 j)) f ∙ ap digitsOf (part-padded l k) ∙ digits-bytes l (replicate k 0)
+    ∙ ap (λ (r : List ℕ). digitsOf l ++ r) (no-digits k ∙ ap (λ (j : ℕ). replicate j 0) g)
+
+-- ---- a point's line from its line in another form
+
+module _ (w n name : ℕ) (p : Point) (l : List ℕ) (hw : w ≤ lengthDigits) (hn : n ≤ imageLength) (long : length (p .image) ≡ n)
+    (few-a : octasOf (p .a) < 16 ^ w) (few-b : octasOf (p .b) < 16 ^ w) (is : lineBy w n name p ≡ l) where
+  abbrev j : ℕ
+  j = lengthDigits - w
+
+  abbrev k : ℕ
+  k = stateDigits - 2 * n
+
+  abbrev m : ℕ
+  m = octasOf (p .a) + octasOf (p .b)
+
+  abbrev x : List ℕ
+  x = hexOf 1 name
+
+  abbrev a : List ℕ
+  a = hexOf w (octasOf (p .a))
+
+  abbrev b : List ℕ
+  b = hexOf w (octasOf (p .b))
+
+  abbrev t : List ℕ
+  t = hexOf 16 (p .baseA) ++ hexOf 16 (p .baseB)
+
+  abbrev i : List ℕ
+  i = digitsOf (p .image)
+
+  abbrev v : List ℕ
+  v = digitsOf (p .a) ++ digitsOf (p .b)
+
+  nt : length t ≡ 32
+  nt = omega (arith, length-append (hexOf 16 (p .baseA)) (hexOf 16 (p .baseB)), length-hex 16 (p .baseA), length-hex 16 (p .baseB))
+
+  ni : length i ≡ 2 * n
+  ni = omega (arith, length-digits (p .image))
+
+  wide : lengthDigits ≡ j + w
+  wide = omega arith
+
+  deep : stateDigits ≡ 2 * n + k
+  deep = omega arith
+
+  own-digits : pointDigits w name p ≡ x ++ (a ++ (b ++ (t ++ (i ++ v))))
+  unfolding pointDigits
+  own-digits = simp append-assoc
+
+  full-digits : pointDigits lengthDigits name (full p) ≡ x ++ ((replicate j 0 ++ a) ++ ((replicate j 0 ++ b) ++ (t ++ ((i ++ replicate k 0) ++ v))))
+  unfolding pointDigits
+  full-digits =
+      let e : hexOf lengthDigits (octasOf (p .a)) ≡ replicate j 0 ++ a = ap (λ (q : ℕ). hexOf q (octasOf (p .a))) wide ∙ hex-wide j w (octasOf (p .a)) few-a in
+      let f : hexOf lengthDigits (octasOf (p .b)) ≡ replicate j 0 ++ b = ap (λ (q : ℕ). hexOf q (octasOf (p .b))) wide ∙ hex-wide j w (octasOf (p .b)) few-b in
+      rw (e, f, more-digits (p .image) n long hn)
+      (ap (λ (r : List ℕ). x ++ ((replicate j 0 ++ a) ++ ((replicate j 0 ++ b) ++ r))) (sym (append-assoc (hexOf 16 (p .baseA)) (hexOf 16 (p .baseB)) _)))
+
+  length-more : (u : List ℕ) → length u ≡ w → length (replicate j 0 ++ u) ≡ lengthDigits
+  length-more u e = omega (arith, length-append (replicate {A = ℕ} j 0) u, length-replicate {A = ℕ} j 0)
+
+  before : (u : List ℕ) → inForm (marks lengthDigits) (replicate j 0 ++ u) ≡ zeros j ++ inForm (marks w) u
+  before u = ap (λ (q : ℕ). inForm (marks q) (replicate j 0 ++ u)) wide ∙ zeros-before j w u
+
+  after : inForm (marks stateDigits) (i ++ replicate k 0) ≡ inForm (marks (2 * n)) i ++ zeros k
+  after = ap (λ (q : ℕ). inForm (marks q) (i ++ replicate k 0)) deep ∙ zeros-after (2 * n) k i ni
+
+  in-marks : (q : ℕ) (u : List ℕ) → length (inForm (marks q) u) ≡ q
+  in-marks q u = length-in (marks q) u ∙ length-replicate {A = ℕ} q mark
+
+  becomes : lineOf name (full p) ≡ widened w (2 * n) l
+  unfolding lineOf
+  becomes =
+      ap (inForm (pointForm lengthDigits stateDigits m)) full-digits
+      ∙ in-parts lengthDigits stateDigits m x (replicate j 0 ++ a) (replicate j 0 ++ b) t (i ++ replicate k 0) v (length-hex 1 name)
+      (length-more a (length-hex w (octasOf (p .a)))) (length-more b (length-hex w (octasOf (p .b)))) nt
+      (omega (arith, length-append i (replicate {A = ℕ} k 0), length-replicate {A = ℕ} k 0, ni))
+      ∙ rw (before a, before b, after)
+      (sym (widened-parts w (2 * n) (inForm head x) (inForm (marks w) a) (inForm (codes " ") []) (inForm (marks w) b) (inForm bases t) (inForm (marks (2 * n)) i) (inForm (rest m) v)
+      (length-in head x ∙ length-head) (in-marks w a) (length-in (codes " ") [] ∙ length-space) (in-marks w b) (length-in bases t ∙ length-bases) (in-marks (2 * n) i)))
+      ∙ ap (widened w (2 * n)) (sym (in-parts w (2 * n) m x a b t i v (length-hex 1 name) (length-hex w (octasOf (p .a))) (length-hex w (octasOf (p .b))) nt ni)
+      ∙ ap (inForm (pointForm w (2 * n) m)) (sym own-digits) ∙ is)
 
 -- ---- what is read of a line
 
-read-new : (l : List ℕ) → isNew l ≡ true → Read l
-unfolding isNew lineOf
-read-new l e =
-    let r : ReadBy imageLength l (pointBy stateDigits l) = read-by imageLength l e in
-    let p : pointOf l ≡ full (pointBy stateDigits l) = new-point l e ∙ sym (at-own imageLength (pointBy stateDigits l) (sym (r .image-long))) in
+pub read : (l : List ℕ) → isPoint l ≡ true → Read l
+read l e =
+    let f : Formed l = formed l e in
+    let r : ReadBy (f .w) (f .n) (f .k) l (pointBy (f .w) (2 * f .n) l) = read-by (f .w) (f .n) l (f .k) (f .is) (f .few) in
+    let p : pointOf l ≡ full (pointBy (f .w) (2 * f .n) l) = its-point l (f .w) (2 * f .n) (f .widths-are) in
     record {
-      line-is = ap (lineOf (nameOf l)) (new-point l e) ∙ r .line-is ∙ sym (new-same l e);
+      line-is = ap (lineOf (nameOf l)) p
+          ∙ becomes (f .w) (f .n) (nameOf l) (pointBy (f .w) (2 * f .n) l) l (f .most) (f .image-most) (r .image-long) (omega (arith, r .few-a, f .told)) (omega (arith, r .few-b, f .told)) (r .line-is)
+          ∙ sym (its-own l (f .w) (2 * f .n) (f .widths-are));
       name-small = r .name-small;
       point-fits = rw p (r .point-fits);
-      of-bytes = rw (new-point l e) (r .of-bytes);
+      of-bytes = rw p (full-bytes (pointBy (f .w) (2 * f .n) l) (r .of-bytes));
     }
 
-read-old : (l : List ℕ) → isNew l ≡ false → isOld l ≡ true → Read l
-unfolding isOld
-read-old l d e =
-    let r : ReadBy oldImageLength l (pointBy oldStateDigits l) = read-by oldImageLength l e in
-    record {
-      line-is = ap (lineOf (nameOf l)) (old-point l d) ∙ becomes (nameOf l) (pointBy oldStateDigits l) l (r .image-long) (r .line-is) ∙ sym (old-grown l d);
-      name-small = r .name-small;
-      point-fits = rw (old-point l d) (r .point-fits);
-      of-bytes = rw (old-point l d) (full-bytes (pointBy oldStateDigits l) (r .of-bytes));
-    }
+older : (l : List ℕ) (w d : ℕ) → isPoint l ≡ true → widthsOf l ≡ widths w d → Older w d l
+older l w d e f = record { point-is = its-point l w d f; line-is = read l e .line-is ∙ its-own l w d f }
 
-pub read : (l : List ℕ) → isPoint l ≡ true → Read l
-read l e = ⊎-elim (λ n. read-new l n) (λ n. read-old l (n .0) (n .1)) (which-form l e)
+pub old : (l : List ℕ) → isOld l ≡ true → Older lengthDigits oldStateDigits l
+old l e = older l lengthDigits oldStateDigits (point-old l e) (old-widths l e)
 
-pub old : (l : List ℕ) → isOld l ≡ true → (pointOf l ≡ full (pointBy oldStateDigits l)) × (lineOf (nameOf l) (pointOf l) ≡ grown l)
-old l e = let n : isNew l ≡ false = not-both l e in (old-point l n, read-old l n e .line-is ∙ old-grown l n)
+pub short : (l : List ℕ) → isShort l ≡ true → Older oldLengthDigits stateDigits l
+short l e = older l oldLengthDigits stateDigits (point-short l e) (short-widths l e)
+
+pub short-old : (l : List ℕ) → isShortOld l ≡ true → Older oldLengthDigits oldStateDigits l
+short-old l e = older l oldLengthDigits oldStateDigits (point-short-old l e) (short-old-widths l e)

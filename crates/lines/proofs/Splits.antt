@@ -1,7 +1,7 @@
 -- What is printed, line by line, and the theorem that turns print it however the text is split.
 use mathlib.Core.Path.{_≡_, refl, sym, ap, _∙_}
 use mathlib.Core.Logic.{⊎-elim, _⊎_, inl, inr}
-use mathlib.Core.Bool.{true, false, cond, not}
+use mathlib.Core.Bool.{true, false, cond}
 use mathlib.Core.List.{List, [], _∷_, _++_, append-assoc}
 use Prim.Native.Nat.{ℕ, suc, _+_, _-_, _*_, _≤_, _<_, min}
 use native.Mathlib.Omega.{arith}
@@ -18,10 +18,13 @@ use Rattle.model.proofs.Bools.{and-left, and-right}
 use Rattle.text.specs.Text.{badText}
 use Rattle.text.specs.Pieces.{pieces, lineLength}
 use Rattle.text.proofs.Pieces.{length-line, newline-there, line-append, line-front, pieces-some, pieces-line, pieces-last}
-use Rattle.lines.specs.Line.{pointForm, octasA, octasB, isForm, isNew, isOld, isPoint, lengthDigits, stateDigits, oldStateDigits, octasMax, oldEnd, noMask, grown, renewed, longestLine}
-use Rattle.lines.specs.Stream.{newline, printedLines, printedFrom, isGood, turnOf, heldAfter, anew, Unended, Tells, AnySplit, LineByLine}
+use Rattle.lines.specs.Line.{pointForm, octasA, octasB, isForm, isPoint, widthsOf, renewed, longestLine}
+use Rattle.lines.specs.Stream.{newline, printedLines, printedFrom, isGood, turnOf, heldAfter, Unended, Within, Tells, AnySplit, LineByLine}
 use Rattle.lines.specs.declared.stream.Turn.{Turn}
-use Rattle.lines.proofs.Forms.{length-fits, length-form, point-new, point-not, which-form}
+use Rattle.lines.proofs.Forms.{length-fits, length-form}
+use Rattle.lines.proofs.Formed.{Formed, formed, point-new}
+use Rattle.lines.proofs.Padded.{widened-more}
+use Rattle.lines.proofs.Renewed.{new-same}
 use Rattle.lines.proofs.Held.{take-written, written-full}
 use Rattle.lines.proofs.Turns.{good-here, not-ended, no-room, no-point, is-more, is-good, is-bad, left-good, left-other}
 
@@ -40,36 +43,22 @@ form-long w d k l e =
     = length-fits (pointForm w d (octasA w l + octasB w l)) l (and-right (leb (octasB w l) k) _ r) ∙ length-form w d (octasA w l + octasB w l) in
     (omega arith, omega arith)
 
-new-long : (l : List ℕ) → isNew l ≡ true → (oldEnd ≤ length l) × (length l ≤ longestLine)
-unfolding isNew
-new-long l e = omega (arith, form-long lengthDigits stateDigits octasMax l e)
+-- a point's line has the widths of its form, room for its state, and is not too long
+record Sized (l : List ℕ) : Type 0 where
+  within : Within (widthsOf l .lengths) (widthsOf l .state) (length l)
+  not-long : length l ≤ longestLine
 
-old-long : (l : List ℕ) → isOld l ≡ true → (oldEnd ≤ length l) × (length l ≤ longestLine)
-unfolding isOld
-old-long l e = omega (arith, form-long lengthDigits oldStateDigits octasMax l e)
+sized : (l : List ℕ) → isPoint l ≡ true → Sized l
+sized l e =
+    let f : Formed l = formed l e in
+    let g = form-long (f .w) (2 * f .n) (f .k) l (f .is) in
+    record {
+      within = rw (f .widths-are) (record { few-lengths = f .most; few-state = omega (arith, f .image-most); but-mask = omega (arith, f .image-least); state-ends = omega (arith, g .0) });
+      not-long = omega (arith, g .1, f .few, f .most, f .image-most);
+    }
 
 long-no : (l : List ℕ) → longestLine < length l → isPoint l ≡ false
-long-no l h =
-    point-not l (⊎-elim (λ e. absurd (omega (arith, new-long l e))) (λ e. e) (flag (isNew l))) (⊎-elim (λ e. absurd (omega (arith, old-long l e))) (λ e. e) (flag (isOld l)))
-
-past-end : (l : List ℕ) → isPoint l ≡ true → oldEnd ≤ length l
-past-end l e = ⊎-elim (λ n. new-long l n .0) (λ n. old-long l (n .1) .0) (which-form l e)
-
--- ---- a line is printed with its newline
-
-new-renewed : (l : List ℕ) → isNew l ≡ true → renewed l ≡ l
-unfolding renewed
-new-renewed l e = rw e
-
-grown-more : (p q : List ℕ) → oldEnd ≤ length p → grown (p ++ q) ≡ grown p ++ q
-unfolding grown
-grown-more p q h =
-    rw (take-append-le oldEnd p q h, drop-append-le oldEnd p q h)
-    (sym (append-assoc (take oldEnd p) (noMask ++ drop oldEnd p) q ∙ ap (λ (k : List ℕ). take oldEnd p ++ k) (append-assoc noMask (drop oldEnd p) q)))
-
-anew-line : (p q : List ℕ) → oldEnd ≤ length p → anew (not (isNew p)) (p ++ q) ≡ renewed p ++ q
-unfolding anew renewed
-anew-line p q h = ⊎-elim (λ e. rw e) (λ e. rw e (grown-more p q h)) (flag (isNew p))
+long-no l h = ⊎-elim (λ e. absurd (omega (arith, sized l e .not-long))) (λ e. e) (flag (isPoint l))
 
 -- ---- line by line
 
@@ -116,7 +105,7 @@ none-printed n = refl
 
 pub line-by-line : LineByLine
 line-by-line = record {
-  good = λ n p l u e. good-printed n p u l (point-new p e) ∙ ap (λ (q : List ℕ). q ++ (newline ∷ printedFrom (suc n) l)) (new-renewed p e);
+  good = λ n p l u e. good-printed n p u l (point-new p e) ∙ ap (λ (q : List ℕ). q ++ (newline ∷ printedFrom (suc n) l)) (new-same p e);
   renews = λ n p l u e. good-printed n p u l e;
   bad = λ n p l u e. bad-printed n p u l e;
   unended = λ n p u h. unended-printed n p u h;
@@ -238,7 +227,7 @@ module _ (held : List ℕ) (count : ℕ) (chunk : List ℕ) (long : longestLine 
     told-bad e b = rw (is-bad held count chunk g e) (ap (printedFrom n) (begun h chunk rest g) ∙ bad-printed n p w _ b)
 
     told-good : count + k < length held → isPoint p ≡ true → Told (turnOf held count chunk)
-    unfolding Tells
+    unfolding Tells renewed
     told-good m b =
         let e : isGood held count chunk ≡ true = good-here held count chunk g m b in
         let t : List ℕ = take (k + 1) chunk in
@@ -248,13 +237,13 @@ module _ (held : List ℕ) (count : ℕ) (chunk : List ℕ) (long : longestLine 
         let ends : t ≡ take k chunk ++ (newline ∷ []) = ap (λ (j : ℕ). take j chunk) (add-one k) ∙ take-suc chunk k 0 g ∙ ap (λ (x : ℕ). take k chunk ++ (x ∷ [])) (newline-there chunk g) in
         let f : take (count + k + 1) left ≡ p ++ (newline ∷ []) = ap (λ (j : ℕ). take j left) q ∙ ap (take (count + length t)) (left-good held count chunk e)
         ∙ take-written held count t (omega arith) ∙ ap (λ (x : List ℕ). h ++ x) ends ∙ sym (append-assoc h (take k chunk) (newline ∷ [])) in
-        let long : oldEnd ≤ length p = past-end p b in
-        rw (is-good held count chunk e, f, anew-line p (newline ∷ []) long) (
+        let z₁ : Sized p = sized p b in
+        rw (is-good held count chunk e, f, widened-more (widthsOf p .lengths) (widthsOf p .state) p (newline ∷ []) (z₁ .within .state-ends)) (
           ap (printedFrom n) (begun h chunk rest g) ∙ good-printed n p w _ b ∙ sym (append-snoc (renewed p) newline _),
           omega (arith, z),
           omega arith,
           omega arith,
-          omega (arith, length-append h (take k chunk), length-h, size-k),
+          record { few-lengths = z₁ .within .few-lengths; few-state = z₁ .within .few-state; but-mask = z₁ .within .but-mask; state-ends = omega (arith, z₁ .within .state-ends, length-append h (take k chunk), length-h, size-k) },
         )
 
     told-ended : Told (turnOf held count chunk)

@@ -1,6 +1,7 @@
--- The form of a point's line. 02: "`(point (name 3) (octas 0100 0010) (bases ..) (state ..) (windows ..))`, one line a point, each length four
--- digits, each base 16, bytes in one unbroken run of hexadecimal, A's before B's, `(windows )` if both are empty".
-use Prim.Native.Nat.{ℕ, zero, suc, _+_, _*_, _/_}
+-- The forms of a point's line. 02: "`(point (name 3) (octas 0100 0010) (bases ..) (state ..) (windows ..))`, one line a point, [..] each base 16, bytes
+-- in one unbroken run of hexadecimal, A's before B's, `(windows )` if both are empty"; "Point lines now carry each length as eight hexadecimal digits;
+-- lines with four in both, 0x2000 at most, are still read but never written"; "Point lines with an old image are still read but never written".
+use Prim.Native.Nat.{ℕ, zero, suc, _+_, _-_, _*_, _/_}
 use mathlib.Core.Bool.{Bool, true, false, cond, _&&_, _||_}
 use mathlib.Core.List.{List, [], _∷_, _++_}
 use lib.Dec.{leb, ltb, eqb}
@@ -9,6 +10,7 @@ use Rattle.model.specs.Memory.{windowMax}
 use Rattle.model.specs.Kept.{imageLength, oldImageLength}
 use Rattle.text.specs.Codes.{codes}
 use Rattle.text.specs.Digits.{digitOf, numberOf}
+use Rattle.lines.specs.declared.line.Widths.{Widths}
 
 -- ---- a form: '#' stands for a digit, any other byte for itself
 
@@ -66,10 +68,13 @@ octasB w l = hexAt l (24 + w) w
 unfoldable pub isForm : ℕ → ℕ → ℕ → List ℕ → Bool
 isForm w d k l = leb (octasA w l) k && (leb (octasB w l) k && fits (pointForm w d (octasA w l + octasB w l)) l)
 
--- ---- the forms
+-- ---- the forms that are read
 
 abbrev pub lengthDigits : ℕ
-lengthDigits = 4
+lengthDigits = 8
+
+abbrev pub oldLengthDigits : ℕ
+oldLengthDigits = 4
 
 -- two a byte; an old image's are without the mask's
 abbrev pub stateDigits : ℕ
@@ -81,36 +86,70 @@ oldStateDigits = 2 * oldImageLength
 abbrev pub octasMax : ℕ
 octasMax = windowMax / 8
 
+abbrev pub oldOctasMax : ℕ
+oldOctasMax = 0x2000
+
 -- the form that is written
 unfoldable pub isNew : List ℕ → Bool
 isNew l = isForm lengthDigits stateDigits octasMax l
 
--- "Point lines with an old image are still read but never written"
+-- with an old image
 unfoldable pub isOld : List ℕ → Bool
 isOld l = isForm lengthDigits oldStateDigits octasMax l
 
+-- with four digits in both lengths, and either image
+unfoldable pub isShort : List ℕ → Bool
+isShort l = isForm oldLengthDigits stateDigits oldOctasMax l
+
+unfoldable pub isShortOld : List ℕ → Bool
+isShortOld l = isForm oldLengthDigits oldStateDigits oldOctasMax l
+
 -- THE line of a point, its newline left out; "a length above the largest window's" makes it none
 unfoldable pub isPoint : List ℕ → Bool
-isPoint l = isNew l || isOld l
+isPoint l = isNew l || (isOld l || (isShort l || isShortOld l))
 
--- where a line has its state, and where an old one's ends
-abbrev pub stateAt : ℕ
-stateAt = 75 + 2 * lengthDigits
+-- how many digits a line's lengths and its state have, by its form; none where it has none
+abbrev pub widths : ℕ → ℕ → Widths
+widths w d = record { lengths = w; state = d }
 
-abbrev pub oldEnd : ℕ
-oldEnd = stateAt + oldStateDigits
+unfoldable pub widthsOf : List ℕ → Widths
+widthsOf l =
+    cond (isNew l) (widths lengthDigits stateDigits)
+    (cond (isOld l) (widths lengthDigits oldStateDigits)
+    (cond (isShort l) (widths oldLengthDigits stateDigits)
+    (cond (isShortOld l) (widths oldLengthDigits oldStateDigits) (widths 0 0))))
 
--- sixteen digits: an empty mask
-unfoldable pub noMask : List ℕ
-noMask = codes "0000000000000000"
+-- ---- what is written of a line: digits 0 more before each length, and after the state's, an empty mask's
 
--- an old line with these after its image's
-unfoldable pub grown : List ℕ → List ℕ
-grown l = take oldEnd l ++ (noMask ++ drop oldEnd l)
+-- where a line has its first length, its second and its state, and where that ends
+abbrev pub firstAt : ℕ
+firstAt = 23
+
+abbrev pub secondAt : ℕ → ℕ
+secondAt w = 24 + w
+
+abbrev pub stateAt : ℕ → ℕ
+stateAt w = 75 + 2 * w
+
+abbrev pub stateEnd : ℕ → ℕ → ℕ
+stateEnd w d = stateAt w + d
+
+-- n digits 0
+abbrev pub zeros : ℕ → List ℕ
+zeros n = replicate n 0x30
+
+-- a line with so many put in at index i
+unfoldable pub padded : ℕ → ℕ → List ℕ → List ℕ
+padded i n l = take i l ++ (zeros n ++ drop i l)
+
+-- a line with w digits for each length and d for the state, in the form that is written
+unfoldable pub widened : ℕ → ℕ → List ℕ → List ℕ
+widened w d l =
+    padded firstAt (lengthDigits - w) (padded (secondAt w) (lengthDigits - w) (padded (stateEnd w d) (stateDigits - d) l))
 
 -- what is written of a point's line
 unfoldable pub renewed : List ℕ → List ℕ
-renewed l = cond (isNew l) l (grown l)
+renewed l = widened (widthsOf l .lengths) (widthsOf l .state) l
 
 -- the longest one: 88 bytes are neither a length's nor the state's nor a window's
 abbrev pub longestLine : ℕ

@@ -1,4 +1,5 @@
--- A point and its line determine each other; a line with an old image has the point whose mask is empty, and becomes that point's line.
+-- A point and its line determine each other; a line of an older form has a point too, with an empty mask where its image is old, and becomes that
+-- point's line.
 use Prim.Native.Nat.{ℕ, zero, suc, _+_, _*_, _/_, _%_, _<_}
 use mathlib.Core.Path.{_≡_}
 use mathlib.Core.Bool.{true, cond}
@@ -7,7 +8,7 @@ use lib.Dec.{eqb}
 use lib.ListN.{getD, drop}
 use Rattle.model.specs.Kept.{Point, pointCount, full, octasOf, Fits, OfBytes}
 use Rattle.text.specs.Text.{glyph}
-use Rattle.lines.specs.Line.{mark, pointForm, digitsAt, hexAt, octasA, octasB, lengthDigits, stateDigits, oldStateDigits, isNew, isOld, isPoint, stateAt, grown, renewed}
+use Rattle.lines.specs.Line.{mark, pointForm, digitsAt, hexAt, octasA, octasB, lengthDigits, oldLengthDigits, stateDigits, oldStateDigits, isNew, isOld, isShort, isShortOld, isPoint, widthsOf, stateAt, widened, renewed}
 
 -- ---- a point's line
 
@@ -26,15 +27,15 @@ unfoldable pub inForm : List ℕ → List ℕ → List ℕ
 inForm [] ds = []
 inForm (c ∷ p) ds = cond (eqb c mark) (glyph (getD ds 0 0) ∷ inForm p (drop 1 ds)) (c ∷ inForm p ds)
 
--- a line's digits in their order: name, lengths of A and B, bases of A and B, state, A, B
-unfoldable pub pointDigits : ℕ → Point → List ℕ
-pointDigits name p =
-    hexOf 1 name ++ (hexOf lengthDigits (octasOf (p .a)) ++ (hexOf lengthDigits (octasOf (p .b)) ++ (hexOf 16 (p .baseA) ++ (hexOf 16 (p .baseB)
+-- a line's digits in their order: name, lengths of A and B by w digits each, bases of A and B, state, A, B
+unfoldable pub pointDigits : ℕ → ℕ → Point → List ℕ
+pointDigits w name p =
+    hexOf 1 name ++ (hexOf w (octasOf (p .a)) ++ (hexOf w (octasOf (p .b)) ++ (hexOf 16 (p .baseA) ++ (hexOf 16 (p .baseB)
     ++ (digitsOf (p .image) ++ (digitsOf (p .a) ++ digitsOf (p .b)))))))
 
 -- THE line of a point under a name
 unfoldable pub lineOf : ℕ → Point → List ℕ
-lineOf name p = inForm (pointForm lengthDigits stateDigits (octasOf (p .a) + octasOf (p .b))) (pointDigits name p)
+lineOf name p = inForm (pointForm lengthDigits stateDigits (octasOf (p .a) + octasOf (p .b))) (pointDigits lengthDigits name p)
 
 -- ---- a line's point
 
@@ -44,35 +45,35 @@ bytesIn [] = []
 bytesIn (d ∷ []) = []
 bytesIn (d ∷ e ∷ ds) = (d * 16 + e) ∷ bytesIn ds
 
--- where a line has its name's digit, its bases and its windows, these after a state of d digits
+-- where a line has its name's digit, its bases and its windows, these after lengths of w digits and a state of d
 abbrev pub nameAt : ℕ
 nameAt = 13
 
-abbrev pub baseAAt : ℕ
-baseAAt = 33 + 2 * lengthDigits
+abbrev pub baseAAt : ℕ → ℕ
+baseAAt w = 33 + 2 * w
 
-abbrev pub baseBAt : ℕ
-baseBAt = 50 + 2 * lengthDigits
+abbrev pub baseBAt : ℕ → ℕ
+baseBAt w = 50 + 2 * w
 
-abbrev pub windowsAt : ℕ → ℕ
-windowsAt d = 86 + 2 * lengthDigits + d
+abbrev pub windowsAt : ℕ → ℕ → ℕ
+windowsAt w d = 86 + 2 * w + d
 
 unfoldable pub nameOf : List ℕ → ℕ
 nameOf l = hexAt l nameAt 1
 
--- the point of a line whose state has d digits
-unfoldable pub pointBy : ℕ → List ℕ → Point
-pointBy d l = record {
-  image = bytesIn (digitsAt l stateAt d);
-  baseA = hexAt l baseAAt 16;
-  baseB = hexAt l baseBAt 16;
-  a = bytesIn (digitsAt l (windowsAt d) (16 * octasA lengthDigits l));
-  b = bytesIn (digitsAt l (windowsAt d + 16 * octasA lengthDigits l) (16 * octasB lengthDigits l));
+-- the point of a line whose lengths have w digits each and whose state has d
+unfoldable pub pointBy : ℕ → ℕ → List ℕ → Point
+pointBy w d l = record {
+  image = bytesIn (digitsAt l (stateAt w) d);
+  baseA = hexAt l (baseAAt w) 16;
+  baseB = hexAt l (baseBAt w) 16;
+  a = bytesIn (digitsAt l (windowsAt w d) (16 * octasA w l));
+  b = bytesIn (digitsAt l (windowsAt w d + 16 * octasA w l) (16 * octasB w l));
 }
 
 -- THE point of a line: "an old image is read with an empty mask"
 unfoldable pub pointOf : List ℕ → Point
-pointOf l = cond (isNew l) (pointBy stateDigits l) (full (pointBy oldStateDigits l))
+pointOf l = full (pointBy (widthsOf l .lengths) (widthsOf l .state) l)
 
 -- ---- THEOREM: each is the other's
 
@@ -90,10 +91,17 @@ pub record Read (l : List ℕ) : Type 0 where
   pub point-fits : Fits (pointOf l)
   pub of-bytes : OfBytes (pointOf l)
 
+-- the same of a line with lengths of w digits and a state of d, said by these
+pub record Older (w d : ℕ) (l : List ℕ) : Type 0 where
+  pub point-is : pointOf l ≡ full (pointBy w d l)
+  pub line-is : lineOf (nameOf l) (pointOf l) ≡ widened w d l
+
 pub record EachOther : Type 0 where
   pub of-point : (name : ℕ) (p : Point) → name < pointCount → Fits p → OfBytes p → Told name p
   pub of-line : (l : List ℕ) → isPoint l ≡ true → Read l
   -- and of a line in the form that is written it is that line
   pub of-new : (l : List ℕ) → isNew l ≡ true → lineOf (nameOf l) (pointOf l) ≡ l
-  -- one with an old image has an empty mask's digits more
-  pub of-old : (l : List ℕ) → isOld l ≡ true → (pointOf l ≡ full (pointBy oldStateDigits l)) × (lineOf (nameOf l) (pointOf l) ≡ grown l)
+  -- one of an older form has the point that its own digits are, with an empty mask after an old image, and digits 0 more make it that point's line
+  pub of-old : (l : List ℕ) → isOld l ≡ true → Older lengthDigits oldStateDigits l
+  pub of-short : (l : List ℕ) → isShort l ≡ true → Older oldLengthDigits stateDigits l
+  pub of-short-old : (l : List ℕ) → isShortOld l ≡ true → Older oldLengthDigits oldStateDigits l

@@ -1,15 +1,16 @@
 -- What is printed of a stream of points' lines, and how it is carried through in chunks. 02: "A line of just this form comes out byte for byte; any
--- other [..] prints `(bad N)` in its place and ends." A line with an old image comes out with the new one, its mask empty.
+-- other [..] prints `(bad N)` in its place and ends." A line of an older form comes out in the new one.
 use Prim.Native.Nat.{ℕ, suc, _+_, _-_, _≤_, _<_, min}
 use mathlib.Core.Path.{_≡_}
-use mathlib.Core.Bool.{Bool, true, false, cond, _&&_, not}
+use mathlib.Core.Bool.{Bool, true, false, cond, _&&_}
 use mathlib.Core.List.{List, [], _∷_, _++_}
 use lib.Dec.{ltb, eqb}
 use lib.ListN.{length, take, drop}
 use Rattle.model.specs.Octa.{written}
 use Rattle.text.specs.Text.{badText}
 use Rattle.text.specs.Pieces.{pieces, lineLength}
-use Rattle.lines.specs.Line.{isNew, isPoint, oldEnd, grown, renewed, longestLine}
+use Rattle.lines.specs.Line.{lengthDigits, stateDigits, isNew, isPoint, widthsOf, stateEnd, widened, renewed, longestLine}
+use Rattle.lines.specs.declared.line.Widths.{Widths}
 use Rattle.lines.specs.declared.stream.Turn.{Turn}
 use Rattle.lines.specs.declared.stream.Turn.the-variants.{More, Good, Bad}
 
@@ -42,10 +43,14 @@ unfoldable pub isGood : List ℕ → ℕ → List ℕ → Bool
 isGood held count chunk =
     ltb (lineLength chunk) (length chunk) && (ltb (count + lineLength chunk) (length held) && isPoint (lineSoFar held count chunk))
 
+-- a good line: so many bytes of the chunk are done with, so many held are the line and its newline, and these are its widths
+abbrev pub goodTurn : ℕ → ℕ → Widths → Turn
+goodTurn used shown f = Good used shown (f .lengths) (f .state)
+
 -- THE answer of a turn
 unfoldable pub turnOf : List ℕ → ℕ → List ℕ → Turn
 turnOf held count chunk =
-    cond (isGood held count chunk) (Good (lineLength chunk + 1) (count + lineLength chunk + 1) (not (isNew (lineSoFar held count chunk))))
+    cond (isGood held count chunk) (goodTurn (lineLength chunk + 1) (count + lineLength chunk + 1) (widthsOf (lineSoFar held count chunk)))
     (cond (eqb (lineLength chunk) (length chunk)) (More (count + min (length chunk) (length held - count))) Bad)
 
 -- and what is held then: the line further, as far as there is room; of a good one its newline too
@@ -58,17 +63,20 @@ heldAfter held count chunk = written held count (take (lineLength chunk + cond (
 abbrev pub Unended : List ℕ → Type 0
 Unended h = lineLength h ≡ length h
 
--- a line, with its newline, as it is printed
-unfoldable pub anew : Bool → List ℕ → List ℕ
-anew old l = cond old (grown l) l
+-- a line of n bytes has its state, and no more digits than the form that is written; its state has these but for a mask's
+pub record Within (w d n : ℕ) : Type 0 where
+  pub few-lengths : w ≤ lengthDigits
+  pub few-state : d ≤ stateDigits
+  pub but-mask : stateDigits ≤ d + 16
+  pub state-ends : stateEnd w d ≤ n
 
 -- what a turn on `held` and `chunk`, which leaves `left`, tells of what is printed from line n on, whatever follows the chunk
 unfoldable pub Tells : ℕ → List ℕ → ℕ → List ℕ → List ℕ → List ℕ → Turn → Type 0
 Tells n held count chunk left rest (More more) =
     (printedFrom n (take count held ++ (chunk ++ rest)) ≡ printedFrom n (take more left ++ rest)) × (more ≤ length left) × Unended (take more left)
-Tells n held count chunk left rest (Good used shown old) =
-    (printedFrom n (take count held ++ (chunk ++ rest)) ≡ anew old (take shown left) ++ printedFrom (suc n) (drop used chunk ++ rest))
-    × (shown ≤ length left) × (0 < used) × (used ≤ length chunk) × (oldEnd ≤ shown)
+Tells n held count chunk left rest (Good used shown w d) =
+    (printedFrom n (take count held ++ (chunk ++ rest)) ≡ widened w d (take shown left) ++ printedFrom (suc n) (drop used chunk ++ rest))
+    × (shown ≤ length left) × (0 < used) × (used ≤ length chunk) × Within w d shown
 Tells n held count chunk left rest Bad = printedFrom n (take count held ++ (chunk ++ rest)) ≡ badText n
 
 -- THEOREM: however reading splits a text, turns print what is printed of it: what is shown, and then what is printed of the rest
@@ -76,8 +84,8 @@ abbrev pub AnySplit : Type 0
 AnySplit = (held : List ℕ) (count : ℕ) (chunk : List ℕ) → longestLine < length held → count ≤ length held → Unended (take count held)
     → (n : ℕ) (rest : List ℕ) → Tells n held count chunk (heldAfter held count chunk) rest (turnOf held count chunk)
 
--- THEOREM: "A line of just this form comes out byte for byte; any other [..] prints `(bad N)` in its place and ends"; "Point lines with an old image are
--- still read but never written"
+-- THEOREM: "A line of just this form comes out byte for byte; any other [..] prints `(bad N)` in its place and ends"; older forms "are still read but
+-- never written"
 pub record LineByLine : Type 0 where
   pub good : (n : ℕ) (p l : List ℕ) → Unended p → isNew p ≡ true → printedFrom n (p ++ (newline ∷ l)) ≡ p ++ (newline ∷ printedFrom (suc n) l)
   pub renews : (n : ℕ) (p l : List ℕ) → Unended p → isPoint p ≡ true → printedFrom n (p ++ (newline ∷ l)) ≡ renewed p ++ (newline ∷ printedFrom (suc n) l)

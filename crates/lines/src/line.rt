@@ -1,9 +1,9 @@
-// A line held against the form of a point's line, in which '#' stands for a digit and any other byte for itself.
+// A line held against the forms of a point's line, in which '#' stands for a digit and any other byte for itself.
 ghost use mathlib.Core.Path.{_≡_};
 ghost use mathlib.Core.List.{List, [], _∷_, _++_};
 ghost use Prim.Native.Nat.{ℕ, _≤_, _<_, _^_};
 ghost use lib.ListN.{replicate};
-ghost use Rattle.lines.specs.Line.{mark, fitsByte, hexAt, isForm, isNew, isOld};
+ghost use Rattle.lines.specs.Line.{mark, fitsByte, hexAt, isForm, widthsOf};
 ghost use Rattle.lines.specs.Met.{met};
 
 /// Bytes of a state image, of an old one, and of the largest window.
@@ -11,37 +11,71 @@ const IMAGE_LEN: usize = 2336;
 
 const OLD_IMAGE_LEN: usize = 2328;
 
-const WINDOW_MAX: u64 = 65536;
+const WINDOW_MAX: u64 = 1048576;
 
 /// Digits of a state, and of an old image: two a byte.
-const STATE_DIGITS: usize = 2 * IMAGE_LEN;
+pub const STATE_DIGITS: usize = 2 * IMAGE_LEN;
 
 const OLD_STATE_DIGITS: usize = 2 * OLD_IMAGE_LEN;
 
-/// The largest window, in octabytes.
+/// The largest window, in octabytes, and the largest of an older line.
 const OCTAS_MAX: u64 = WINDOW_MAX / 8;
 
-/// Digits of a window's length.
-const LENGTH_DIGITS: usize = 4;
+const OLD_OCTAS_MAX: u64 = 0x2000;
+
+/// Digits of a window's length, and of an older line's.
+pub const LENGTH_DIGITS: usize = 8;
+
+const OLD_LENGTH_DIGITS: usize = 4;
 
 /// The longest line of a point, its newline left out: 88 bytes are neither a length's nor the state's nor a window's.
 pub const LONGEST_LINE: usize = 88 + 2 * LENGTH_DIGITS + STATE_DIGITS + 32 * OCTAS_MAX as usize;
 
-/// Where the state of a line with an old image ends.
-pub const OLD_END: usize = 75 + 2 * LENGTH_DIGITS + OLD_STATE_DIGITS;
+/// Where a line has its first length; its second and its state, which come after w digits and after 2 * w.
+pub const FIRST_AT: usize = 23;
 
-/// Whether a line, its newline left out, is a point's, of the form that is written.
-pub fn is_new(line: &[u8]) -> bool
-    ensures { λ r. ⌜ r ≡ isNew (now (line .entry)) ⌝ }
-{
-    is_form(line, LENGTH_DIGITS, STATE_DIGITS, OCTAS_MAX)
+pub const SECOND_AT: usize = 24;
+
+pub const STATE_AT: usize = 75;
+
+/// How many digits each length of a line has, and its state. None of either: the line is no point's.
+pub struct Widths {
+    pub lengths: usize,
+    pub state: usize,
 }
 
-/// Whether it is one with an old image.
-pub fn is_old(line: &[u8]) -> bool
-    ensures { λ r. ⌜ r ≡ isOld (now (line .entry)) ⌝ }
+/// The widths of a line, its newline left out, by its form: that which is written, or an older one.
+pub fn widths_of(line: &[u8]) -> Widths
+    ensures { λ r. ⌜ r ≡ widthsOf (now (line .entry)) ⌝ }
 {
-    is_form(line, LENGTH_DIGITS, OLD_STATE_DIGITS, OCTAS_MAX)
+    if is_form(line, LENGTH_DIGITS, STATE_DIGITS, OCTAS_MAX) {
+        return Widths {
+            lengths: LENGTH_DIGITS,
+            state: STATE_DIGITS,
+        };
+    }
+    if is_form(line, LENGTH_DIGITS, OLD_STATE_DIGITS, OCTAS_MAX) {
+        return Widths {
+            lengths: LENGTH_DIGITS,
+            state: OLD_STATE_DIGITS,
+        };
+    }
+    if is_form(line, OLD_LENGTH_DIGITS, STATE_DIGITS, OLD_OCTAS_MAX) {
+        return Widths {
+            lengths: OLD_LENGTH_DIGITS,
+            state: STATE_DIGITS,
+        };
+    }
+    if is_form(line, OLD_LENGTH_DIGITS, OLD_STATE_DIGITS, OLD_OCTAS_MAX) {
+        return Widths {
+            lengths: OLD_LENGTH_DIGITS,
+            state: OLD_STATE_DIGITS,
+        };
+    }
+    Widths {
+        lengths: 0,
+        state: 0,
+    }
 }
 
 // Whether it is one with lengths of w digits, up to k octabytes each, and a state of d digits.
@@ -49,11 +83,11 @@ fn is_form(line: &[u8], w: usize, d: usize, k: u64) -> bool
     requires { ⌜ (w ≤ 8) × (k < 2 ^ 56) ⌝ }
     ensures { λ r. ⌜ r ≡ isForm w d k (now (line .entry)) ⌝ }
 {
-    let a = hex(line, 23, w);
+    let a = hex(line, FIRST_AT, w);
     if k < a {
         return false;
     }
-    let b = hex(line, 24 + w, w);
+    let b = hex(line, SECOND_AT + w, w);
     if k < b {
         return false;
     }

@@ -14,9 +14,9 @@ pub const HELD_LEN: usize = super::line::LONGEST_LINE + 1;
 pub enum Turn {
     /// It has no end yet: so many bytes are held.
     More(usize),
-    /// It ends, and is a point's: so many bytes of the chunk are done with, so many of those held, its newline too, are the line, and whether it has
-    /// an old image.
-    Good(usize, usize, bool),
+    /// It ends, and is a point's: so many bytes of the chunk are done with, so many of those held, its newline too, are the line, and so many digits
+    /// each of its lengths and its state have.
+    Good(usize, usize, usize, usize),
     /// It ends, and is not.
     Bad,
 }
@@ -32,13 +32,10 @@ pub fn advance(chunk: &[u8], held: &mut [u8], count: usize) -> Turn
         return Turn::More(next);
     }
     if next < held.len() {
-        if super::line::is_new(&held[..next]) {
+        let w = super::line::widths_of(&held[..next]);
+        if w.lengths > 0 {
             held[next] = NEWLINE;
-            return Turn::Good(end + 1, next + 1, false);
-        }
-        if super::line::is_old(&held[..next]) {
-            held[next] = NEWLINE;
-            return Turn::Good(end + 1, next + 1, true);
+            return Turn::Good(end + 1, next + 1, w.lengths, w.state);
         }
     }
     Turn::Bad

@@ -1,13 +1,12 @@
 -- `advance` meets its contract: its tests are those by which a turn is defined.
-use mathlib.Core.Path.{_≡_, sym, _∙_}
-use mathlib.Core.Bool.{true, false}
+use mathlib.Core.Path.{_≡_, sym}
 use Prim.Native.Nat.{_≤_}
 use native.Mathlib.Omega.{arith}
 use lib.ListN.{length}
 use lib.Seq.{length-take-le}
 use Rattle.text.specs.Pieces.{lineLength}
 use Rattle.text.proofs.Pieces.{length-line}
-use Rattle.lines.proofs.Forms.{point-new, point-old, point-not}
+use Rattle.lines.proofs.Formed.{point-some, point-none}
 use Rattle.lines.proofs.Turns.{turn-more, turn-good, turn-bad, turn-full}
 use borrow.Author.Needs.{needs}
 use Rattle.lines.proofs.stream.advance.Statement.{statement}
@@ -40,100 +39,61 @@ returns c =
     let a = finding .before .before .before .args in
     turn-more (a .held .now) (a .count) (a .chunk .now) _ _ _ (ending finding) (keeping .keep .ensures .0) (keeping .keep .ensures .1) (c .if1 .taken)
 
-slice-reshare-prefix-is-new : tie.Need-slice-reshare-prefix-is-new
-slice-reshare-prefix-is-new c = search needs
+slice-reshare-prefix-widths-of : tie.Need-slice-reshare-prefix-widths-of
+slice-reshare-prefix-widths-of c = search needs
 
-slice-aggregate-is-new : tie.Need-slice-aggregate-is-new
-slice-aggregate-is-new c =
+slice-aggregate-widths-of : tie.Need-slice-aggregate-widths-of
+slice-aggregate-widths-of c =
     let keeping = c .before .before .before .before .before in
     sym (length-take-le (keeping .keep .result) (keeping .keep .last .1 .0) (omega arith))
 
-is-new-requires : tie.Need-is-new-requires
-is-new-requires c κs = search needs
+widths-of-requires : tie.Need-widths-of-requires
+widths-of-requires c κs = search needs
 
 slice-write-held : tie.Need-slice-write-held
 slice-write-held c = search needs
 
-add-t16 : tie.Need-add-t16
-add-t16 c =
-    let fresh = c .before .before .before .before in
+add-t17 : tie.Need-add-t17
+add-t17 c =
+    let fresh = c .before .before .before .before .before in
     omega (arith, within (fresh .before .before .before .before .before .before), fresh .if1 .left)
 
-add-t17 : tie.Need-add-t17
-add-t17 c = search needs
+add-t18 : tie.Need-add-t18
+add-t18 c = search needs
 
 same-length-2 : tie.Need-same-length-2
 same-length-2 c = search needs
 
 returns-2 : tie.Need-returns-2
 returns-2 c =
-    let judging = c .before in
+    let judging = c .before .before in
     let here = judging .before .before in
     let fresh = here .before in
     let keeping = fresh .before .before .before in
     let finding = keeping .before .before .before in
     let a = finding .before .before .before .args in
-    let new = sym (judging .is-new .ensures) ∙ c .if3 .taken in
     turn-good (a .held .now) (a .count) (a .chunk .now) _ _ _ (ending finding) (keeping .keep .ensures .0) (keeping .keep .ensures .1) (fresh .if1 .left) (here .if2 .taken)
-    true new (point-new _ new)
-
-slice-reshare-prefix-is-old : tie.Need-slice-reshare-prefix-is-old
-slice-reshare-prefix-is-old c = search needs
-
-slice-aggregate-is-old : tie.Need-slice-aggregate-is-old
-slice-aggregate-is-old c =
-    let keeping = c .before .before .before .before .before .before .before .before in
-    sym (length-take-le (keeping .keep .result) (keeping .keep .last .1 .0) (omega arith))
-
-is-old-requires : tie.Need-is-old-requires
-is-old-requires c κs = search needs
-
-slice-write-held-2 : tie.Need-slice-write-held-2
-slice-write-held-2 c = search needs
-
-add-t22 : tie.Need-add-t22
-add-t22 c =
-    let fresh = c .before .before .before .before .before .before .before in
-    omega (arith, within (fresh .before .before .before .before .before .before), fresh .if1 .left)
-
-add-t23 : tie.Need-add-t23
-add-t23 c = search needs
+    _ (judging .widths-of .ensures) (point-some _ _ (judging .widths-of .ensures) (c .if3 .taken))
 
 same-length-3 : tie.Need-same-length-3
 same-length-3 c = search needs
 
 returns-3 : tie.Need-returns-3
 returns-3 c =
-    let other = c .before .before .before in
-    let judging = other .before in
-    let here = judging .before .before in
-    let fresh = here .before in
-    let keeping = fresh .before .before .before in
-    let finding = keeping .before .before .before in
-    let a = finding .before .before .before .args in
-    turn-good (a .held .now) (a .count) (a .chunk .now) _ _ _ (ending finding) (keeping .keep .ensures .0) (keeping .keep .ensures .1) (fresh .if1 .left) (here .if2 .taken)
-    false (sym (judging .is-new .ensures) ∙ other .if3 .left) (point-old _ (sym (c .before .is-old .ensures) ∙ c .if4 .taken))
-
-same-length-4 : tie.Need-same-length-4
-same-length-4 c = search needs
-
-returns-4 : tie.Need-returns-4
-returns-4 c =
-    let other = c .before .before .before in
-    let judging = other .before in
+    let judging = c .before .before in
     let here = judging .before .before in
     let fresh = here .before in
     let keeping = fresh .before .before .before in
     let finding = keeping .before .before .before in
     let a = finding .before .before .before .args in
     turn-bad (a .held .now) (a .count) (a .chunk .now) _ _ _ (ending finding) (keeping .keep .ensures .0) (keeping .keep .ensures .1) (fresh .if1 .left) (here .if2 .taken)
-    (point-not _ (sym (judging .is-new .ensures) ∙ other .if3 .left) (sym (c .before .is-old .ensures) ∙ c .if4 .left))
+    (point-none _ _ (judging .widths-of .ensures) (c .if3 .left))
 
-same-length-5 : tie.Need-same-length-5
-same-length-5 c = search needs
+same-length-4 : tie.Need-same-length-4
+same-length-4 c = search needs
 
-returns-5 : tie.Need-returns-5
-returns-5 c =
+returns-4 : tie.Need-returns-4
+returns-4 c =
     let fresh = c .before in
     let keeping = fresh .before .before .before in
     let finding = keeping .before .before .before in
@@ -149,23 +109,15 @@ advance-spec =
     keep-requires
     same-length
     returns
-    slice-reshare-prefix-is-new
-    slice-aggregate-is-new
-    is-new-requires
+    slice-reshare-prefix-widths-of
+    slice-aggregate-widths-of
+    widths-of-requires
     slice-write-held
-    add-t16
     add-t17
+    add-t18
     same-length-2
     returns-2
-    slice-reshare-prefix-is-old
-    slice-aggregate-is-old
-    is-old-requires
-    slice-write-held-2
-    add-t22
-    add-t23
     same-length-3
     returns-3
     same-length-4
-    returns-4
-    same-length-5
-    returns-5)
+    returns-4)
