@@ -19,10 +19,10 @@ use Rattle.image.specs.Image.{stateOf}
 use Rattle.image.proofs.RoundTrips.{flat-octas, keeps-length}
 use Rattle.image.proofs.Fronts.{state-full}
 use borrow.Author.Tests.{eq-eqb}
-use Rattle.lines.specs.Line.{digitsAt, oldStateDigits, isNew, isOld, isPoint, stateAt, renewed}
-use Rattle.lines.specs.PointLine.{lineOf, nameOf, pointBy, Told, Read}
+use Rattle.lines.specs.Line.{digitsAt, lengthDigits, oldLengthDigits, stateDigits, oldStateDigits, isNew, isOld, isShort, isShortOld, isPoint, stateAt, renewed}
+use Rattle.lines.specs.PointLine.{lineOf, nameOf, pointBy, Told, Read, Older}
 use Rattle.lines.specs.PointLine as line
-use Rattle.lines.proofs.Forms.{point-new, point-old}
+use Rattle.lines.proofs.Formed.{point-new, point-old, point-short, point-short-old}
 use Rattle.lines.proofs.Hex.{length-bytes, length-at}
 use Rattle.lines.proofs.Renewed.{new-same}
 use Rattle.lines.proofs.PointLine.{each-other}
@@ -31,7 +31,7 @@ use Rattle.store.specs.Store as room
 use Rattle.store.proofs.Rooms.{point-back, filled-again}
 use Rattle.store.proofs.Stores.{length-room, room-same, room-other, beyond}
 use Rattle.store.proofs.Returns.{Passed, passed, fits}
-use Rattle.transfer.specs.Transfer.{lineFrom, filledBy, lineIn, storeWith, Keeps, Shows, RoomTold, LineTold, Transfers}
+use Rattle.transfer.specs.Transfer.{lineFrom, filledBy, lineIn, storeWith, lineRoom, TakenIn, Keeps, Shows, RoomTold, LineTold, Transfers}
 
 -- what fits has the mask
 full-own : (p : Point) → Fits p → full p ≡ p
@@ -160,9 +160,9 @@ its-image : (r : List ℕ) → room.pointOf r .image ≡ part r 0 imageLength
 unfolding room.pointOf
 its-image r = refl
 
-old-image : (l : List ℕ) → length (pointBy oldStateDigits l .image) ≡ oldImageLength
+old-image : (w : ℕ) (l : List ℕ) → length (pointBy w oldStateDigits l .image) ≡ oldImageLength
 unfolding pointBy
-old-image l = length-bytes oldImageLength (digitsAt l stateAt oldStateDigits) (length-at l stateAt oldStateDigits)
+old-image w l = length-bytes oldImageLength (digitsAt l (stateAt w) oldStateDigits) (length-at l (stateAt w) oldStateDigits)
 
 -- a room into which a point that fits was taken
 same-room : (s : List ℕ) (k : ℕ) (p : Point) → storeLength ≤ length s → k < pointCount → Fits p → roomOf (taken s k p) k ≡ filled (roomOf s k) p
@@ -198,20 +198,31 @@ line-renewed s l n g = ap (lineFrom (nameOf l)) (line-room s l n g) ∙ of-line 
 line-left : (s l : List ℕ) → storeLength ≤ length s → isNew l ≡ true → lineIn (storeWith s l) (nameOf l) ≡ l
 line-left s l n g = line-renewed s l n (point-new l g) ∙ new-same l g
 
--- an old image's point
-old-mask : (l : List ℕ) → isOld l ≡ true → stateOf (part (pointBy oldStateDigits l .image) 0 imageLength) .mask ≡ 0
-old-mask l e =
-    ap (λ (s : State). s .mask) (state-full (pointBy oldStateDigits l .image))
-    ∙ keeps-length .old-mask (pointBy oldStateDigits l .image) (eq-eqb _ oldImageLength (old-image l))
+-- a line of an older form
+module _ (s l : List ℕ) (n : storeLength ≤ length s) (g : isPoint l ≡ true) where
+  older-in : (w d : ℕ) → Older w d l → TakenIn w d s l
+  older-in w d o = ap room.pointOf (line-room s l n g) ∙ of-line l (roomOf s (nameOf l)) g (length-room s (nameOf l)) .point-is ∙ o .point-is
 
-old-in : (s l : List ℕ) → storeLength ≤ length s → isOld l ≡ true
-    → (room.pointOf (roomOf (storeWith s l) (nameOf l)) ≡ full (pointBy oldStateDigits l)) × (maskIn (roomOf (storeWith s l) (nameOf l)) ≡ 0)
-unfolding maskIn
-old-in s l n e =
-    let g : isPoint l ≡ true = point-old l e in
-    let p : room.pointOf (roomOf (storeWith s l) (nameOf l)) ≡ full (pointBy oldStateDigits l)
-    = ap room.pointOf (line-room s l n g) ∙ of-line l (roomOf s (nameOf l)) g (length-room s (nameOf l)) .point-is ∙ each-other .of-old l e .0 in
-    (p, ap (λ (i : List ℕ). stateOf i .mask) (sym (its-image _) ∙ ap (λ (q : Point). q .image) p) ∙ old-mask l e)
+  -- with an old image
+  old-mask : (w : ℕ) → stateOf (part (pointBy w oldStateDigits l .image) 0 imageLength) .mask ≡ 0
+  old-mask w =
+      ap (λ (t : State). t .mask) (state-full (pointBy w oldStateDigits l .image))
+      ∙ keeps-length .old-mask (pointBy w oldStateDigits l .image) (eq-eqb _ oldImageLength (old-image w l))
+
+  unmasked : (w : ℕ) → Older w oldStateDigits l → TakenIn w oldStateDigits s l × (maskIn (lineRoom s l) ≡ 0)
+  unfolding maskIn
+  unmasked w o =
+      let p : TakenIn w oldStateDigits s l = older-in w oldStateDigits o in
+      (p, ap (λ (i : List ℕ). stateOf i .mask) (sym (its-image _) ∙ ap (λ (q : Point). q .image) p) ∙ old-mask w)
+
+old-in : (s l : List ℕ) → storeLength ≤ length s → isOld l ≡ true → TakenIn lengthDigits oldStateDigits s l × (maskIn (lineRoom s l) ≡ 0)
+old-in s l n e = unmasked s l n (point-old l e) lengthDigits (each-other .of-old l e)
+
+short-in : (s l : List ℕ) → storeLength ≤ length s → isShort l ≡ true → TakenIn oldLengthDigits stateDigits s l
+short-in s l n e = older-in s l n (point-short l e) oldLengthDigits stateDigits (each-other .of-short l e)
+
+short-old-in : (s l : List ℕ) → storeLength ≤ length s → isShortOld l ≡ true → TakenIn oldLengthDigits oldStateDigits s l × (maskIn (lineRoom s l) ≡ 0)
+short-old-in s l n e = unmasked s l n (point-short-old l e) oldLengthDigits (each-other .of-short-old l e)
 
 moved : (s u : List ℕ) (k : ℕ) (p : Point) → storeLength ≤ length u → k < pointCount → Keeps (roomOf s k) p → Keeps (roomOf (storeWith u (lineIn s k)) k) p
 moved s u k p n b h = record {
@@ -241,6 +252,8 @@ transfers = record {
   line-left = line-left;
   line-renewed = line-renewed;
   old-in = old-in;
+  short-in = short-in;
+  short-old-in = short-old-in;
   moved = moved;
   others = others;
   behind = behind;

@@ -1,5 +1,6 @@
 -- A taken point and its line determine each other, so that a host can move a store by lines: each point written as a line, each line's point put into
--- the other store. What lies in a room behind its windows is no part of a point: it is left. "Older stores move over by their lines", which have an old image.
+-- the other store. What lies in a room behind its windows is no part of a point: it is left. "Older stores move over by their lines", which have an old image,
+-- lengths of four digits, or both.
 use Prim.Native.Nat.{ℕ, _*_, _≤_, _<_}
 use mathlib.Core.Path.{_≡_}
 use mathlib.Core.Logic.{_≢_}
@@ -8,7 +9,7 @@ use mathlib.Core.List.{List}
 use lib.ListN.{length, getD}
 use Rattle.model.specs.Memory.{windowMax}
 use Rattle.model.specs.Kept.{Point, pointCount, imageLength, full, Fits, OfBytes}
-use Rattle.lines.specs.Line.{oldStateDigits, isNew, isOld, isPoint, renewed}
+use Rattle.lines.specs.Line.{lengthDigits, oldLengthDigits, stateDigits, oldStateDigits, isNew, isOld, isShort, isShortOld, isPoint, renewed}
 use Rattle.lines.specs.PointLine.{lineOf, nameOf, pointBy}
 use Rattle.lines.specs.PointLine as line
 use Rattle.store.specs.Store.{roomLength, storeLength, filled, numberAt, roomOf, taken, maskIn, Took}
@@ -29,6 +30,14 @@ lineIn s k = lineFrom k (roomOf s k)
 
 unfoldable pub storeWith : List ℕ → List ℕ → List ℕ
 storeWith s l = taken s (nameOf l) (line.pointOf l)
+
+-- the room there that has a line's point
+abbrev pub lineRoom : List ℕ → List ℕ → List ℕ
+lineRoom s l = roomOf (storeWith s l) (nameOf l)
+
+-- it is the point that the line's digits tell, where its lengths have w each and its state has d
+abbrev pub TakenIn : ℕ → ℕ → List ℕ → List ℕ → Type 0
+TakenIn w d s l = room.pointOf (lineRoom s l) ≡ full (pointBy w d l)
 
 -- ---- THEOREM
 
@@ -73,12 +82,13 @@ pub record Transfers : Type 0 where
   pub of-take-full : (s : List ℕ) (k : ℕ) (p : Point) (t : List ℕ) → Took s k p 0 t → OfBytes p → Keeps (roomOf t k) (full p)
   -- a store is as it was after its own line
   pub store-left : (s : List ℕ) (k : ℕ) (p : Point) → storeLength ≤ length s → k < pointCount → Keeps (roomOf s k) p → storeWith s (lineIn s k) ≡ s
-  -- the line of a point that came by a line is that line, and of one that came by a line with an old image what is written of that
+  -- the line of a point that came by a line is that line, and of one that came by a line of an older form what is written of that
   pub line-left : (s l : List ℕ) → storeLength ≤ length s → isNew l ≡ true → lineIn (storeWith s l) (nameOf l) ≡ l
   pub line-renewed : (s l : List ℕ) → storeLength ≤ length s → isPoint l ≡ true → lineIn (storeWith s l) (nameOf l) ≡ renewed l
-  -- such a one is in the store with the mask empty
-  pub old-in : (s l : List ℕ) → storeLength ≤ length s → isOld l ≡ true
-      → (room.pointOf (roomOf (storeWith s l) (nameOf l)) ≡ full (pointBy oldStateDigits l)) × (maskIn (roomOf (storeWith s l) (nameOf l)) ≡ 0)
+  -- such a one is in the store as its own digits tell it, after an old image with the mask empty
+  pub old-in : (s l : List ℕ) → storeLength ≤ length s → isOld l ≡ true → TakenIn lengthDigits oldStateDigits s l × (maskIn (lineRoom s l) ≡ 0)
+  pub short-in : (s l : List ℕ) → storeLength ≤ length s → isShort l ≡ true → TakenIn oldLengthDigits stateDigits s l
+  pub short-old-in : (s l : List ℕ) → storeLength ≤ length s → isShortOld l ≡ true → TakenIn oldLengthDigits oldStateDigits s l × (maskIn (lineRoom s l) ≡ 0)
   -- moved from the store s to the store u: there it is the same point, and other points and bytes behind the sixteenth are untouched
   pub moved : (s u : List ℕ) (k : ℕ) (p : Point) → storeLength ≤ length u → k < pointCount → Keeps (roomOf s k) p → Keeps (roomOf (storeWith u (lineIn s k)) k) p
   pub others : (s l : List ℕ) → storeLength ≤ length s → isPoint l ≡ true → (j : ℕ) → j < pointCount → j ≢ nameOf l → roomOf (storeWith s l) j ≡ roomOf s j
