@@ -4,12 +4,11 @@ use mathlib.Core.List.{List, [], _++_, append-assoc, append-nil}
 use Prim.Native.Nat.{ℕ, suc, _+_, _-_, _≤_, _<_}
 use native.Mathlib.Omega.{arith}
 use native.Mathlib.Numerals.{add-one}
-use mathlib.Core.Bool.{Bool}
 use lib.ListN.{length, take, drop, length-drop, drop-of-length-le}
 use lib.Seq.{drop-drop, take-all, length-take-le}
 use Rattle.text.specs.Pieces.{lineLength}
-use Rattle.lines.specs.Line.{oldEnd, longestLine}
-use Rattle.lines.specs.Stream.{printedFrom, turnOf, heldAfter, anew, Tells}
+use Rattle.lines.specs.Line.{widened, longestLine}
+use Rattle.lines.specs.Stream.{printedFrom, turnOf, heldAfter, Within, Tells}
 use Rattle.lines.specs.declared.stream.Turn.{Turn}
 use Rattle.lines.specs.declared.stream.Turn.the-variants.{More as Turn·More, Good as Turn·Good, Bad as Turn·Bad}
 use Rattle.lines.proofs.Turns.{length-after}
@@ -78,35 +77,35 @@ module _ (n : ℕ) (first : List ℕ) (count₀ : ℕ) (chunk held : List ℕ) (
   unfolding Leaves Tells
   turn-bad h = record { shown = m .carried .shown; text-is = λ rest. from-here rest ∙ ap (λ (l : List ℕ). m .carried .shown ++ l) (told Turn·Bad h rest) }
 
-  module _ (used shown : ℕ) (old : Bool) (h : t ≡ Turn·Good used shown old) where
+  module _ (used shown w d : ℕ) (h : t ≡ Turn·Good used shown w d) where
     pub shown-within : shown ≤ length left
     unfolding Tells
-    shown-within = told (Turn·Good used shown old) h [] .1
+    shown-within = told (Turn·Good used shown w d) h [] .1
 
-    pub end-within : oldEnd ≤ shown
+    pub end-within : Within w d shown
     unfolding Tells
-    end-within = told (Turn·Good used shown old) h [] .4
+    end-within = told (Turn·Good used shown w d) h [] .4
 
     pub some-used : 0 < used
     unfolding Tells
-    some-used = told (Turn·Good used shown old) h [] .2
+    some-used = told (Turn·Good used shown w d) h [] .2
 
     pub used-within : at + used ≤ length chunk
     unfolding Tells
-    used-within = let k : used ≤ length part = told (Turn·Good used shown old) h [] .3 in omega (arith, some-used, ap length e, length-drop at chunk)
+    used-within = let k : used ≤ length part = told (Turn·Good used shown w d) h [] .3 in omega (arith, some-used, ap length e, length-drop at chunk)
 
     pub turn-good : Midway n first count₀ chunk left (at + used) 0 (number + 1)
     unfolding Tells
     turn-good = record {
       begun = nothing-held left (omega (arith, size, m .begun .roomy));
       carried = record {
-        shown = m .carried .shown ++ anew old (take shown left);
+        shown = m .carried .shown ++ widened w d (take shown left);
         text-is = λ rest.
             from-here rest
-            ∙ ap (λ (l : List ℕ). m .carried .shown ++ l) (told (Turn·Good used shown old) h rest .0)
-            ∙ sym (append-assoc (m .carried .shown) (anew old (take shown left)) _)
-            ∙ ap (λ (l : List ℕ). (m .carried .shown ++ anew old (take shown left)) ++ printedFrom (suc number) (l ++ rest)) (ap (drop used) e ∙ drop-drop used at chunk)
-            ∙ ap (λ (k : ℕ). (m .carried .shown ++ anew old (take shown left)) ++ printedFrom k (drop (at + used) chunk ++ rest)) (sym (add-one number));
+            ∙ ap (λ (l : List ℕ). m .carried .shown ++ l) (told (Turn·Good used shown w d) h rest .0)
+            ∙ sym (append-assoc (m .carried .shown) (widened w d (take shown left)) _)
+            ∙ ap (λ (l : List ℕ). (m .carried .shown ++ widened w d (take shown left)) ++ printedFrom (suc number) (l ++ rest)) (ap (drop used) e ∙ drop-drop used at chunk)
+            ∙ ap (λ (k : ℕ). (m .carried .shown ++ widened w d (take shown left)) ++ printedFrom k (drop (at + used) chunk ++ rest)) (sym (add-one number));
       };
     }
 

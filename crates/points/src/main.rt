@@ -1,16 +1,21 @@
-//! The program points: lines of points on standard input, each anew on standard output, one with an old image with the new; a line that is no
+//! The program points: lines of points on standard input, each anew on standard output, one of an older form in the new; a line that is no
 //! point's is told by `(bad N)`, and ends it. A read or a write that fails is told on standard error.
 
 ghost use mathlib.Core.Path.{_≡_};
 ghost use Prim.Native.Nat.{_+_, _≤_, _<_, _^_};
 ghost use lib.ListN.{length, take};
 ghost use Rattle.text.specs.Text.{badText};
-ghost use Rattle.lines.specs.Line.{oldEnd, longestLine};
+ghost use Rattle.lines.specs.Line.{longestLine};
+ghost use Rattle.lines.specs.Stream.{Within};
 ghost use Rattle.points.specs.Chunk.{inputLength, heldLength, Begun, Leaves, EndsAs, Ready};
 use libc::STDERR_FILENO;
 use libc::STDIN_FILENO;
 use libc::STDOUT_FILENO;
-use lines::line::OLD_END;
+use lines::line::FIRST_AT;
+use lines::line::LENGTH_DIGITS;
+use lines::line::SECOND_AT;
+use lines::line::STATE_AT;
+use lines::line::STATE_DIGITS;
 use lines::stream::HELD_LEN;
 use lines::stream::Turn;
 
@@ -33,20 +38,33 @@ enum After {
     Ended,
 }
 
-/// A line is printed with its newline, an old one with sixteen digits 0 after its image's; false where a write fails.
-fn print_line(line: &[u8], old: bool) -> bool
-    requires { ⌜ oldEnd ≤ length (now line) ⌝ }
+/// A part of a line, and then n digits 0; false where a write fails.
+fn print_part(part: &[u8], n: usize) -> bool
+    requires { ⌜ n ≤ 16 ⌝ }
 {
-    if !old {
-        return io::write_all(STDOUT_FILENO, line);
-    }
-    if !io::write_all(STDOUT_FILENO, &line[..OLD_END]) {
+    if !io::write_all(STDOUT_FILENO, part) {
         return false;
     }
-    if !io::write_all(STDOUT_FILENO, b"0000000000000000") {
+    let zeros = [b'0'; 16];
+    io::write_all(STDOUT_FILENO, &zeros[..n])
+}
+
+/// A line is printed with its newline; one of an older form with digits 0 more before each length, of which each has w, and after its state's, d.
+fn print_line(line: &[u8], w: usize, d: usize) -> bool
+    requires { ⌜ Within w d (length (now line)) ⌝ }
+{
+    let second = SECOND_AT + w;
+    let end = STATE_AT + 2 * w + d;
+    if !print_part(&line[..FIRST_AT], LENGTH_DIGITS - w) {
         return false;
     }
-    io::write_all(STDOUT_FILENO, &line[OLD_END..])
+    if !print_part(&line[FIRST_AT..second], LENGTH_DIGITS - w) {
+        return false;
+    }
+    if !print_part(&line[second..end], STATE_DIGITS - d) {
+        return false;
+    }
+    io::write_all(STDOUT_FILENO, &line[end..])
 }
 
 /// The lines that end in a chunk are printed. Line n is the first, of which `first` bytes are held.
@@ -63,8 +81,8 @@ fn print_lines(chunk: &[u8], held: &mut [u8], first: usize, n: u64) -> After
             Turn::More(more) => {
                 return After::On(more, number);
             }
-            Turn::Good(used, shown, old) => {
-                if !print_line(&held[..shown], old) {
+            Turn::Good(used, shown, w, d) => {
+                if !print_line(&held[..shown], w, d) {
                     os::fail(b"standard output");
                     return After::Ended;
                 }

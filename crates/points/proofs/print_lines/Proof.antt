@@ -60,7 +60,7 @@ slice-reshare-prefix-print-line c =
     let at-loop = turning .before .before .before .before in
     let l = at-loop .loop in
     let a = at-loop .before .before .before .args in
-    shown-within (a .n) (a .held .now) (a .first) (a .chunk .now) (l .held) (l .at) (l .count) (l .number) (l .inv .3) _ (lent-rest (a .chunk .now) (l .at) (l .inv .0)) _ _ (turning .advance .ensures .0) (turning .advance .ensures .1) _ _ _ (told .turn2 .given .1)
+    shown-within (a .n) (a .held .now) (a .first) (a .chunk .now) (l .held) (l .at) (l .count) (l .number) (l .inv .3) _ (lent-rest (a .chunk .now) (l .at) (l .inv .0)) _ _ (turning .advance .ensures .0) (turning .advance .ensures .1) _ _ _ _ (told .turn2 .given .1)
 
 slice-aggregate-print-line : tie.Need-slice-aggregate-print-line Inv-loop μ-loop
 slice-aggregate-print-line c =
@@ -69,7 +69,7 @@ slice-aggregate-print-line c =
     let at-loop = turning .before .before .before .before in
     let l = at-loop .loop in
     let a = at-loop .before .before .before .args in
-    sym (length-take-le _ (turning .advance .last .1 .0) (shown-within (a .n) (a .held .now) (a .first) (a .chunk .now) (l .held) (l .at) (l .count) (l .number) (l .inv .3) _ (lent-rest (a .chunk .now) (l .at) (l .inv .0)) _ _ (turning .advance .ensures .0) (turning .advance .ensures .1) _ _ _ (told .turn2 .given .1)))
+    sym (length-take-le _ (turning .advance .last .1 .0) (shown-within (a .n) (a .held .now) (a .first) (a .chunk .now) (l .held) (l .at) (l .count) (l .number) (l .inv .3) _ (lent-rest (a .chunk .now) (l .at) (l .inv .0)) _ _ (turning .advance .ensures .0) (turning .advance .ensures .1) _ _ _ _ (told .turn2 .given .1)))
 
 print-line-requires : tie.Need-print-line-requires Inv-loop μ-loop
 print-line-requires c κs =
@@ -78,9 +78,10 @@ print-line-requires c κs =
     let at-loop = turning .before .before .before .before in
     let l = at-loop .loop in
     let a = at-loop .before .before .before .args in
-    let within = shown-within (a .n) (a .held .now) (a .first) (a .chunk .now) (l .held) (l .at) (l .count) (l .number) (l .inv .3) _ (lent-rest (a .chunk .now) (l .at) (l .inv .0)) _ _ (turning .advance .ensures .0) (turning .advance .ensures .1) _ _ _ (told .turn2 .given .1) in
-    let past = end-within (a .n) (a .held .now) (a .first) (a .chunk .now) (l .held) (l .at) (l .count) (l .number) (l .inv .3) _ (lent-rest (a .chunk .now) (l .at) (l .inv .0)) _ _ (turning .advance .ensures .0) (turning .advance .ensures .1) _ _ _ (told .turn2 .given .1) in
-    omega (arith, past, length-take-le _ (turning .advance .last .1 .0) within)
+    let within = shown-within (a .n) (a .held .now) (a .first) (a .chunk .now) (l .held) (l .at) (l .count) (l .number) (l .inv .3) _ (lent-rest (a .chunk .now) (l .at) (l .inv .0)) _ _ (turning .advance .ensures .0) (turning .advance .ensures .1) _ _ _ _ (told .turn2 .given .1) in
+    let past = end-within (a .n) (a .held .now) (a .first) (a .chunk .now) (l .held) (l .at) (l .count) (l .number) (l .inv .3) _ (lent-rest (a .chunk .now) (l .at) (l .inv .0)) _ _ (turning .advance .ensures .0) (turning .advance .ensures .1) _ _ _ _ (told .turn2 .given .1) in
+    let long = length-take-le _ (turning .advance .last .1 .0) within in
+    record { few-lengths = past .few-lengths; few-state = past .few-state; but-mask = past .but-mask; state-ends = omega (arith, past .state-ends, long) }
 
 slice-aggregate-fail : tie.Need-slice-aggregate-fail Inv-loop μ-loop
 slice-aggregate-fail c = search needs
@@ -102,7 +103,7 @@ add-at c =
     let at-loop = turning .before .before .before .before in
     let l = at-loop .loop in
     let a = at-loop .before .before .before .args in
-    let k = used-within (a .n) (a .held .now) (a .first) (a .chunk .now) (l .held) (l .at) (l .count) (l .number) (l .inv .3) _ (lent-rest (a .chunk .now) (l .at) (l .inv .0)) _ _ (turning .advance .ensures .0) (turning .advance .ensures .1) _ _ _ (told .turn2 .given .1) in
+    let k = used-within (a .n) (a .held .now) (a .first) (a .chunk .now) (l .held) (l .at) (l .count) (l .number) (l .inv .3) _ (lent-rest (a .chunk .now) (l .at) (l .inv .0)) _ _ (turning .advance .ensures .0) (turning .advance .ensures .1) _ _ _ _ (told .turn2 .given .1) in
     omega (arith, k)
 
 add-number : tie.Need-add-number Inv-loop μ-loop
@@ -122,8 +123,8 @@ loop-less c =
     let at-loop = turning .before .before .before .before in
     let l = at-loop .loop in
     let a = at-loop .before .before .before .args in
-    let k = used-within (a .n) (a .held .now) (a .first) (a .chunk .now) (l .held) (l .at) (l .count) (l .number) (l .inv .3) _ (lent-rest (a .chunk .now) (l .at) (l .inv .0)) _ _ (turning .advance .ensures .0) (turning .advance .ensures .1) _ _ _ (told .turn2 .given .1) in
-    let m = some-used (a .n) (a .held .now) (a .first) (a .chunk .now) (l .held) (l .at) (l .count) (l .number) (l .inv .3) _ (lent-rest (a .chunk .now) (l .at) (l .inv .0)) _ _ (turning .advance .ensures .0) (turning .advance .ensures .1) _ _ _ (told .turn2 .given .1) in
+    let k = used-within (a .n) (a .held .now) (a .first) (a .chunk .now) (l .held) (l .at) (l .count) (l .number) (l .inv .3) _ (lent-rest (a .chunk .now) (l .at) (l .inv .0)) _ _ (turning .advance .ensures .0) (turning .advance .ensures .1) _ _ _ _ (told .turn2 .given .1) in
+    let m = some-used (a .n) (a .held .now) (a .first) (a .chunk .now) (l .held) (l .at) (l .count) (l .number) (l .inv .3) _ (lent-rest (a .chunk .now) (l .at) (l .inv .0)) _ _ (turning .advance .ensures .0) (turning .advance .ensures .1) _ _ _ _ (told .turn2 .given .1) in
     omega (arith, k, m)
 
 loop-again : tie.Need-loop-again Inv-loop μ-loop
@@ -133,9 +134,9 @@ loop-again c =
     let at-loop = turning .before .before .before .before in
     let l = at-loop .loop in
     let a = at-loop .before .before .before .args in
-    let k = used-within (a .n) (a .held .now) (a .first) (a .chunk .now) (l .held) (l .at) (l .count) (l .number) (l .inv .3) _ (lent-rest (a .chunk .now) (l .at) (l .inv .0)) _ _ (turning .advance .ensures .0) (turning .advance .ensures .1) _ _ _ (told .turn2 .given .1) in
-    let m = some-used (a .n) (a .held .now) (a .first) (a .chunk .now) (l .held) (l .at) (l .count) (l .number) (l .inv .3) _ (lent-rest (a .chunk .now) (l .at) (l .inv .0)) _ _ (turning .advance .ensures .0) (turning .advance .ensures .1) _ _ _ (told .turn2 .given .1) in
-    (omega (arith, k), omega (arith, m, l .inv .1), turning .advance .kept .1 .0 ∙ l .inv .2, turn-good (a .n) (a .held .now) (a .first) (a .chunk .now) (l .held) (l .at) (l .count) (l .number) (l .inv .3) _ (lent-rest (a .chunk .now) (l .at) (l .inv .0)) _ _ (turning .advance .ensures .0) (turning .advance .ensures .1) _ _ _ (told .turn2 .given .1))
+    let k = used-within (a .n) (a .held .now) (a .first) (a .chunk .now) (l .held) (l .at) (l .count) (l .number) (l .inv .3) _ (lent-rest (a .chunk .now) (l .at) (l .inv .0)) _ _ (turning .advance .ensures .0) (turning .advance .ensures .1) _ _ _ _ (told .turn2 .given .1) in
+    let m = some-used (a .n) (a .held .now) (a .first) (a .chunk .now) (l .held) (l .at) (l .count) (l .number) (l .inv .3) _ (lent-rest (a .chunk .now) (l .at) (l .inv .0)) _ _ (turning .advance .ensures .0) (turning .advance .ensures .1) _ _ _ _ (told .turn2 .given .1) in
+    (omega (arith, k), omega (arith, m, l .inv .1), turning .advance .kept .1 .0 ∙ l .inv .2, turn-good (a .n) (a .held .now) (a .first) (a .chunk .now) (l .held) (l .at) (l .count) (l .number) (l .inv .3) _ (lent-rest (a .chunk .now) (l .at) (l .inv .0)) _ _ (turning .advance .ensures .0) (turning .advance .ensures .1) _ _ _ _ (told .turn2 .given .1))
 
 enum-told : tie.Need-enum-told Inv-loop μ-loop
 enum-told c = search needs
