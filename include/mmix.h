@@ -175,8 +175,8 @@ enum mmix_flag {
  * Any other makes the state MMIX_NOT_ADMISSIBLE. No step changes the mask; trips and traps write hidden registers all the same. */
 #define MMIX_HIDEABLE UINT64_C(0xF047F380)
 
-/* The longest window; each of the two may be so long. */
-#define MMIX_WINDOW_MAX 65536
+/* The longest window, 1 MiB; each of the two may be so long. */
+#define MMIX_WINDOW_MAX 1048576
 
 /* A store keeps MMIX_POINTS points, each in a room, in order of name; bytes behind the last room are not touched. A room is an
  * image, five octabytes (base of A, base of B, lengths of A and B in octabytes, one that is 0 until a point is taken and then

@@ -1,4 +1,4 @@
-//! Pages that may be touched between two that may not, full of canaries.
+//! Pages that may be touched between two that may not, full of canaries; and memory that is kept once it is freed.
 
 use std::ffi::{c_int, c_void};
 use std::{ptr, slice};
@@ -7,6 +7,7 @@ unsafe extern "C" {
     fn mmap(at: *mut c_void, len: usize, protection: c_int, flags: c_int, file: c_int, offset: i64) -> *mut c_void;
     fn mprotect(at: *mut c_void, len: usize, protection: c_int) -> c_int;
     fn munmap(at: *mut c_void, len: usize) -> c_int;
+    fn mallopt(which: c_int, value: c_int) -> c_int;
 }
 
 const PROT_NONE: c_int = 0;
@@ -15,6 +16,18 @@ const MAP_PRIVATE_ANONYMOUS: c_int = 0x22;
 
 pub const PAGE: usize = 4096;
 const CANARY: u8 = 0xC5;
+
+const M_TRIM_THRESHOLD: c_int = -1;
+const M_MMAP_THRESHOLD: c_int = -3;
+
+/// Freed memory is kept for the next case: windows are long, and giving their pages back each time takes longer than the cases do.
+pub fn keep_freed() {
+    // SAFETY: settings of the allocator, made before the first thread starts.
+    unsafe {
+        mallopt(M_MMAP_THRESHOLD, 1 << 25);
+        mallopt(M_TRIM_THRESHOLD, 1 << 29);
+    }
+}
 
 /// Pages that may be touched between two that may not. All bytes are canaries while nothing stands here.
 pub struct Area {

@@ -186,6 +186,10 @@ fn same_state(entry: &str, answer: &Answer, reply: u64, state: &State) -> Result
 fn same_windows(entry: &str, answer: &Answer, windows: &Windows) -> Result<(), String> {
     let sides = [("A", &answer.windows.a, &windows.a), ("B", &answer.windows.b, &windows.b)];
     for (name, expected, found) in sides {
+        // Long windows are compared as a whole first.
+        if expected.bytes == found.bytes {
+            continue;
+        }
         if let Some(at) = expected.bytes.iter().zip(&found.bytes).position(|(a, b)| a != b) {
             let (a, b) = (expected.bytes[at], found.bytes[at]);
             return Err(format!("{entry}: reply {}, byte {at} of window {name} {a:#x} against {b:#x}", answer.reply));

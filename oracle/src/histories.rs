@@ -14,6 +14,8 @@ use crate::{states, windows};
 const CALLS: u64 = 12;
 /// Bytes behind the sixteenth room.
 const BEHIND: usize = 24;
+/// Bytes before and after the start of a room and of its windows' places that are drawn one by one, an image among them.
+const EDGE: usize = 4096;
 const REPLIES: usize = 29;
 /// What each function can answer.
 const TAKE_REPLIES: [usize; 6] = [0, 1, 2, 22, 26, 27];
@@ -130,25 +132,63 @@ fn tamper(random: &mut Random, ledger: &mut Ledger, stores: &mut [Vec<u8>]) {
     ledger.names[name as usize] = Kept::Written;
 }
 
-/// Stores of one history: what lies in them before is any, but that no point is taken.
-fn begin(random: &mut Random, count: usize) -> (Ledger, Vec<Vec<u8>>) {
-    let mut store = vec![0; STORE_LEN + BEHIND];
-    store.chunks_exact_mut(8).for_each(|bytes| bytes.copy_from_slice(&random.any().to_be_bytes()));
-    for name in 0..POINTS as usize {
-        store[name * ROOM_LEN + IMAGE_LEN + 8 * 4..][..8].fill(0);
+/// The ledger and each subject's store, which every history begins anew: they are long, so they are made once, and only rooms that were taken are
+/// cleared.
+struct Stores {
+    ledger: Ledger,
+    stores: Vec<Vec<u8>>,
+}
+
+/// What lies between the edges.
+const BETWEEN: u8 = 0x5C;
+
+impl Stores {
+    fn new(count: usize) -> Self {
+        let store = vec![BETWEEN; STORE_LEN + BEHIND];
+        Self { stores: vec![store.clone(); count], ledger: Ledger { store, names: Vec::new() } }
     }
-    let stores = vec![store.clone(); count];
-    (Ledger { store, names: (0..POINTS).map(|_| Kept::Nothing).collect() }, stores)
+
+    /// Around where a place begins they have any bytes, but that no point is taken.
+    fn begin(&mut self, random: &mut Random) {
+        let taken = |k: &usize| matches!(self.ledger.names.get(*k), Some(Kept::Taken(_) | Kept::Written));
+        let cleared: Vec<usize> = (0..POINTS as usize).filter(taken).collect();
+        let starts = [0, ROOM_LEN - 2 * WINDOW_MAX, ROOM_LEN - WINDOW_MAX];
+        let places: Vec<usize> = (0..=POINTS as usize).flat_map(|k| starts.map(|at| k * ROOM_LEN + at)).collect();
+        let edges: Vec<u64> = places.iter().flat_map(|_| [(); EDGE / 4]).map(|()| random.any()).collect();
+        for store in self.stores.iter_mut().chain([&mut self.ledger.store]) {
+            cleared.iter().for_each(|k| store[k * ROOM_LEN..][..ROOM_LEN].fill(BETWEEN));
+            for (place, drawn) in places.iter().zip(edges.chunks_exact(EDGE / 4)) {
+                let edge = store.iter_mut().skip(place.saturating_sub(EDGE));
+                edge.zip(drawn.iter().flat_map(|v| v.to_be_bytes())).for_each(|(byte, v)| *byte = v);
+            }
+            (0..POINTS as usize).for_each(|k| store[k * ROOM_LEN + IMAGE_LEN + 8 * 4..][..8].fill(0));
+        }
+        self.ledger.names = (0..POINTS).map(|_| Kept::Nothing).collect();
+    }
+}
+
+/// Whether a call under a name leaves the store that the ledger has: its room, and after the last call all of it.
+fn same(store: &[u8], ledger: &[u8], name: u64, call: u64) -> bool {
+    let room = name.min(POINTS - 1) as usize * ROOM_LEN;
+    let after = if call == CALLS - 1 { 0..store.len() } else { room..room + ROOM_LEN };
+    store[after.clone()] == ledger[after]
 }
 
 /// One history on each subject; what differs.
-pub fn history(seed: u64, number: u64, subjects: &[Box<dyn Subject>], met: &mut Met) -> Result<(), String> {
+fn history(
+    seed: u64,
+    number: u64,
+    subjects: &[Box<dyn Subject>],
+    stores: &mut Stores,
+    met: &mut Met,
+) -> Result<(), String> {
     let mut random = Random::new(!seed, number);
-    let (mut ledger, mut stores) = begin(&mut random, subjects.len());
+    stores.begin(&mut random);
+    let Stores { ledger, stores } = stores;
     let shapes: Vec<Windows> = (0..random.range(1, 3)).map(|_| shape(&mut random)).collect();
     for call in 0..CALLS {
         if random.one_in(12) {
-            tamper(&mut random, &mut ledger, &mut stores);
+            tamper(&mut random, ledger, stores);
         }
         let (lent, name, len) = (held(&mut random, &shapes), name(&mut random), store_len(&mut random));
         let taking = random.one_in(2);
@@ -156,7 +196,7 @@ pub fn history(seed: u64, number: u64, subjects: &[Box<dyn Subject>], met: &mut 
             true => (ledger.take(name, &lent, len), lent.clone()),
             false => ledger.go_back(name, &lent, len).map_or_else(|reply| (reply, lent.clone()), |back| (0, back)),
         };
-        for (subject, store) in subjects.iter().zip(&mut stores) {
+        for (subject, store) in subjects.iter().zip(stores.iter_mut()) {
             let mut given = lent.clone();
             let told = match taking {
                 true => subject.take(name, &given.image, given.windows.show(), &mut store[..len]),
@@ -171,7 +211,7 @@ pub fn history(seed: u64, number: u64, subjects: &[Box<dyn Subject>], met: &mut 
             if given != left {
                 return differs(format!("{what} of {name}, reply {reply}, leaves another image or window"));
             }
-            if *store != ledger.store {
+            if !same(store, &ledger.store, name, call) {
                 return differs(format!("{what} of {name}, reply {reply}, leaves another store"));
             }
         }
@@ -187,8 +227,8 @@ pub fn history(seed: u64, number: u64, subjects: &[Box<dyn Subject>], met: &mut 
 
 /// So many histories.
 pub fn histories(seed: u64, count: u64, subjects: &[Box<dyn Subject>]) -> (Met, Result<(), String>) {
-    let mut met = Met::new();
-    let found = (0..count).try_for_each(|number| history(seed, number, subjects, &mut met));
+    let (mut met, mut stores) = (Met::new(), Stores::new(subjects.len()));
+    let found = (0..count).try_for_each(|number| history(seed, number, subjects, &mut stores, &mut met));
     (met, found)
 }
 
@@ -196,5 +236,5 @@ pub fn histories(seed: u64, count: u64, subjects: &[Box<dyn Subject>]) -> (Met, 
 pub fn replay(line: &str, subjects: &[Box<dyn Subject>]) -> Option<Result<(), String>> {
     let mut words = line.strip_prefix("history ")?.split([' ', ',']);
     let (seed, number) = (words.next()?.parse().ok()?, words.next()?.parse().ok()?);
-    Some(history(seed, number, subjects, &mut Met::new()))
+    Some(history(seed, number, subjects, &mut Stores::new(subjects.len()), &mut Met::new()))
 }

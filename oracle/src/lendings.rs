@@ -84,7 +84,7 @@ pub const LENDINGS: [(&str, Test); 71] = [
     ("23, the packed octabyte alone in the other", |l| l.reads(23) && l.packed_alone()),
     ("reader, 16 with a part in both", |l| l.reads(16) && l.in_both()),
     ("reader, 6 though both have a part", |l| l.reads(6) && l.in_both()),
-    ("A of 65,536 bytes, done", |l| l.done() && l.a().bytes.len() == WINDOW_MAX),
+    ("A of 1,048,576 bytes, done", |l| l.done() && l.a().bytes.len() == WINDOW_MAX),
 ];
 
 /// A case with its answer, and what is asked of its windows.

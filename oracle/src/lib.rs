@@ -17,7 +17,7 @@ include!(concat!(env!("OUT_DIR"), "/compared.rs"));
 #[cfg(not(changed_model))]
 pub use model as compared;
 
-mod areas;
+pub mod areas;
 pub mod case;
 pub mod chains;
 pub mod compare;

@@ -197,7 +197,7 @@ impl Drawer {
         Ok(Point::Single { case, answer, touched })
     }
 
-    /// A step in one of the situations, of which the last, a window of 65,536 bytes, is too long to compute; any step
+    /// A step in one of the situations, of which the last, a window of 1,048,576 bytes, is too long to compute; any step
     /// where the situation is not met.
     fn at_limit(&mut self, situation: usize) -> Result<Point, String> {
         for _ in 0..TRIES {

@@ -127,7 +127,7 @@ pub const SITUATIONS: [(&str, Test); 107] = [
     ("SR of a negative number by 64 and more", |m| m.works(&[SR]) && m.z() >= 64 && m.y() >> 63 == 1),
     ("SLU and SRU by 64", |m| m.works(&[SLU, SRU]) && m.z() == 64 && m.y() != 0),
     ("shift by 2^63 and more", |m| m.works(&[SL, SLU, SR, SRU]) && m.z() >= LEAST && m.y() != 0),
-    ("window of 65,536 bytes, done", |m| {
+    ("window of 1,048,576 bytes, done", |m| {
         m.answer.reply == 0 && [&m.case.windows.a, &m.case.windows.b].iter().any(|w| w.bytes.len() == WINDOW_MAX)
     }),
 ];

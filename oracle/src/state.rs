@@ -4,7 +4,7 @@
 pub const OCTABYTES: usize = 292;
 pub const IMAGE_LEN: usize = 8 * OCTABYTES;
 pub const OLD_IMAGE_LEN: usize = IMAGE_LEN - 8;
-pub const WINDOW_MAX: usize = 65_536;
+pub const WINDOW_MAX: usize = 1_048_576;
 pub const STACK_START: u64 = 0x6000_0000_0000_0000;
 pub const RA_MAX: u64 = 0x3FFFF;
 pub const MARKS_MAX: u64 = 0x1FF;

@@ -21,7 +21,7 @@ pub fn around(random: &mut Random, first: u64, octabytes: u64) -> (u64, Vec<u8>)
         6..=11 => 0,
         _ => random.below(6) as i64,
     };
-    let (lead, trail) = if random.one_in(60) {
+    let (lead, trail) = if random.one_in(240) {
         let lead = random.below((most - n) as u64 + 1) as i64;
         (lead, most - n - lead)
     } else {
@@ -139,10 +139,10 @@ pub fn spoil(random: &mut Random, case: &mut Case) {
 /// Break the rule of a window's length or base.
 pub fn spoil_one(random: &mut Random, window: &mut Window) {
     let off = random.range(1, 7);
-    match random.below(4) {
-        0 => window.bytes.resize(random.pick(&[1, 4, 7, 9, 12, 15, 17, 2047, 2049, 65_535]), 0),
-        1 => window.bytes.resize(random.pick(&[65_537, 65_544, 65_536 + 2048]), 0),
-        2 => window.base = window.base.wrapping_add(off),
+    match random.below(16) {
+        0..=4 => window.bytes.resize(random.pick(&[1, 4, 7, 9, 12, 15, 17, 2047, 2049, 4097]), 0),
+        5 => window.bytes.resize(WINDOW_MAX - 8 + random.pick(&[7, 9, 16, 16, 2056]), 0),
+        6..=10 => window.base = window.base.wrapping_add(off),
         _ => {
             window.bytes.clear();
             window.base = window.base.wrapping_add(off);
@@ -177,10 +177,10 @@ fn place_of_empty(random: &mut Random, other: &Window) -> u64 {
 
 /// Octabytes of a window of its own.
 fn octabytes(random: &mut Random) -> u64 {
-    match random.below(64) {
+    match random.below(256) {
         0 => WINDOW_MAX as u64 / 8,
-        1..=8 => 256,
-        9..=24 => random.range(1, 3),
+        1..=32 => 256,
+        33..=96 => random.range(1, 3),
         _ => random.below(40),
     }
 }

@@ -7,7 +7,7 @@ use oracle::subject::subjects;
 
 #[test]
 fn places() {
-    assert_eq!((ROOM_LEN, STORE_LEN), (133_448, 2_135_168));
+    assert_eq!((ROOM_LEN, STORE_LEN), (2_099_528, 33_592_448));
     let mut state = State::zero();
     state.special[RG] = 32;
     let image = state.image();
@@ -18,7 +18,7 @@ fn places() {
         store[2 * ROOM_LEN + IMAGE_LEN + 32..][..8].fill(0);
         assert_eq!(subject.go_back(2, &mut image.to_vec(), windows.lend(), &store), 27);
         assert_eq!(subject.take(2, &image, windows.show(), &mut store), 0);
-        let room = &store[266_896..400_344];
+        let room = &store[4_199_056..6_298_584];
         assert_eq!(room[..2_336], image);
         assert_eq!(
             room[2_336..2_376],
@@ -29,10 +29,10 @@ fn places() {
         );
         assert!(
             room[2_376..2_392].iter().all(|byte| *byte == 0xA1)
-                && room[67_912..67_920].iter().all(|byte| *byte == 0xB2)
+                && room[1_050_952..1_050_960].iter().all(|byte| *byte == 0xB2)
         );
-        assert!(room[2_392..67_912].iter().chain(&room[67_920..]).all(|byte| *byte == 0x55));
-        assert!(store[..266_896].iter().chain(&store[400_344..]).all(|byte| *byte == 0x55));
+        assert!(room[2_392..1_050_952].iter().chain(&room[1_050_960..]).all(|byte| *byte == 0x55));
+        assert!(store[..4_199_056].iter().chain(&store[6_298_584..]).all(|byte| *byte == 0x55));
     }
 }
 

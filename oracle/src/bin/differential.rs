@@ -20,6 +20,7 @@ use std::sync::atomic::{AtomicBool, Ordering};
 use std::thread;
 use std::time::Instant;
 
+use oracle::areas;
 use oracle::case::{self, Case};
 use oracle::compare::compare;
 use oracle::fields;
@@ -233,6 +234,7 @@ fn differential(options: &Options) -> bool {
 }
 
 fn main() -> ExitCode {
+    areas::keep_freed();
     let outcome = options().and_then(|options| {
         if options.guard.is_some() {
             guards::report_faults();

@@ -22,7 +22,7 @@ fn offset(base: u64, address: u64) -> u64 {
 }
 
 impl Window<'_> {
-    /// The length is a multiple of 8 up to 65,536, the base a multiple of 8.
+    /// The length is a multiple of 8 up to 1,048,576, the base a multiple of 8.
     fn obeys(&self) -> bool {
         self.bytes.len().is_multiple_of(8) && self.bytes.len() <= WINDOW_MAX && self.base.is_multiple_of(8)
     }
