@@ -1,22 +1,22 @@
--- Which form a line has: one at most, and then its widths are that form's.
+-- Which form a line has: one at most, and then its widths are that form's; none where its lengths' widths differ.
 use mathlib.Core.Path.{_≡_, refl, sym, ap, _∙_}
 use mathlib.Core.Logic.{_⊎_, inl, inr, ⊎-elim}
 use mathlib.Core.Bool.{Bool, true, false, _||_}
-use mathlib.Core.List.{List}
+use mathlib.Core.List.{List, _++_}
 use Prim.Native.Nat.{ℕ, _+_, _*_, _^_, _≤_, _<_}
 use native.Mathlib.Omega.{arith}
 use borrow.Author.Tests.{eqb-true}
 use lib.Dec.{leb, eqb}
-use lib.ListN.{length, getD}
+use lib.ListN.{length, getD, length-append}
 use Rattle.model.specs.Fill as fill
 use Rattle.model.specs.Kept.{imageLength, oldImageLength}
 use Rattle.model.proofs.Bools.{and-right}
 use Rattle.model.proofs.Fill.{flag}
 use Rattle.text.specs.Codes.{codes}
 use Rattle.text.specs.Digits.{digitOf}
-use Rattle.lines.specs.Line.{mark, fitsByte, fits, head, pointForm, octasA, octasB, isForm, lengthDigits, oldLengthDigits, stateDigits, oldStateDigits, octasMax, oldOctasMax, isNew, isOld, isShort, isShortOld, isPoint, widths, widthsOf}
+use Rattle.lines.specs.Line.{mark, fitsByte, fits, head, bases, middle, close, marks, pointForm, octasA, octasB, isForm, lengthDigits, oldLengthDigits, stateDigits, oldStateDigits, octasMax, oldOctasMax, isNew, isOld, isShort, isShortOld, isPoint, widths, widthsOf, mixedForm, MixedBad}
 use Rattle.lines.specs.declared.line.Widths.{Widths}
-use Rattle.lines.proofs.Forms.{of-length, length-form, fits-at}
+use Rattle.lines.proofs.Forms.{of-length, length-form, fits-at, length-head, length-bases}
 
 -- ---- the widths by the tests of `widths_of`
 
@@ -116,6 +116,32 @@ module _ (l : List ℕ) where
 
 -- ---- one form at most
 
+-- a line is not of two forms of which one has a digit where the other has something else
+clash : (p q l : List ℕ) (i c : ℕ) → fits p l ≡ true → fits q l ≡ true → i < length p → i < length q → getD p i 0 ≡ mark → getD q i 0 ≡ c → eqb c mark ≡ false
+    → fitsByte mark c ≡ false → ⊥
+unfolding fitsByte
+clash p q l i c f g h k a b n d =
+    let s : fitsByte c (getD l i 0) ≡ true = ap (λ (x : ℕ). fitsByte x (getD l i 0)) (sym b) ∙ fits-at q l i g k in
+    let t : fitsByte mark (getD l i 0) ≡ true = ap (λ (x : ℕ). fitsByte x (getD l i 0)) (sym a) ∙ fits-at p l i f h in
+    let e : getD l i 0 ≡ c = eqb-true _ _ (rw n at s) in
+    differ (sym t ∙ ap (fitsByte mark) e ∙ d)
+
+space-at : (d m : ℕ) → getD (pointForm oldLengthDigits d m) 27 0 ≡ 0x20
+unfolding pointForm head codes
+space-at d m = refl
+
+mark-at : (d m : ℕ) → getD (pointForm lengthDigits d m) 27 0 ≡ mark
+unfolding pointForm head codes
+mark-at d m = refl
+
+no-space : fitsByte mark 0x20 ≡ false
+unfolding fitsByte digitOf fill.within
+no-space = refl
+
+no-bracket : fitsByte mark 0x29 ≡ false
+unfolding fitsByte digitOf fill.within
+no-bracket = refl
+
 module _ (l : List ℕ) where
   of-fits : (w d k : ℕ) → isForm w d k l ≡ true → fits (pointForm w d (octasA w l + octasB w l)) l ≡ true
   unfolding isForm
@@ -126,28 +152,12 @@ module _ (l : List ℕ) where
   one-image w d e k f g = omega (arith, of-length w d k l f, of-length w e k l g)
 
   -- of two, the byte after four digits is a space in one and a digit in the other
-  space-at : (d m : ℕ) → getD (pointForm oldLengthDigits d m) 27 0 ≡ 0x20
-  unfolding pointForm head codes
-  space-at d m = refl
-
-  mark-at : (d m : ℕ) → getD (pointForm lengthDigits d m) 27 0 ≡ mark
-  unfolding pointForm head codes
-  mark-at d m = refl
-
-  no-space : (b : ℕ) → b ≡ 0x20 → fitsByte mark b ≡ false
-  unfolding fitsByte digitOf fill.within
-  no-space b e = rw e
-
   one-width : (d e j k : ℕ) → isForm lengthDigits d j l ≡ true → isForm oldLengthDigits e k l ≡ true → ⊥
-  unfolding fitsByte
   one-width d e j k f g =
       let m : ℕ = octasA lengthDigits l + octasB lengthDigits l in
       let o : ℕ = octasA oldLengthDigits l + octasB oldLengthDigits l in
-      let s : fitsByte 0x20 (getD l 27 0) ≡ true
-      = ap (λ (c : ℕ). fitsByte c (getD l 27 0)) (sym (space-at e o)) ∙ fits-at (pointForm oldLengthDigits e o) l 27 (of-fits oldLengthDigits e k g) (omega (arith, length-form oldLengthDigits e o)) in
-      let t : fitsByte mark (getD l 27 0) ≡ true
-      = ap (λ (c : ℕ). fitsByte c (getD l 27 0)) (sym (mark-at d m)) ∙ fits-at (pointForm lengthDigits d m) l 27 (of-fits lengthDigits d j f) (omega (arith, length-form lengthDigits d m)) in
-      differ (sym t ∙ no-space (getD l 27 0) (eqb-true _ _ s))
+      clash (pointForm lengthDigits d m) (pointForm oldLengthDigits e o) l 27 0x20 (of-fits lengthDigits d j f) (of-fits oldLengthDigits e k g)
+      (omega (arith, length-form lengthDigits d m)) (omega (arith, length-form oldLengthDigits e o)) (mark-at d m) (space-at e o) refl no-space
 
   is-not : (t : Bool) → (t ≡ true → ⊥) → t ≡ false
   is-not true h = absurd (h refl)
@@ -169,3 +179,71 @@ module _ (l : List ℕ) where
       as-short-old l (is-not (isNew l) (λ n. one-width stateDigits oldStateDigits octasMax oldOctasMax n e))
       (is-not (isOld l) (λ n. one-width oldStateDigits oldStateDigits octasMax oldOctasMax n e))
       (is-not (isShort l) (λ n. absurd (omega (arith, one-image oldLengthDigits stateDigits oldStateDigits oldOctasMax n e)))) e
+
+-- ---- mixed widths
+
+module _ (d m : ℕ) where
+  -- the byte after four digits of the first length, and that after four of the second
+  short-space : getD (mixedForm oldLengthDigits lengthDigits d m) 27 0 ≡ 0x20
+  unfolding mixedForm head codes
+  short-space = refl
+
+  short-mark : getD (mixedForm oldLengthDigits lengthDigits d m) 32 0 ≡ mark
+  unfolding mixedForm head codes
+  short-mark = refl
+
+  long-mark : getD (mixedForm lengthDigits oldLengthDigits d m) 27 0 ≡ mark
+  unfolding mixedForm head codes
+  long-mark = refl
+
+  long-bracket : getD (mixedForm lengthDigits oldLengthDigits d m) 36 0 ≡ 0x29
+  unfolding mixedForm head bases codes
+  long-bracket = refl
+
+  -- so long that they have these bytes
+  mixed-long : (v w : ℕ) → 36 < length (mixedForm v w d m)
+  unfolding mixedForm
+  mixed-long v w = omega (
+    arith,
+    length-head,
+    length-bases,
+    length-append head (marks v ++ (codes " " ++ (marks w ++ (bases ++ (marks d ++ (middle ++ (marks (16 * m) ++ close))))))),
+    length-append (marks v) (codes " " ++ (marks w ++ (bases ++ (marks d ++ (middle ++ (marks (16 * m) ++ close)))))),
+    length-append (codes " ") (marks w ++ (bases ++ (marks d ++ (middle ++ (marks (16 * m) ++ close))))),
+    length-append (marks w) (bases ++ (marks d ++ (middle ++ (marks (16 * m) ++ close)))),
+    length-append bases (marks d ++ (middle ++ (marks (16 * m) ++ close))),
+  )
+
+bracket-at : (d m : ℕ) → getD (pointForm oldLengthDigits d m) 32 0 ≡ 0x29
+unfolding pointForm head bases codes
+bracket-at d m = refl
+
+second-mark : (d m : ℕ) → getD (pointForm lengthDigits d m) 36 0 ≡ mark
+unfolding pointForm head codes
+second-mark d m = refl
+
+-- a line of one of the four forms has one of the two widths
+module _ (l : List ℕ) (long : (d k : ℕ) → isForm lengthDigits d k l ≡ true → ⊥) (short : (d k : ℕ) → isForm oldLengthDigits d k l ≡ true → ⊥) where
+  no-width : isPoint l ≡ false
+  unfolding isNew isOld isShort isShortOld
+  no-width =
+      none-point l (is-not l (isNew l) (long stateDigits octasMax)) (is-not l (isOld l) (long oldStateDigits octasMax))
+      (is-not l (isShort l) (short stateDigits oldOctasMax)) (is-not l (isShortOld l) (short oldStateDigits oldOctasMax))
+
+pub mixed-bad : MixedBad
+mixed-bad = record {
+  short-first = λ d m l f. no-width l
+      (λ e k g. let o : ℕ = octasA lengthDigits l + octasB lengthDigits l in
+      clash (pointForm lengthDigits e o) (mixedForm oldLengthDigits lengthDigits d m) l 27 0x20 (of-fits l lengthDigits e k g) f
+      (omega (arith, length-form lengthDigits e o)) (omega (arith, mixed-long d m oldLengthDigits lengthDigits)) (mark-at e o) (short-space d m) refl no-space)
+      (λ e k g. let o : ℕ = octasA oldLengthDigits l + octasB oldLengthDigits l in
+      clash (mixedForm oldLengthDigits lengthDigits d m) (pointForm oldLengthDigits e o) l 32 0x29 f (of-fits l oldLengthDigits e k g)
+      (omega (arith, mixed-long d m oldLengthDigits lengthDigits)) (omega (arith, length-form oldLengthDigits e o)) (short-mark d m) (bracket-at e o) refl no-bracket);
+  short-second = λ d m l f. no-width l
+      (λ e k g. let o : ℕ = octasA lengthDigits l + octasB lengthDigits l in
+      clash (pointForm lengthDigits e o) (mixedForm lengthDigits oldLengthDigits d m) l 36 0x29 (of-fits l lengthDigits e k g) f
+      (omega (arith, length-form lengthDigits e o)) (mixed-long d m lengthDigits oldLengthDigits) (second-mark e o) (long-bracket d m) refl no-bracket)
+      (λ e k g. let o : ℕ = octasA oldLengthDigits l + octasB oldLengthDigits l in
+      clash (mixedForm lengthDigits oldLengthDigits d m) (pointForm oldLengthDigits e o) l 27 0x20 f (of-fits l oldLengthDigits e k g)
+      (omega (arith, mixed-long d m lengthDigits oldLengthDigits)) (omega (arith, length-form oldLengthDigits e o)) (long-mark d m) (space-at e o) refl no-space);
+}

@@ -2,6 +2,7 @@
 -- in one unbroken run of hexadecimal, A's before B's, `(windows )` if both are empty"; "Point lines now carry each length as eight hexadecimal digits;
 -- lines with four in both, 0x2000 at most, are still read but never written"; "Point lines with an old image are still read but never written".
 use Prim.Native.Nat.{ℕ, zero, suc, _+_, _-_, _*_, _/_}
+use mathlib.Core.Path.{_≡_}
 use mathlib.Core.Bool.{Bool, true, false, cond, _&&_, _||_}
 use mathlib.Core.List.{List, [], _∷_, _++_}
 use lib.Dec.{leb, ltb, eqb}
@@ -154,3 +155,14 @@ renewed l = widened (widthsOf l .lengths) (widthsOf l .state) l
 -- the longest one: 88 bytes are neither a length's nor the state's nor a window's
 abbrev pub longestLine : ℕ
 longestLine = 88 + 2 * lengthDigits + stateDigits + 16 * (octasMax + octasMax)
+
+-- ---- THEOREM: a line with four digits in one length and eight in the other is no point's
+
+-- v digits for the first length and w for the second
+unfoldable pub mixedForm : ℕ → ℕ → ℕ → ℕ → List ℕ
+mixedForm v w d m =
+    head ++ (marks v ++ (codes " " ++ (marks w ++ (bases ++ (marks d ++ (middle ++ (marks (16 * m) ++ close)))))))
+
+pub record MixedBad : Type 0 where
+  pub short-first : (d m : ℕ) (l : List ℕ) → fits (mixedForm oldLengthDigits lengthDigits d m) l ≡ true → isPoint l ≡ false
+  pub short-second : (d m : ℕ) (l : List ℕ) → fits (mixedForm lengthDigits oldLengthDigits d m) l ≡ true → isPoint l ≡ false
