@@ -5,13 +5,12 @@ ghost use Prim.Native.Nat.{ℕ, _≤_, _<_, _^_};
 ghost use lib.ListN.{replicate};
 ghost use Rattle.lines.specs.Line.{mark, fitsByte, hexAt, isForm, widthsOf};
 ghost use Rattle.lines.specs.Met.{met};
+use machine::window::WINDOW_MAX;
 
-/// Bytes of a state image, of an old one, and of the largest window.
+/// Bytes of a state image, and of an old one.
 const IMAGE_LEN: usize = 2336;
 
 const OLD_IMAGE_LEN: usize = 2328;
-
-const WINDOW_MAX: u64 = 1048576;
 
 /// Digits of a state, and of an old image: two a byte.
 pub const STATE_DIGITS: usize = 2 * IMAGE_LEN;
@@ -19,7 +18,7 @@ pub const STATE_DIGITS: usize = 2 * IMAGE_LEN;
 const OLD_STATE_DIGITS: usize = 2 * OLD_IMAGE_LEN;
 
 /// The largest window, in octabytes, and the largest of an older line.
-const OCTAS_MAX: u64 = WINDOW_MAX / 8;
+const OCTAS_MAX: u64 = WINDOW_MAX as u64 / 8;
 
 const OLD_OCTAS_MAX: u64 = 0x2000;
 
