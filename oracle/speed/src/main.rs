@@ -1,6 +1,6 @@
 //! How long the Rust's arms take, and the subject's entries beside them: nanoseconds, the least of many repeats.
 //!
-//!     speed [TEXT]      only the points whose name holds TEXT, and BN
+//!     speed [TEXT [BYTES]]      only the points whose name holds TEXT, and BN; window B of so many bytes and not of 8,192
 //!
 //! The subject is the proved library with the feature `library`, else the model. Columns: the Rust's arm in place;
 //! the same instruction fetched from the Rust's memory and decoded; the subject's step on parts, on a lent state
@@ -32,8 +32,12 @@ use taken_plain::mmixal::Opcode;
 /// The whole table is measured so often, each time with so many repeats: a slow spell meets all columns alike.
 const PASSES: usize = 20;
 const REPEATS: usize = 80;
-const WINDOW_LEN: usize = 8192;
 const CODE_START: u64 = 0x1000;
+
+/// Bytes of window B.
+fn window_len() -> usize {
+    std::env::args().nth(2).map_or(8192, |bytes| bytes.parse().expect("a number of bytes"))
+}
 
 struct Silent;
 
@@ -124,7 +128,7 @@ fn rust_fetched(point: &Point) -> f64 {
 /// A point's windows: A at 0, B in the stack.
 fn windows(point: &Point, byte: u8) -> Windows {
     let window = |base: u64, len: usize| Window { base, bytes: vec![byte; len] };
-    Windows { a: window(0, point.a), b: window(STACK_START, WINDOW_LEN) }
+    Windows { a: window(0, point.a), b: window(STACK_START, window_len()) }
 }
 
 /// A point's steps, each by `step`, on a state and windows that stay from call to call.

@@ -157,7 +157,7 @@ fn start(program: &Program) -> (State, Windows) {
     (state.general[4], state.general[5], state.general[6]) = (800, 0x400, STACK_START + 0x400);
     let mut a: Vec<u8> = program.tetras.concat();
     a.resize(0x800, 0x3C);
-    let (a, b) = (Window { base: 0, bytes: a }, Window { base: STACK_START, bytes: vec![0; 0x2000] });
+    let (a, b) = (Window { base: 0, bytes: a }, Window { base: STACK_START, bytes: vec![0; crate::window_len()] });
     (state, Windows { a, b })
 }
 
