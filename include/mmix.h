@@ -68,9 +68,12 @@ extern "C" {
  * that it fills itself to 0, and all steps do what they did. Images of 4, MMIX_OLD_IMAGE_LEN bytes, are still taken by every
  * function, as states with mask 0, and keep their length. MMIX_IMAGE_LEN has grown, and with it the rooms, so a store of 4 is
  * none of 5: its points move over as lines (README.md, 'Points as lines').
- * 5.1: mmix_tasks, with MMIX_FOREIGN and MMIX_TASKS_RULE. */
-#define MMIX_VERSION_MAJOR 5
-#define MMIX_VERSION_MINOR 1
+ * 5.1: mmix_tasks, with MMIX_FOREIGN and MMIX_TASKS_RULE.
+ * 6.0: a window may have 1,048,576 bytes, where it had 65,536: a longer one was refused, and all else does what it did. MMIX_WINDOW_MAX
+ * has grown, and with it the rooms, to 2,099,528 bytes, and MMIX_STORE_LEN, to 33,592,448: a store of 5 is none of 6, and its points
+ * move over as lines. */
+#define MMIX_VERSION_MAJOR 6
+#define MMIX_VERSION_MINOR 0
 
 /* The replies. 1 to 6, 22, 24 to 28, 30, 32 and 33 leave every byte as it was; 7 to 18, 29 and 31 set the halt code to 1 and leave all
  * else; 19 and 20 set the halt code to 1 and the trip or trap registers, with PC where it was (an exception refused by 19 has also added to
