@@ -38,6 +38,15 @@ pub claim-other : (s : State) (x k : ℕ) → eqb k rL ≡ false → sp (claimLo
 unfolding claimLocal withSpecial cleared
 claim-other s x k e = on (λ (t : State). sp t k ≡ sp s k) (isMarginal s x) (λ m. spec-other (s .special) rL k (x + 1) e) (λ m. refl)
 
+-- a global X is not claimed
+pub claim-global : (s : State) (x : ℕ) → sp s rG ≤ x → claimLocal s x ≡ s
+unfolding claimLocal
+claim-global s x l = rw (no (leb (sp s rL) x))
+  where
+    no : (b : Bool) → (b && ltb x (sp s rG)) ≡ false
+    no true = le-ltb _ _ l
+    no false = refl
+
 pub claim-hole : (s : State) (x : ℕ) → hole (claimLocal s x) x ≡ hole s x
 unfolding hole
 claim-hole s x = go (leb (sp s rG) x) refl
@@ -45,16 +54,8 @@ claim-hole s x = go (leb (sp s rG) x) refl
     g : sp (claimLocal s x) rG ≡ sp s rG
     g = claim-other s x rG refl
 
-    -- a global X is not claimed
-    unclaimed : sp s rG ≤ x → claimLocal s x ≡ s
-    unclaimed l = unfold claimLocal in (rw (no (leb (sp s rL) x)))
-      where
-        no : (b : Bool) → (b && ltb x (sp s rG)) ≡ false
-        no true = le-ltb _ _ l
-        no false = refl
-
     go : (b : Bool) → leb (sp s rG) x ≡ b → cond (leb (sp (claimLocal s x) rG) x) (sp (claimLocal s x) rL) x ≡ cond (leb (sp s rG) x) (sp s rL) x
-    go true e = rw (g, e) (ap (λ (t : State). sp t rL) (unclaimed (leb-true _ _ e)))
+    go true e = rw (g, e) (ap (λ (t : State). sp t rL) (claim-global s x (leb-true _ _ e)))
     go false e = rw (g, e)
 
 -- a range made zero, in two lists that are equal at i

@@ -83,18 +83,18 @@ module _ {S : Type 0} (w : Windows) (s bad : S) (found : ℕ → ℕ → ℕ →
       (λ e h. (leb-true _ _ e, read-done (below p (l + 269 - g)) (l + 270 - g) _ h .0)) (λ e h. absurd (omega (arith, said-reply w s bad 16, h)))
 
   count-done : (p g a : ℕ) → Inside w p 1 → look both w p / 2 ^ 56 ≡ g → look both w p % 2 ^ 56 ≡ a
-      → Done (contextCount bad found p g a) → Context w p g a (look both w (below p (269 - g)))
+      → Done (contextCount bad found p g a) → Context (refusing (shapesOf w)) w p g a (look both w (below p (269 - g)))
   unfolding contextCount
   count-done p g a c d f =
-      on (λ (q : Plan S). Done q → Context w p g a (look both w (below p (269 - g)))) (leb 32 g && leb g 255)
-      (λ e. on (λ (q : Plan S). Done q → Context w p g a (look both w (below p (269 - g)))) (leb a 0x3FFFF)
+      on (λ (q : Plan S). Done q → Context (refusing (shapesOf w)) w p g a (look both w (below p (269 - g)))) (leb 32 g && leb g 255)
+      (λ e. on (λ (q : Plan S). Done q → Context (refusing (shapesOf w)) w p g a (look both w (below p (269 - g)))) (leb a 0x3FFFF)
       (λ k h. found-by e k (read-done (below p (269 - g)) 1 (λ v. contextRest bad found p g a (getD v 0 0)) h))
       (λ k h. absurd (omega (arith, said-reply w s bad 15, h))))
       (λ e h. absurd (omega (arith, said-reply w s bad 14, h)))
     where
       found-by : (leb 32 g && leb g 255) ≡ true → leb a 0x3FFFF ≡ true
           → Inside w (below p (269 - g)) 1 × Done (contextRest bad found p g a (getD (looks both w (below p (269 - g)) 1) 0 0))
-          → Context w p g a (look both w (below p (269 - g)))
+          → Context (refusing (shapesOf w)) w p g a (look both w (below p (269 - g)))
       found-by e k h =
           let r : (look both w (below p (269 - g)) ≤ g) × Inside w (below p (look both w (below p (269 - g)) + 269 - g)) (look both w (below p (269 - g)) + 270 - g)
           = rest-done p g a _ (rw (looked w (below p (269 - g))) at (h .1)) in
@@ -111,7 +111,7 @@ module _ {S : Type 0} (w : Windows) (s bad : S) (found : ℕ → ℕ → ℕ →
             rest = r .1;
           }
 
-  context-done : (p : ℕ) → Done (contextAt bad found p) → Context w p (thresholdAt w p) (look both w p % 2 ^ 56) (countAt w p)
+  context-done : (p : ℕ) → Done (contextAt bad found p) → Context (refusing (shapesOf w)) w p (thresholdAt w p) (look both w p % 2 ^ 56) (countAt w p)
   unfolding contextAt
   context-done p h =
       let r : Inside w p 1 × Done (contextCount bad found p (getD (looks both w p 1) 0 0 / 2 ^ 56) (getD (looks both w p 1) 0 0 % 2 ^ 56))
@@ -146,7 +146,7 @@ reader-unruled w p n = rw (ne-eqb (unruledBy (shapesOf w)) 0 n)
 
 -- what the checks found, where they pass
 record Stands (w : Windows) (p : ℕ) : Type 0 where
-  context : Context w p (thresholdAt w p) (look both w p % 2 ^ 56) (countAt w p)
+  context : Context (refusing (shapesOf w)) w p (thresholdAt w p) (look both w p % 2 ^ 56) (countAt w p)
   first : ℕ
   first-is : first % 2 ^ 64 ≡ firstAt w p % 2 ^ 64
   checked-is : checked w p ≡ record { reply = 0; state = octabytes first (octasAt w p); memory = w }
@@ -154,14 +154,14 @@ record Stands (w : Windows) (p : ℕ) : Type 0 where
 stands : (w : Windows) (p : ℕ) → checked w p .reply ≡ 0 → Stands w p
 unfolding spanOf
 stands w p h =
-    let c : Context w p (thresholdAt w p) (look both w p % 2 ^ 56) (countAt w p) = context-done w nowhere nowhere spanOf p h in
+    let c : Context (refusing (shapesOf w)) w p (thresholdAt w p) (look both w p % 2 ^ 56) (countAt w p) = context-done w nowhere nowhere spanOf p h in
     let m : octasAt w p ≡ countAt w p + 269 - thresholdAt w p + 1 = omega (arith, c .g-high) in
     let k : octasAt w p - 1 ≡ countAt w p + 269 - thresholdAt w p = omega arith in
     record {
       context = c;
       first = below p (countAt w p + 269 - thresholdAt w p) % 2 ^ 64;
       first-is = rw k (omega arith);
-      checked-is = context-found w nowhere nowhere spanOf p _ _ _ c;
+      checked-is = context-found (refusing (shapesOf w)) w nowhere nowhere spanOf p _ _ _ c;
     }
 
 -- a reader that is refused by the checks gives their number

@@ -11,10 +11,10 @@ use lib.ListN.{length, getD, set, length-set}
 use lib.Seq.{ext-getD, getD-set-other}
 use borrow.Author.Tests.{leb-true, ltb-true, ltb-false, eqb-true}
 use Rattle.model.specs.Fill.{over}
-use Rattle.model.specs.Memory.{Windows, both}
+use Rattle.model.specs.Memory.{Windows, shapesOf, both}
 use Rattle.model.specs.Registers.{rO, rS, rG, rL, rA, rP, rR, rZ, sp, reg, Sized, Words, following, goes, next, withSpecial, stored, spilled}
 use Rattle.model.specs.Contexts.{extent, saved, contextAddress, savedUnspilled, savedState, unsavedGeneral, unsavedSpecial, unsavedUnspilled, unsaved}
-use Rattle.model.specs.Step.{stepOf}
+use Rattle.model.specs.Step.{refusing, stepOf}
 use Rattle.model.specs.Demand.{Within}
 use Rattle.model.specs.Roundtrip.{unparked, unsaveAfter, ContextsKept}
 use Rattle.model.specs.declared.State.{State}
@@ -161,7 +161,7 @@ save-address w s x y z l n h = rw (save-is w s x y z (save-done w s x y z h)) (p
 save-unsave : (w : Windows) (s : State) (x y z y' z' : ℕ) → x < 256 → Sized s → Words s → stepOf w s 0xFA x y z .reply ≡ 0
     → unsaveAfter (stepOf w s 0xFA x y z) x y' z' ≡ record { reply = 0; state = unparked s; memory = stepOf w s 0xFA x y z .memory }
 save-unsave w s x y z y' z' l n words h =
-    let c : Saves w s x = save-done w s x y z h in
+    let c : Saves (refusing (shapesOf w)) w s x = save-done w s x y z h in
     let good : Good s = record { size = n; admits = c .admits } in
     let u : Unsaves s (parked s x) (savedOn w s) (stepOf (savedOn w s) (parked s x) 0xFB y' z' x)
     = unsave-back w (savedOn w s) s x c words (Kept·refl both both-lawful (Within (sp s rO) (extent s)) (savedOn w s)) (parked s x) y' z' x

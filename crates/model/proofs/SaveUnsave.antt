@@ -1,6 +1,6 @@
--- UNSAVE reads back what SAVE stored, whatever kept those octabytes in between (`unsave-back`).
+-- UNSAVE reads back what SAVE stored, whatever kept those octabytes in between: by any judge (`unsave-found`), and as a step (`unsave-back`).
 -- In order: a context that is found; a SAVE that is done, and what it stores; addresses; the UNSAVE.
-use mathlib.Core.Path.{_≡_, refl, sym, ap, _∙_}
+use mathlib.Core.Path.{_≡_, refl, sym, ap, _∙_, subst}
 use mathlib.Core.Bool.{true}
 use mathlib.Core.List.{List, []}
 use Prim.Native.Nat.{ℕ, _+_, _-_, _*_, _/_, _%_, _^_, _≤_, _<_}
@@ -23,10 +23,10 @@ use Rattle.model.specs.declared.State.{State}
 use Rattle.model.proofs.Bools.{on}
 use Rattle.model.proofs.Fill.{length-over}
 use Rattle.model.proofs.Memory.{inside-octa, both-lawful}
-use Rattle.model.proofs.Plan.{Kept, puts-shape}
+use Rattle.model.proofs.Plan.{Kept, Sound, puts-shape}
 use Rattle.model.proofs.Runs.{length-tab, octa-mod, worst-of, of-worst, getD-looks, stands, perform-read}
 use Rattle.model.proofs.AdmissibleKept.{Adm, adm, adm-of}
-use Rattle.model.proofs.Entry.{performOn, Inside, said, said-reply, answered, step-open, step-done, sound}
+use Rattle.model.proofs.Entry.{performOn, Inside, said-by, answered, step-open, step-done, sound}
 
 -- ---- a context that is found
 
@@ -34,83 +34,87 @@ use Rattle.model.proofs.Entry.{performOn, Inside, said, said-reply, ans
 abbrev pub octasOf : Windows → ℕ → ℕ → ℕ → List ℕ
 octasOf w p g l = looks both w (below p (l + 269 - g)) (l + 270 - g)
 
--- the window holds the whole of a context at p, of threshold g, rA a and l locals, all in range
-pub record Context (w : Windows) (p g a l : ℕ) : Type 0 where
-  pub packed : Inside w p 1
+-- the judge j passes the whole of a context at p, of threshold g, rA a and l locals, all in range
+pub record Context (j : ℕ → ℕ) (w : Windows) (p g a l : ℕ) : Type 0 where
+  pub packed : worst j p 1 ≡ 0
   pub threshold-is : look both w p / 2 ^ 56 ≡ g
   pub status-is : look both w p % 2 ^ 56 ≡ a
   pub g-low : 32 ≤ g
   pub g-high : g ≤ 255
   pub a-high : a ≤ 0x3FFFF
-  pub count : Inside w (below p (269 - g)) 1
+  pub count : worst j (below p (269 - g)) 1 ≡ 0
   pub count-is : look both w (below p (269 - g)) ≡ l
   pub l-g : l ≤ g
-  pub rest : Inside w (below p (l + 269 - g)) (l + 270 - g)
+  pub rest : worst j (below p (l + 269 - g)) (l + 270 - g) ≡ 0
 
 pub looked : (w : Windows) (b : ℕ) → getD (looks both w b 1) 0 0 ≡ look both w b
 unfolding looks
 looked w b = refl
 
-module _ {S : Type 0} (w : Windows) (s bad : S) (found : ℕ → ℕ → ℕ → ℕ → List ℕ → S) (p g a l : ℕ) where
+module _ {S : Type 0} (j : ℕ → ℕ) (w : Windows) (s bad : S) (found : ℕ → ℕ → ℕ → ℕ → List ℕ → S) (p g a l : ℕ) where
   abbrev foundAt : Outcome S Windows
   foundAt = record { reply = 0; state = found (below p (l + 269 - g) % 2 ^ 64) g a l (octasOf w p g l); memory = w }
 
-  rest-found : l ≤ g → Inside w (below p (l + 269 - g)) (l + 270 - g) → performOn w s (contextRest bad found p g a l) ≡ foundAt
+  rest-found : l ≤ g → worst j (below p (l + 269 - g)) (l + 270 - g) ≡ 0 → perform both j s (contextRest bad found p g a l) w ≡ foundAt
   unfolding contextRest
   rest-found h r =
       rw (le-leb l g h)
-      (perform-read both both-lawful (refusing (shapesOf w)) s 6 (below p (l + 269 - g)) (l + 270 - g)
+      (perform-read both both-lawful j s 6 (below p (l + 269 - g)) (l + 270 - g)
       (λ vs. answer 0 (found (below p (l + 269 - g) % 2 ^ 64) g a l vs) 0 []) w r
-      ∙ said w s (found (below p (l + 269 - g) % 2 ^ 64) g a l (octasOf w p g l)) 0)
+      ∙ said-by j w s (found (below p (l + 269 - g) % 2 ^ 64) g a l (octasOf w p g l)) 0)
 
-  count-found : Context w p g a l → performOn w s (contextCount bad found p g a) ≡ foundAt
+  count-found : Context j w p g a l → perform both j s (contextCount bad found p g a) w ≡ foundAt
   unfolding contextCount
   count-found c =
       rw (le-leb 32 g (c .g-low), le-leb g 255 (c .g-high), le-leb a 0x3FFFF (c .a-high))
-      (perform-read both both-lawful (refusing (shapesOf w)) s 6 (below p (269 - g)) 1 (λ v. contextRest bad found p g a (getD v 0 0)) w (c .count)
+      (perform-read both both-lawful j s 6 (below p (269 - g)) 1 (λ v. contextRest bad found p g a (getD v 0 0)) w (c .count)
       ∙ rw (looked w (below p (269 - g)), c .count-is) (rest-found (c .l-g) (c .rest)))
 
-  pub context-found : Context w p g a l → performOn w s (contextAt bad found p) ≡ foundAt
+  pub context-found : Context j w p g a l → perform both j s (contextAt bad found p) w ≡ foundAt
   unfolding contextAt
   context-found c =
-      perform-read both both-lawful (refusing (shapesOf w)) s 6 p 1 (λ v. contextCount bad found p (getD v 0 0 / 2 ^ 56) (getD v 0 0 % 2 ^ 56)) w (c .packed)
+      perform-read both both-lawful j s 6 p 1 (λ v. contextCount bad found p (getD v 0 0 / 2 ^ 56) (getD v 0 0 % 2 ^ 56)) w (c .packed)
       ∙ rw (looked w p, c .threshold-is, c .status-is) (count-found c)
 
--- ---- a SAVE that is done
+-- ---- a SAVE that is done, by any judge
 
 -- what the window holds then
 abbrev pub savedOn : Windows → State → Windows
 savedOn w s = puts both w (sp s rO) (tab 0 (extent s) (saved s))
 
-pub record Saves (w : Windows) (s : State) (x : ℕ) : Type 0 where
+pub record Saves (j : ℕ → ℕ) (w : Windows) (s : State) (x : ℕ) : Type 0 where
   pub admits : Adm s
   pub fine : unruledBy (shapesOf w) ≡ 0
   pub global : sp s rG ≤ x
-  pub fits : Inside w (sp s rO) (extent s)
+  pub fits : worst j (sp s rO) (extent s) ≡ 0
 
+pub save-fits : (j : ℕ → ℕ) (w : Windows) (s : State) (x : ℕ) → perform both j s (saveContext s x) w .reply ≡ 0 → (sp s rG ≤ x) × (worst j (sp s rO) (extent s) ≡ 0)
+unfolding saveContext tell
+save-fits j w s x =
+    on (λ (p : Plan State). perform both j s p w .reply ≡ 0 → (sp s rG ≤ x) × (worst j (sp s rO) (extent s) ≡ 0)) (ltb x (sp s rG))
+    (λ e h. absurd (omega (arith, ap (λ (o : Outcome State Windows). o .reply) (said-by j w s (halted s) 13), h)))
+    (λ e h. (ltb-false _ _ e, rw (length-tab (extent s) 0 (saved s)) at (answered j s (next (savedState s x)) 0 (sp s rO) (tab 0 (extent s) (saved s)) w h)))
+
+pub save-stores : (j : ℕ → ℕ) (w : Windows) (s : State) (x : ℕ) → Saves j w s x
+    → perform both j s (saveContext s x) w ≡ record { reply = 0; state = next (savedState s x); memory = savedOn w s }
+unfolding saveContext perform
+save-stores j w s x c = rw (le-ltb x (sp s rG) (c .global), length-tab (extent s) 0 (saved s), eq-eqb _ _ (c .fits))
+
+-- as a step
 save-open : (w : Windows) (s : State) (x y z : ℕ) → admissible s ≡ true → unruledBy (shapesOf w) ≡ 0 → stepOf w s 0xFA x y z ≡ performOn w s (saveContext s x)
 unfolding planOf armOf refusalOf
 save-open w s x y z a r = step-open w s 0xFA x y z a r refl
 
-save-fits : (w : Windows) (s : State) (x : ℕ) → performOn w s (saveContext s x) .reply ≡ 0 → (sp s rG ≤ x) × Inside w (sp s rO) (extent s)
-unfolding saveContext tell
-save-fits w s x =
-    on (λ (p : Plan State). performOn w s p .reply ≡ 0 → (sp s rG ≤ x) × Inside w (sp s rO) (extent s)) (ltb x (sp s rG))
-    (λ e h. absurd (omega (arith, said-reply w s (halted s) 13, h)))
-    (λ e h. (ltb-false _ _ e, rw (length-tab (extent s) 0 (saved s)) at (answered (refusing (shapesOf w)) s (next (savedState s x)) 0 (sp s rO) (tab 0 (extent s) (saved s)) w h)))
-
-pub save-done : (w : Windows) (s : State) (x y z : ℕ) → stepOf w s 0xFA x y z .reply ≡ 0 → Saves w s x
+pub save-done : (w : Windows) (s : State) (x y z : ℕ) → stepOf w s 0xFA x y z .reply ≡ 0 → Saves (refusing (shapesOf w)) w s x
 save-done w s x y z h =
-    let j : (admissible s ≡ true) × (unruledBy (shapesOf w) ≡ 0) = step-done w s 0xFA x y z h in
+    let m : (admissible s ≡ true) × (unruledBy (shapesOf w) ≡ 0) = step-done w s 0xFA x y z h in
     let f : (sp s rG ≤ x) × Inside w (sp s rO) (extent s)
-    = save-fits w s x (ap (λ (o : Outcome State Windows). o .reply) (sym (save-open w s x y z (j .0) (j .1))) ∙ h) in
-    record { admits = adm s (j .0); fine = j .1; global = f .0; fits = f .1 }
+    = save-fits (refusing (shapesOf w)) w s x (ap (λ (o : Outcome State Windows). o .reply) (sym (save-open w s x y z (m .0) (m .1))) ∙ h) in
+    record { admits = adm s (m .0); fine = m .1; global = f .0; fits = f .1 }
 
-pub save-is : (w : Windows) (s : State) (x y z : ℕ) → Saves w s x → stepOf w s 0xFA x y z ≡ record { reply = 0; state = next (savedState s x); memory = savedOn w s }
-save-is w s x y z c = save-open w s x y z (adm-of s (c .admits)) (c .fine) ∙ performed
-  where
-    performed : performOn w s (saveContext s x) ≡ record { reply = 0; state = next (savedState s x); memory = savedOn w s }
-    performed = unfold saveContext perform in rw (le-ltb x (sp s rG) (c .global), length-tab (extent s) 0 (saved s), eq-eqb _ _ (c .fits))
+pub save-is : (w : Windows) (s : State) (x y z : ℕ) → Saves (refusing (shapesOf w)) w s x
+    → stepOf w s 0xFA x y z ≡ record { reply = 0; state = next (savedState s x); memory = savedOn w s }
+save-is w s x y z c = save-open w s x y z (adm-of s (c .admits)) (c .fine) ∙ save-stores (refusing (shapesOf w)) w s x c
 
 -- the address that it puts in $X, where X is a byte
 pub savedState-address : (s : State) (x : ℕ) → Sized s → x < 256 → reg (savedState s x) x ≡ contextAddress s
@@ -191,10 +195,14 @@ pub refusing-mod : (w : Shapes) (a b : ℕ) → a % 2 ^ 64 ≡ b % 2 ^ 64 → re
 unfolding refusing
 refusing-mod w a b e = rw (inside-octa w a b (octa-mod a b e))
 
--- a part of a run that passes, under any addresses that name it
-pub part-passes : (w : Shapes) (a n b m i : ℕ) → worst (refusing w) a n ≡ 0 → b % 2 ^ 64 ≡ (a + 8 * i) % 2 ^ 64 → i + m ≤ n → worst (refusing w) b m ≡ 0
-part-passes w a n b m i h e l =
-    of-worst (refusing w) m b (λ k q. refusing-mod w (b + 8 * k) (a + 8 * (i + k)) (further a b i k e) ∙ worst-of (refusing w) n a (i + k) h (omega arith))
+-- a judge that takes addresses modulo 2^64
+abbrev pub Wraps : (ℕ → ℕ) → Type 0
+Wraps j = (a b : ℕ) → a % 2 ^ 64 ≡ b % 2 ^ 64 → j a ≡ j b
+
+-- a part of a run that passes it, under any addresses that name it
+part-passes : (j : ℕ → ℕ) → Wraps j → (a n b m i : ℕ) → worst j a n ≡ 0 → b % 2 ^ 64 ≡ (a + 8 * i) % 2 ^ 64 → i + m ≤ n → worst j b m ≡ 0
+part-passes j wraps a n b m i h e l =
+    of-worst j m b (λ k q. wraps (b + 8 * k) (a + 8 * (i + k)) (further a b i k e) ∙ worst-of j n a (i + k) h (omega arith))
 
 -- ---- the UNSAVE after it
 
@@ -218,22 +226,23 @@ unfolding planOf armOf refusalOf unsaveContext
 unsave-open w s x y z a r = step-open w s 0xFB x y z a r refl
 
 -- v is any window that keeps all that the SAVE stored
-module _ (w v : Windows) (s : State) (x : ℕ) (done : Saves w s x) (words : Words s) (kept : Kept both (Within (sp s rO) (extent s)) (savedOn w s) v) where
-  shape-same : shapesOf v ≡ shapesOf w
+module _ (j : ℕ → ℕ) (wraps : Wraps j) (w v : Windows) (snd : Sound both j (shapesOf w)) (s : State) (x : ℕ) (done : Saves j w s x) (words : Words s)
+    (kept : Kept both (Within (sp s rO) (extent s)) (savedOn w s) v) where
+  pub shape-same : shapesOf v ≡ shapesOf w
   unfolding both
   shape-same = kept .shape-kept ∙ puts-shape both both-lawful (tab 0 (extent s) (saved s)) w (sp s rO)
 
   stored-at : (i a : ℕ) → i < extent s → a % 2 ^ 64 ≡ (sp s rO + 8 * i) % 2 ^ 64 → look both v a ≡ saved s i
   unfolding both
   stored-at i a l e =
-      stands both both-lawful (refusing (shapesOf w)) (extent s) (saved s) w v (sp s rO) (sound (shapesOf w)) (done .fits) (omega (arith, done .admits .l-g))
+      stands both both-lawful j (extent s) (saved s) w v (sp s rO) snd (done .fits) (omega (arith, done .admits .l-g))
       (λ k q. saved-word s (done .admits) words k) kept i a l e
 
   packed-is : look both v (contextAddress s) ≡ sp s rG * 2 ^ 56 + sp s rA
   packed-is = let b : Adm s = done .admits in
       stored-at (sp s rL + 269 - sp s rG) (contextAddress s) (omega arith) (omega arith) ∙ saved-packed s b
 
-  stored-context : Context v (contextAddress s) (sp s rG) (sp s rA) (sp s rL)
+  stored-context : Context j v (contextAddress s) (sp s rG) (sp s rA) (sp s rL)
   stored-context =
       let b : Adm s = done .admits in
       record {
@@ -249,11 +258,11 @@ module _ (w v : Windows) (s : State) (x : ℕ) (done : Saves w s x) (words : Wor
         rest = passes (below (contextAddress s) (sp s rL + 269 - sp s rG)) (extent s) 0 (below-is (sp s rO) _ (sp s rL + 269 - sp s rG) 0 (omega arith) (omega arith)) (omega arith);
       }
     where
-      passes : (a n i : ℕ) → a % 2 ^ 64 ≡ (sp s rO + 8 * i) % 2 ^ 64 → i + n ≤ extent s → Inside v a n
-      passes a n i e l = rw shape-same (part-passes (shapesOf w) (sp s rO) (extent s) a n i (done .fits) e l)
+      passes : (a n i : ℕ) → a % 2 ^ 64 ≡ (sp s rO + 8 * i) % 2 ^ 64 → i + n ≤ extent s → worst j a n ≡ 0
+      passes a n i e l = part-passes j wraps (sp s rO) (extent s) a n i (done .fits) e l
 
-  pub unsave-back : (e : State) (i j z : ℕ) → admissible e ≡ true → reg e z ≡ contextAddress s → Unsaves s e v (stepOf v e 0xFB i j z)
-  unsave-back e i j z a p =
+  pub unsave-found : (e : State) → Unsaves s e v (perform both j e (contextAt (halted e) (unsavedNext e) (contextAddress s)) v)
+  unsave-found e =
       let b : Adm s = done .admits in
       let first : below (contextAddress s) (sp s rL + 269 - sp s rG) % 2 ^ 64 ≡ (sp s rO + 8 * 0) % 2 ^ 64
       = below-is (sp s rO) (sp s rL + 269 - sp s rG) (sp s rL + 269 - sp s rG) 0 (omega arith) (omega arith) in
@@ -262,6 +271,15 @@ module _ (w v : Windows) (s : State) (x : ℕ) (done : Saves w s x) (words : Wor
         octas = octasOf v (contextAddress s) (sp s rG) (sp s rL);
         octas-are = λ k l. getD-looks both both-lawful (extent s) v (below (contextAddress s) (sp s rL + 269 - sp s rG)) k l
             ∙ stored-at k _ l (further (sp s rO) (below (contextAddress s) (sp s rL + 269 - sp s rG)) 0 k first ∙ rw (zero-add k));
-        outcome-is = unsave-open v e i j z a (rw shape-same (done .fine))
-            ∙ rw p (context-found v e (halted e) (unsavedNext e) (contextAddress s) (sp s rG) (sp s rA) (sp s rL) stored-context ∙ rw o);
+        outcome-is = context-found j v e (halted e) (unsavedNext e) (contextAddress s) (sp s rG) (sp s rA) (sp s rL) stored-context ∙ rw o;
       }
+
+-- as a step
+pub unsave-back : (w v : Windows) (s : State) (x : ℕ) → Saves (refusing (shapesOf w)) w s x → Words s → Kept both (Within (sp s rO) (extent s)) (savedOn w s) v
+    → (e : State) (i j z : ℕ) → admissible e ≡ true → reg e z ≡ contextAddress s → Unsaves s e v (stepOf v e 0xFB i j z)
+unsave-back w v s x done words kept e i j z a p =
+    let same : shapesOf v ≡ shapesOf w = shape-same (refusing (shapesOf w)) (refusing-mod (shapesOf w)) w v (sound (shapesOf w)) s x done words kept in
+    let o : stepOf v e 0xFB i j z ≡ perform both (refusing (shapesOf w)) e (contextAt (halted e) (unsavedNext e) (contextAddress s)) v
+    = unsave-open v e i j z a (ap unruledBy same ∙ done .fine)
+    ∙ (λ k. perform both (refusing (same k)) e (contextAt (halted e) (unsavedNext e) (p k)) v) in
+    subst (Unsaves s e v) (sym o) (unsave-found (refusing (shapesOf w)) (refusing-mod (shapesOf w)) w v (sound (shapesOf w)) s x done words kept e)

@@ -14,6 +14,8 @@ pub mod Callers
 pub mod TaskDemand
 pub mod OthersKept
 pub mod WithoutTasks
+pub mod Parked
+pub mod ParkedTasks
 pub mod CallOrder
 pub mod Listed
 pub mod TasksUnseen

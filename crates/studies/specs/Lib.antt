@@ -4,4 +4,5 @@ pub mod Schedule
 pub mod Call
 pub mod TaskDemand
 pub mod TasksMeant
+pub mod Parked
 pub mod TaskPoints
