@@ -6,3 +6,4 @@ pub mod TaskDemand
 pub mod TasksMeant
 pub mod Parked
 pub mod TaskPoints
+pub mod ParkedPoints
