@@ -1,12 +1,13 @@
 -- Demand 3 of the C functions, from demand 3 of the machine: a list of calls is a list of steps on the state that is held (Chains), and each beginning of the
 -- first list's steps answers alike in both runs, so that the second list's calls end as the first's do.
 use mathlib.Core.Path.{_≡_, refl, sym, ap, subst, _∙_}
-use mathlib.Core.Bool.{cond}
+use mathlib.Core.Bool.{Bool, true, false, cond}
 use mathlib.Core.List.{List, [], _∷_, _++_, head-eq-of-cons-eq}
 use Prim.Native.Nat.{ℕ, zero, suc, _+_}
 use native.Mathlib.Omega.{arith}
 use lib.Dec.{eqb}
 use lib.ListN.{length, replicate}
+use borrow.Author.Tests.{eqb-true}
 use Rattle.model.specs.Memory.{Windows, shapeOf, shapesOf, both}
 use Rattle.model.specs.Plan.{Outcome, All, Off}
 use Rattle.model.specs.Lists.{Ran, stepOn, needsOf, runs, runNeedsBy, runNeeds}
@@ -19,13 +20,20 @@ use Rattle.model.specs.declared.State.{State}
 use Rattle.model.proofs.Bools.{on}
 use Rattle.model.proofs.Plan.{All-left, All-right, All-both}
 use Rattle.model.proofs.Demand.{demand3}
-use Rattle.mmix.specs.Calls.{Held, heldState, HeldIs, Entry, on-image, run-image, on-lent, on-parts, run-parts, decode, encode, triedItems, askedBy, asked, answeredBy, Meets, Made, Chain, lastHeld, lastWindow, items, AllFit, Carried, Returns, Demand3Calls}
+use Rattle.mmix.specs.Calls.{Held, heldState, HeldIs, Entry, on-image, run-image, on-lent, on-parts, run-parts, decode, encode, triedItems, triedAnswers, askedBy, asked, answeredBy, Meets, Made, Chain, lastHeld, lastWindow, items, AllFit, Carried, Returns, Demand3Calls}
 use Rattle.mmix.proofs.Tried.{Alongside, twins}
 use Rattle.mmix.proofs.Call.{Intact, intact, After, after-call}
 use Rattle.mmix.proofs.Forms.{formAfter, form-after, same-held}
 use Rattle.mmix.proofs.Chains.{Kept, kept, Ended, SameCalls, same-calls, twins-at, same-form, chain-ended}
 
--- one call that asks for a step
+-- one call that asks for one item; for a step
+pub record ItemMade (g : Held) (w : Windows) (i : Item) (r : ℕ) (k : Held) (v : Windows) : Type 0 where
+  pub reply-is : r ≡ stepOn both mmix (heldState g) w i .reply
+  pub state-is : heldState k ≡ stepOn both mmix (heldState g) w i .state
+  pub window-is : v ≡ stepOn both mmix (heldState g) w i .memory
+  pub whole : Intact k
+  pub bytes : Bytes v
+
 pub record StepMade (g : Held) (w : Windows) (op x y z r : ℕ) (k : Held) (v : Windows) : Type 0 where
   pub reply-is : r ≡ stepOf w (heldState g) op x y z .reply
   pub state-is : heldState k ≡ stepOf w (heldState g) op x y z .state
@@ -59,30 +67,50 @@ asked-step (run-parts g) r n q m op x y z a = absurd (no-step r n op x y z a)
 asked-step decode r n q m op x y z a = a
 asked-step (encode b) r n q m op x y z a = a
 
-answered-step : (e : Entry) (r n op x y z : ℕ) → askedBy e r n ≡ step op x y z ∷ [] → answeredBy e r n ≡ r ∷ []
-unfolding askedBy answeredBy
-answered-step (on-image b i) r n op x y z a = refl
-answered-step (run-image b g) r n op x y z a = absurd (no-step r n op x y z a)
-answered-step (on-lent f p q t) r n op x y z a = refl
-answered-step (on-parts i) r n op x y z a = refl
-answered-step (run-parts g) r n op x y z a = absurd (no-step r n op x y z a)
-answered-step decode r n op x y z a = absurd (omega (arith, ap length a))
-answered-step (encode b) r n op x y z a = absurd (omega (arith, ap length a))
+-- a run of one instruction is answered by its reply too
+answered-run : (r n : ℕ) (i : Item) → triedItems r n ≡ i ∷ [] → triedAnswers r n ≡ r ∷ []
+unfolding triedItems triedAnswers
+answered-run r n i = go (eqb r 25) (eqb r 0) refl n
+  where
+    go : (a b : Bool) → eqb r 0 ≡ b → (n : ℕ) → cond a [] (replicate (cond b n (suc n)) fetched) ≡ i ∷ [] → cond a [] (replicate n 0 ++ cond b [] (r ∷ [])) ≡ r ∷ []
+    go true b e n h = absurd (omega (arith, ap length h))
+    go false true e zero h = absurd (omega (arith, ap length h))
+    go false true e (suc zero) h = ap (λ (q : ℕ). q ∷ []) (sym (eqb-true r 0 e))
+    go false true e (suc (suc n)) h = absurd (omega (arith, ap length h))
+    go false false e zero h = refl
+    go false false e (suc n) h = absurd (omega (arith, ap length h))
 
-pub step-made : (g : Held) (w : Windows) (c : Made) (op x y z : ℕ) → Intact g → Bytes w → asked c ≡ step op x y z ∷ []
-    → InstructionFits op x y z → Meets g w c → StepMade g w op x y z (c .reply) (c .held) (c .window)
-unfolding Fits AllFit runs stepOn mmix itemPlan both stepOf
-step-made g w c op x y z h b a f m =
+answered-one : (e : Entry) (r n : ℕ) (i : Item) → askedBy e r n ≡ i ∷ [] → answeredBy e r n ≡ r ∷ []
+unfolding askedBy answeredBy
+answered-one (on-image b j) r n i a = refl
+answered-one (run-image b g) r n i a = answered-run r n i a
+answered-one (on-lent f p q t) r n i a = refl
+answered-one (on-parts j) r n i a = refl
+answered-one (run-parts g) r n i a = answered-run r n i a
+answered-one decode r n i a = absurd (omega (arith, ap length a))
+answered-one (encode b) r n i a = absurd (omega (arith, ap length a))
+
+pub item-made : (g : Held) (w : Windows) (c : Made) (i : Item) → Intact g → Bytes w → asked c ≡ i ∷ [] → Fits i → Meets g w c
+    → ItemMade g w i (c .reply) (c .held) (c .window)
+unfolding AllFit runs
+item-made g w c i h b a f m =
     let n : After (heldState g) w (c .entry) (c .reply) (c .count) (c .held) (c .window) = after-call g w (c .entry) (c .reply) (c .count) (c .held) (c .window) h m in
-    let t : Kept (heldState g) w (step op x y z ∷ []) (c .held) (c .window)
+    let t : Kept (heldState g) w (i ∷ []) (c .held) (c .window)
     = subst (λ (is : List Item). Kept (heldState g) w is (c .held) (c .window)) a (kept g w (c .entry) (c .reply) (c .count) (c .held) (c .window) h b (subst AllFit (sym a) (f, tt)) n) in
     record {
-      reply-is = head-eq-of-cons-eq (sym (answered-step (c .entry) (c .reply) (c .count) op x y z a) ∙ n .answers-are ∙ ap (λ (is : List Item). runs both mmix (heldState g) w is .answers) a);
+      reply-is = head-eq-of-cons-eq (sym (answered-one (c .entry) (c .reply) (c .count) i a) ∙ n .answers-are ∙ ap (λ (is : List Item). runs both mmix (heldState g) w is .answers) a);
       state-is = t .state-is;
       window-is = n .window-is ∙ ap (λ (is : List Item). runs both mmix (heldState g) w is .memory) a;
       whole = t .whole;
       bytes = t .bytes;
     }
+
+pub step-made : (g : Held) (w : Windows) (c : Made) (op x y z : ℕ) → Intact g → Bytes w → asked c ≡ step op x y z ∷ []
+    → InstructionFits op x y z → Meets g w c → StepMade g w op x y z (c .reply) (c .held) (c .window)
+unfolding Fits stepOn mmix itemPlan both stepOf
+step-made g w c op x y z h b a f m =
+    let t : ItemMade g w (step op x y z) (c .reply) (c .held) (c .window) = item-made g w c (step op x y z) h b a f m in
+    record { reply-is = t .reply-is; state-is = t .state-is; window-is = t .window-is; whole = t .whole; bytes = t .bytes }
 
 -- a POP on what is held and windows that are those of r
 pub returns : (h : ℕ) (s : State) (g : Held) (v : Windows) (r : Ran State Windows) → Intact g → Bytes v → heldState g ≡ r .state → v ≡ r .memory

@@ -279,9 +279,9 @@ module _ (w : Windows) (p : ℕ) where
           unfolding locatedOf
           way-found i =
               found-is (l .«locals_base») gOf aOf (l .«local_count»)
-              (context-found w nothing nothing here p gOf aOf (l .«local_count») context ∙ rw first-is)
+              (context-found (refusing (shapesOf w)) w nothing nothing here p gOf aOf (l .«local_count») context ∙ rw first-is)
             where
-              context : Context w p gOf aOf (l .«local_count»)
+              context : Context (refusing (shapesOf w)) w p gOf aOf (l .«local_count»)
               context = record {
                 packed = h;
                 threshold-is = ap (λ (x : ℕ). x / 2 ^ 56) packed-is;

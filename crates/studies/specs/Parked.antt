@@ -1,6 +1,6 @@
--- Theorem (02, change 14). "A parked context survives the study": what SAVE stored comes back by UNSAVE, whatever the list between them does that needs no octabyte
--- of the context. "SAVE that is done, by step or fetched"; "UNSAVE by step and by run", a run being the list of its fetched instructions (RunMeant); a return to a
--- point is no item. For any rO, "Misaligned rO and contexts across both windows are included", and any parts.
+-- Theorem (02, change 14). "A parked context survives the study": what SAVE stored comes back by UNSAVE, whatever the list between them does that needs no
+-- octabyte of the context. "SAVE that is done, by step or fetched"; "UNSAVE by step and by run", a run being the list of its fetched instructions (RunMeant);
+-- "a return to a point is no item of the list". For any rO: "Misaligned rO and contexts across both windows are included"; and any parts.
 use Prim.Native.Nat.{ℕ, _≤_, _<_}
 use mathlib.Core.Path.{_≡_}
 use mathlib.Core.Logic.{_≢_}

@@ -1,5 +1,5 @@
--- Theorem. A parked context, computed: it lies across both windows, that touch, A below B and B below A, at a misaligned rO; another task runs in between, or is
--- refused at the context; then UNSAVE, by that task's next turn and by a run. Of each call all that is there afterwards.
+-- Theorem. A parked context, computed: it lies across both windows, that touch, A below B and B below A, at a misaligned rO; another task runs in between, or
+-- is refused at the context; then UNSAVE, by that task's next turn and by a run. Of each call all that is there afterwards.
 use Prim.Native.Nat.{ℕ, _+_, _-_, _*_, _^_}
 use mathlib.Core.Path.{_≡_}
 use mathlib.Core.Bool.{true}
