@@ -1,4 +1,4 @@
--- Proofs of demand 3 of the C functions with several tasks, in the order in which they use each other.
+-- Proofs of demand 3 and of a parked context, of the C functions with several tasks, in the order in which they use each other.
 pub mod Agreed
 pub mod HeldLists
 pub mod HeldImages
@@ -10,3 +10,4 @@ pub mod Together
 pub mod TaskChains
 pub mod TaskPop
 pub mod TaskCalls
+pub mod ParkedCalls

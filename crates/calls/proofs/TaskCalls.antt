@@ -1,17 +1,17 @@
 -- Demand 3 of the C functions with several tasks, from the tasks' demand: a list of calls is a list of turns on the states that are held (TaskChains). After the
 -- call both runs hold the same, and their windows agree outside the frame's locals, of which the turns touch nothing: so each call ends alike.
 use mathlib.Core.Path.{_≡_, refl, sym, ap, subst, _∙_}
-use mathlib.Core.List.{List, [], _∷_}
+use mathlib.Core.List.{List, []}
 use Prim.Native.Nat.{ℕ, _+_, _<_}
 use native.Mathlib.Omega.{arith}
 use lib.ListN.{length, set}
 use Rattle.model.specs.Memory.{Windows, shapesOf, both}
-use Rattle.model.specs.Plan.{Outcome, mapOutcome, All, Off, Agree}
-use Rattle.model.specs.Lists.{Ran, runs, runNeedsBy}
+use Rattle.model.specs.Plan.{Outcome, All, Off, Agree}
+use Rattle.model.specs.Lists.{Ran, stepOn, runs, runNeedsBy}
 use Rattle.model.specs.Registers.{rO, sp, fresh}
 use Rattle.model.specs.Frames.{hole}
-use Rattle.model.specs.Step.{Item, step, unruledBy}
-use Rattle.model.specs.Invariants.{Fits, InstructionFits, Bytes}
+use Rattle.model.specs.Step.{Item, step, unruledBy, stepOf, itemPlan, mmix}
+use Rattle.model.specs.Invariants.{Fits}
 use Rattle.model.specs.Demand.{Within, opcodeOf, SameOutside, AtPop}
 use Rattle.model.specs.declared.State.{State}
 use Rattle.model.proofs.Plan.{All-map}
@@ -20,54 +20,27 @@ use Rattle.studies.specs.Tasks.{Own, taskOf, Turn, turn, studies, turnNeeds}
 use Rattle.studies.specs.TaskDemand.{turnOn, afterTurns, PrivateTo}
 use Rattle.studies.proofs.Callers.{turn-shape}
 use Rattle.studies.proofs.TaskDemand.{set-alike}
-use Rattle.mmix.specs.Calls.{Held, struct, heldState, HeldIs, Entry, askedBy, Made, AllFit}
+use Rattle.mmix.specs.Calls.{Held, struct, heldState, HeldIs}
 use Rattle.mmix.proofs.Forms.{form-after, same-held}
-use Rattle.mmix.proofs.Calls.{StepMade, step-made, asked-step}
-use Rattle.calls.specs.TaskCalls.{heldBy, statesHeld, TaskEntry, TaskMade, AloneMet, TaskMeetsBy, wholeOf, turnsOf, TaskChain, lastHeld, lastWindow, callsNeed, Demand3TaskCalls}
+use Rattle.mmix.proofs.Calls.{asked-step}
+use Rattle.calls.specs.TaskCalls.{heldBy, statesHeld, TaskEntry, AloneMet, TaskMeetsBy, wholeOf, TaskChain, lastHeld, lastWindow, callsNeed, Demand3TaskCalls}
 use Rattle.calls.proofs.Agreed.{agree-of}
 use Rattle.calls.proofs.HeldLists.{AllIntact, all-intact, task-held, states-length}
 use Rattle.calls.proofs.WholeTurns.{AsTurns}
-use Rattle.calls.proofs.Alone.{alone-made}
 use Rattle.calls.proofs.TaskChains.{allTurns, chain-made, chain-needs, SameCalls, same-calls}
-use Rattle.calls.proofs.TaskPop.{turned, turns-shape, claim-at, returns-held}
-
--- ---- the call
-
--- what a call of a step by task c leaves, as a turn
-record CallMade (hs : List Held) (w : Windows) (c op x y z : ℕ) (a : TaskMade) : Type 0 where
-  reply-is : a .reply ≡ turnOn (wholeOf w) w (statesHeld hs) c (step op x y z) .reply
-  states-are : statesHeld (a .held) ≡ turnOn (wholeOf w) w (statesHeld hs) c (step op x y z) .state
-  window-is : a .window ≡ turnOn (wholeOf w) w (statesHeld hs) c (step op x y z) .memory
-  whole : AllIntact (a .held)
-  bytes : Bytes (a .window)
-  count : length (a .held) ≡ length hs
-  its : StepMade (heldBy hs c) w op x y z (a .reply) (heldBy (a .held) c) (a .window)
-
-step-called : (hs : List Held) (w : Windows) (c op x y z : ℕ) (e : Entry) (a : TaskMade) → AllIntact hs → Bytes w → InstructionFits op x y z
-    → askedBy e (a .reply) (a .count) ≡ step op x y z ∷ [] → AloneMet hs w c e a → CallMade hs w c op x y z a
-unfolding turnsOf runs AllFit Fits mapOutcome
-step-called hs w c op x y z e a h b f asks met =
-    let t : AsTurns hs w (turn c (wholeOf w) (step op x y z) ∷ []) (a .held) (a .window)
-    = subst (λ (is : List Item). AsTurns hs w (turnsOf c (wholeOf w) is) (a .held) (a .window)) asks (alone-made hs w c e a h b (subst AllFit (sym asks) (f, tt)) met) in
-    let m : Made = record { entry = e; reply = a .reply; count = a .count; held = heldBy (a .held) c; window = a .window } in
-    let s : StepMade (heldBy hs c) w op x y z (a .reply) (heldBy (a .held) c) (a .window) = step-made (heldBy hs c) w m op x y z (h c (met .there)) b asks f (met .contract) in
-    record {
-      reply-is = s .reply-is ∙ sym (ap (λ (o : Outcome (List State) Windows). o .reply) (turned w w hs c op x y z refl));
-      states-are = t .states-are;
-      window-is = t .window-is;
-      whole = t .whole;
-      bytes = t .bytes;
-      count = t .count;
-      its = s;
-    }
+use Rattle.calls.proofs.TaskPop.{CallMade, item-called, turns-shape, claim-at, returns-held}
 
 -- ---- the theorem
 
 narrow : (a h : ℕ) (xs : List ℕ) → All (Off (Within a (h + 1))) xs → All (Off (Within a h)) xs
 narrow a h xs o = All-map _ _ xs (λ b f e. f (record { place = e .place; place-below = let l : e .place < h = e .place-below in omega arith; named-by = e .named-by })) o
 
+step-reply : (w : Windows) (s : State) (op x y z : ℕ) → stepOn both mmix s w (step op x y z) .reply ≡ stepOf w s op x y z .reply
+unfolding stepOn mmix itemPlan both stepOf
+step-reply w s op x y z = refl
+
 pub demand3-task-calls : Demand3TaskCalls
-unfolding TaskChain TaskMeetsBy runs runNeedsBy All both
+unfolding TaskChain TaskMeetsBy runs runNeedsBy All both Fits
 demand3-task-calls w hs ks c f x y z e a b cs ds there hf kf hw fit fs alike ea asks eb es ga gb done pcs off =
     let op : ℕ = opcodeOf f in
     let i : Item = step (opcodeOf f) x y z in
@@ -84,9 +57,9 @@ demand3-task-calls w hs ks c f x y z e a b cs ds there hf kf hw fit fs alike ea 
     let there-too : c < length ks = omega (arith, alike .count-same) in
     let ma : AloneMet hs w c e a = subst (λ (n : TaskEntry). TaskMeetsBy hs w n a) ea (ga .0) in
     let mb : AloneMet ks w c e b = subst (λ (n : TaskEntry). TaskMeetsBy ks w n b) (eb ∙ ea) (gb .0) in
-    let pa : CallMade hs w c op x y z a = step-called hs w c op x y z e a hi hw fit asks ma in
-    let pb : CallMade ks w c op x y z b
-    = step-called ks w c op x y z e b ki hw fit (asked-step e (a .reply) (a .count) (b .reply) (b .count) op x y z asks) mb in
+    let pa : CallMade hs w c i a = item-called hs w c i e a hi hw fit asks ma in
+    let pb : CallMade ks w c i b
+    = item-called ks w c i e b ki hw fit (asked-step e (a .reply) (a .count) (b .reply) (b .count) op x y z asks) mb in
     let o : Outcome (List State) Windows = turnOn p w ss c i in
     let u : Outcome (List State) Windows = turnOn p w ts c i in
     let its-a : heldState (heldBy (a .held) c) ≡ taskOf (o .state) c = sym (task-held (a .held) c) ∙ ap (λ (q : List State). taskOf q c) (pa .states-are) in
@@ -107,7 +80,7 @@ demand3-task-calls w hs ks c f x y z e a b cs ds there hf kf hw fit fs alike ea 
     let held : a .held ≡ b .held
     = ma .others ∙ ap (set hs c) one ∙ set-alike (struct fresh) c hs ks (alike .count-same) (alike .others) there (heldBy (b .held) c) ∙ sym (mb .others) in
     let shape-a : shapesOf (a .window) ≡ shapesOf w = ap shapesOf (pa .window-is) ∙ turn-shape ss w (turn c p i) in
-    let fine : unruledBy (shapesOf (a .window)) ≡ 0 = ap unruledBy shape-a ∙ step-done w s op x y z (sym (pa .its .reply-is) ∙ done) .1 in
+    let fine : unruledBy (shapesOf (a .window)) ≡ 0 = ap unruledBy shape-a ∙ step-done w s op x y z (sym (step-reply w s op x y z) ∙ sym (pa .its .reply-is) ∙ done) .1 in
     let agree : Agree both F (a .window) (b .window)
     = agree-of F (a .window) (b .window) fine
     (subst (λ (v : Windows). SameOutside F v (b .window)) (sym (pa .window-is)) (subst (SameOutside F (o .memory)) (sym (pb .window-is)) (d0 .window-same))) in

@@ -1,7 +1,7 @@
--- A call and a POP of one task as turns on the whole of B; the tasks' demand, said of the state that is held; the POP on what is held.
+-- A call of one item by one task as a turn on the whole of B; the tasks' demand, said of the state that is held; the POP on what is held.
 use mathlib.Core.Path.{_≡_, refl, sym, ap, subst, _∙_}
 use mathlib.Core.Logic.{_≢_}
-use mathlib.Core.List.{List, []}
+use mathlib.Core.List.{List, [], _∷_}
 use Prim.Native.Nat.{ℕ, _+_, _<_}
 use native.Mathlib.Omega.{arith}
 use lib.ListN.{length, set}
@@ -12,32 +12,67 @@ use Rattle.model.specs.Plan.{Outcome, mapOutcome, All, Off}
 use Rattle.model.specs.Lists.{Ran, stepOn, runs, runNeedsBy}
 use Rattle.model.specs.Registers.{rO, sp, reg, fresh, Sized, Words}
 use Rattle.model.specs.Frames.{hole}
-use Rattle.model.specs.Step.{step, stepOf, itemPlan, mmix}
-use Rattle.model.specs.Invariants.{Bytes}
+use Rattle.model.specs.Step.{Item, step, stepOf, itemPlan, mmix}
+use Rattle.model.specs.Invariants.{Fits, Bytes}
 use Rattle.model.specs.Demand.{Within, Call, opcodeOf, Alike, GivesBack}
 use Rattle.model.specs.declared.State.{State}
 use Rattle.model.proofs.Plan.{All-of}
 use Rattle.model.proofs.Memory.{both-lawful}
 use Rattle.model.proofs.Lists.{runTouches, runs-kept}
-use Rattle.studies.specs.Tasks.{Own, taskOf, Turn, studies, turnNeeds}
+use Rattle.studies.specs.Tasks.{Own, taskOf, Turn, turn, studies, turnNeeds}
 use Rattle.studies.specs.TaskDemand.{turnOn, GivesBackTo, PrivateTo}
 use Rattle.studies.proofs.Judge.{studies-sound}
 use Rattle.studies.proofs.WithoutTasks.{turn-whole}
 use Rattle.studies.proofs.TaskDemand.{demand3-tasks}
-use Rattle.mmix.specs.Calls.{Held, heldState, Returns}
-use Rattle.mmix.proofs.Calls.{returns}
-use Rattle.calls.specs.TaskCalls.{heldBy, statesHeld, wholeOf}
+use Rattle.mmix.specs.Calls.{Held, heldState, Entry, askedBy, Made, AllFit, Returns}
+use Rattle.mmix.proofs.Calls.{ItemMade, item-made, returns}
+use Rattle.calls.specs.TaskCalls.{heldBy, statesHeld, TaskMade, AloneMet, wholeOf, turnsOf}
 use Rattle.calls.proofs.HeldLists.{AllIntact, task-held, states-length}
+use Rattle.calls.proofs.WholeTurns.{AsTurns}
+use Rattle.calls.proofs.Alone.{alone-made}
 
--- ---- a step of task c with all of B
+-- ---- an item of task c with all of B
 
-pub turned : (w v : Windows) (hs : List Held) (c op x y z : ℕ) → shapesOf v ≡ shapesOf w
-    → turnOn (wholeOf w) v (statesHeld hs) c (step op x y z) ≡ mapOutcome (λ t. set (statesHeld hs) c t) (stepOf v (heldState (heldBy hs c)) op x y z)
+pub turned-item : (w v : Windows) (ss : List State) (c : ℕ) (i : Item) → shapesOf v ≡ shapesOf w
+    → turnOn (wholeOf w) v ss c i ≡ mapOutcome (λ t. set ss c t) (stepOn both mmix (taskOf ss c) v i)
 unfolding shapesOf shapeOf
+turned-item w v ss c i e = turn-whole (shapesOf w) c ss v i e
+
+turned : (w v : Windows) (hs : List Held) (c op x y z : ℕ) → shapesOf v ≡ shapesOf w
+    → turnOn (wholeOf w) v (statesHeld hs) c (step op x y z) ≡ mapOutcome (λ t. set (statesHeld hs) c t) (stepOf v (heldState (heldBy hs c)) op x y z)
 turned w v hs c op x y z e =
-    turn-whole (shapesOf w) c (statesHeld hs) v (step op x y z) e
+    turned-item w v (statesHeld hs) c (step op x y z) e
     ∙ ap (λ (s : State). mapOutcome (λ t. set (statesHeld hs) c t) (stepOn both mmix s v (step op x y z))) (task-held hs c)
     ∙ (unfold stepOn mmix stepOf itemPlan both in refl)
+
+-- what a call of one item by task c leaves, as a turn
+pub record CallMade (hs : List Held) (w : Windows) (c : ℕ) (i : Item) (a : TaskMade) : Type 0 where
+  pub reply-is : a .reply ≡ turnOn (wholeOf w) w (statesHeld hs) c i .reply
+  pub states-are : statesHeld (a .held) ≡ turnOn (wholeOf w) w (statesHeld hs) c i .state
+  pub window-is : a .window ≡ turnOn (wholeOf w) w (statesHeld hs) c i .memory
+  pub whole : AllIntact (a .held)
+  pub bytes : Bytes (a .window)
+  pub count : length (a .held) ≡ length hs
+  pub its : ItemMade (heldBy hs c) w i (a .reply) (heldBy (a .held) c) (a .window)
+
+pub item-called : (hs : List Held) (w : Windows) (c : ℕ) (i : Item) (e : Entry) (a : TaskMade) → AllIntact hs → Bytes w → Fits i
+    → askedBy e (a .reply) (a .count) ≡ i ∷ [] → AloneMet hs w c e a → CallMade hs w c i a
+unfolding turnsOf runs AllFit mapOutcome
+item-called hs w c i e a h b f asks met =
+    let t : AsTurns hs w (turn c (wholeOf w) i ∷ []) (a .held) (a .window)
+    = subst (λ (is : List Item). AsTurns hs w (turnsOf c (wholeOf w) is) (a .held) (a .window)) asks (alone-made hs w c e a h b (subst AllFit (sym asks) (f, tt)) met) in
+    let m : Made = record { entry = e; reply = a .reply; count = a .count; held = heldBy (a .held) c; window = a .window } in
+    let s : ItemMade (heldBy hs c) w i (a .reply) (heldBy (a .held) c) (a .window) = item-made (heldBy hs c) w m i (h c (met .there)) b asks f (met .contract) in
+    record {
+      reply-is = s .reply-is ∙ sym (ap (λ (o : Outcome (List State) Windows). o .reply) (turned-item w w (statesHeld hs) c i refl)
+          ∙ ap (λ (q : State). stepOn both mmix q w i .reply) (task-held hs c));
+      states-are = t .states-are;
+      window-is = t .window-is;
+      whole = t .whole;
+      bytes = t .bytes;
+      count = t .count;
+      its = s;
+    }
 
 -- no turn changes the windows' bases or lengths
 pub turns-shape : (is : List Turn) (ss : List State) (w : Windows) → shapesOf (runs both studies ss w is .memory) ≡ shapesOf w

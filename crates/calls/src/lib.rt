@@ -1,1 +1,1 @@
-//! Demand 3 as a host meets it with several tasks: no code, only the theorem about lists of calls of the C functions.
+//! Demand 3 and a parked context as a host meets them with several tasks: no code, only the theorems about lists of calls of the C functions.
