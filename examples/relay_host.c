@@ -1,8 +1,9 @@
 /* A relay host. It keeps the direction of feed in a local of the caller, calls the feed routine some levels deep, parks the
  * whole context while a case is worked, comes back, and shows that the direction is as it was. Its curves and texts live low
  * in memory, in window A, and the calls' stack in window B. It loads a study's registers in one call, hides the kernel's from
- * it, takes a point, tries an alternative and returns to it, and runs eight studies by turns. On the way it meets what a host meets: a curve kept in A, a trip, a system call to serve, a
- * halt, a jump to patch, a window too small, windows that share, steps in place.
+ * it, takes a point, tries an alternative and returns to it, and runs eight studies by turns while its own context is parked. On the way it
+ * meets what a host meets: a curve kept in A, a trip, a system call to serve, a halt, a jump to patch, a window too small, windows that share,
+ * steps in place.
  *
  *     make host
  */
@@ -128,6 +129,18 @@ static void hide_the_kernel(void)
     set_octabyte(MMIX_AT_HALT, 0);
 }
 
+/* Ends unless every register is as it was. */
+static void as_before(const uint8_t before[MMIX_IMAGE_LEN])
+{
+    for (unsigned k = 0; k < 256; k++)
+        if (memcmp(before + MMIX_AT_GENERAL(k), image + MMIX_AT_GENERAL(k), 8) != 0)
+            end("a general register is not as it was");
+    for (unsigned k = 0; k < 32; k++)
+        if (memcmp(before + MMIX_AT_SPECIAL(k), image + MMIX_AT_SPECIAL(k), 8) != 0)
+            end(mmix_special_name(k));
+    printf("%-28s all 256 general and 32 special ones\n", "registers as before");
+}
+
 /* Parks the context at the top of the stack in $255, works another case, and takes the context up again. */
 static void work_another_case(void)
 {
@@ -151,13 +164,7 @@ static void work_another_case(void)
     step("the other case: POP", MMIX_OP_POP, 0, 0, 0);
 
     step("UNSAVE $255: take up", MMIX_OP_UNSAVE, 0, 0, 255);
-    for (unsigned k = 0; k < 256; k++)
-        if (memcmp(before + MMIX_AT_GENERAL(k), image + MMIX_AT_GENERAL(k), 8) != 0)
-            end("a general register is not as it was");
-    for (unsigned k = 0; k < 32; k++)
-        if (memcmp(before + MMIX_AT_SPECIAL(k), image + MMIX_AT_SPECIAL(k), 8) != 0)
-            end(mmix_special_name(k));
-    printf("%-28s all 256 general and 32 special ones\n", "registers as before");
+    as_before(before);
 }
 
 /* A margin of a relay's curve, kept in A as a tetra and read back with its sign; and a seventh of it. */
@@ -276,8 +283,8 @@ static void patch_a_jump(void)
 }
 
 /* Eight studies on one machine: the program, in A, sums the margins 1 to $0 of a study by a routine that calls itself, and each study has its
- * calls' stack in a part of B. One study goes too deep and asks for its neighbour's part: it is stopped, and the others are not touched. */
-static void run_eight_studies(void)
+ * calls' stack in a part of B, from a byte of it on. One study goes too deep and asks for its neighbour's part: it is stopped, and the others are not touched. */
+static void run_eight_studies(uint64_t from)
 {
     enum { STUDIES = MMIX_TASKS_MAX, PROGRAM_AT = 0x600, PART_LEN = 256, TURN = 5, GRANT = 1000 };
     static const uint8_t program[] = {
@@ -300,7 +307,7 @@ static void run_eight_studies(void)
     memcpy(low + PROGRAM_AT, program, sizeof program);
     for (size_t k = 0; k < STUDIES; k++) {
         uint8_t *at = images + k * MMIX_IMAGE_LEN;
-        parts[2 * k] = k * PART_LEN;
+        parts[2 * k] = from + k * PART_LEN;
         parts[2 * k + 1] = PART_LEN;
         if (mmix_initialize(at, MMIX_IMAGE_LEN) != MMIX_DONE || mmix_decode(at, MMIX_IMAGE_LEN, &study) != MMIX_DONE)
             end("no image of a study");
@@ -332,6 +339,20 @@ static void run_eight_studies(void)
     printf("%-28s %" PRIu64 " instructions, %d a turn\n", "eight studies", total, TURN);
     if (refusals[3] != MMIX_FOREIGN)
         end("a study reached into another's part");
+}
+
+/* Parks the context while eight studies run in the rest of B: none of them needs an octabyte of it, so it is taken up again as it was. */
+static void park_during_studies(void)
+{
+    uint8_t before[MMIX_IMAGE_LEN];
+
+    memcpy(before, image, sizeof image);
+    step("SAVE $255: park", MMIX_OP_SAVE, 255, 0, 0);
+    uint64_t parked = special(MMIX_RO) - MMIX_STACK_START;
+    printf("%-28s window B, bytes 0 to %" PRIu64 "\n", "parked while studies run", parked);
+    run_eight_studies(parked);
+    step("UNSAVE $255: take up", MMIX_OP_UNSAVE, 0, 0, 255);
+    as_before(before);
 }
 
 /* Calls and returns on numbers of the host: the struct lent whole, then its parts. */
@@ -385,7 +406,7 @@ int main(void)
     for (int level = DEPTH; level >= 1; level--)
         step("POP", MMIX_OP_POP, 0, 0, 0);
     step_in_place();
-    run_eight_studies();
+    park_during_studies();
 
     /* what a host meets when it asks for what is not there */
     struct mmix_windows small = mmix_one_window(MMIX_STACK_START, stack, 8), sharing = lent;
