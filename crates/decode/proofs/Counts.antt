@@ -9,7 +9,7 @@ use mir.Syntax.{w64}
 use mir.Val.{SFits, toZ, ofZ}
 use mir.ValLaws.{toZ-ofZ}
 use borrow.Author.Tests.{lt-ltb, ltb-true, eq-eqb, ne-eqb}
-use Rattle.model.specs.Opcodes.{Way, wayOf, forward, backward}
+use Rattle.model.specs.Opcodes.{Direction, directionOf, forward, backward}
 use Rattle.model.specs.Control.{targetOf}
 use Rattle.decode.specs.Counts.{countOf, applied, movedBy}
 
@@ -92,22 +92,22 @@ module _ (op size f : ℕ) (l : f < size) (h : size ≤ 2 ^ 24) where
   pub behind-fits : SFits w64 (toZ w64 f -ℤ toZ w64 size)
   behind-fits = rw (behind f size l h) (record { sfits = omega arith })
 
-  pub count-ahead : op % 2 ≡ 0 → toZ w64 f ≡ countOf (wayOf op) size f
+  pub count-ahead : op % 2 ≡ 0 → toZ w64 f ≡ countOf (directionOf op) size f
   unfolding countOf
   count-ahead e = plain f (omega arith) ∙ sym (ap (λ (t : Bool). countOf (cond t forward backward) size f) (eq-eqb (op % 2) 0 e))
 
-  pub count-back : (op % 2 ≡ 0 → ⊥) → toZ w64 (ofZ w64 (toZ w64 f -ℤ toZ w64 size)) ≡ countOf (wayOf op) size f
+  pub count-back : (op % 2 ≡ 0 → ⊥) → toZ w64 (ofZ w64 (toZ w64 f -ℤ toZ w64 size)) ≡ countOf (directionOf op) size f
   unfolding countOf
   count-back e =
       rw (behind f size l h) (read-back (negsuc (size - suc f)) (omega arith))
       ∙ sym (ap (λ (t : Bool). countOf (cond t forward backward) size f) (ne-eqb (op % 2) 0 e))
 
-module _ (w : Way) (size f : ℕ) (l : f < size) (h : size ≤ 2 ^ 24) where
+module _ (w : Direction) (size f : ℕ) (l : f < size) (h : size ≤ 2 ^ 24) where
   count-small : mag (countOf w size f) < 2 ^ 24
   unfolding countOf
   count-small = go w
     where
-      go : (u : Way) → mag (countOf u size f) < 2 ^ 24
+      go : (u : Direction) → mag (countOf u size f) < 2 ^ 24
       go forward = omega arith
       go backward = omega arith
 
@@ -123,7 +123,7 @@ module _ (w : Way) (size f : ℕ) (l : f < size) (h : size ≤ 2 ^ 24) where
     unfolding countOf applied movedBy targetOf
     passed-target a r q = q ∙ ap (movedBy a) passed ∙ go w
       where
-        go : (u : Way) → movedBy a (countOf u size f) ≡ targetOf a u size f
+        go : (u : Direction) → movedBy a (countOf u size f) ≡ targetOf a u size f
         go forward = refl
         go backward =
             let n : suc (4 * (size - suc f) + 3) ≡ 4 * (size - f) = omega arith in

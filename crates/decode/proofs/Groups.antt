@@ -8,7 +8,7 @@ use lib.Dec.{leb, eqb}
 use borrow.Author.Tests.{leb-true, lt-leb, eqb-true, ne-eqb}
 use mir.Val.{hasKey}
 use Rattle.model.specs.Opcodes.{firstBranch, lastBranch, firstLoad, lastLoad, firstStore, lastStore, firstArithmetic, lastArithmetic}
-use Rattle.model.specs.Opcodes.{branch, load, store, arithmetic, operationOf, firstOf, wayOf, conditionOf, widthOf, signOf, lastOf, among, armOf}
+use Rattle.model.specs.Opcodes.{branch, load, store, arithmetic, operationOf, firstOf, directionOf, conditionOf, widthOf, signOf, lastOf, among, armOf}
 use Rattle.model.proofs.Bools.{and-left, and-right}
 
 -- what a match has learnt, after N, where it met none of its keys
@@ -42,7 +42,7 @@ module _ (op : ℕ) where
   below : (a b c d : ℕ) → d < a → among c d op ≡ true → among a b op ≡ false
   below a b c d l h = let k : op ≤ d = leb-true op d (and-right (leb c op) _ h) in ap (λ (t : Bool). t && leb op b) (lt-leb a op (omega arith))
 
-  pub branch-arm : among firstBranch lastBranch op ≡ true → armOf op ≡ branch (conditionOf op) (wayOf op)
+  pub branch-arm : among firstBranch lastBranch op ≡ true → armOf op ≡ branch (conditionOf op) (directionOf op)
   unfolding armOf
   branch-arm h = rw h
 

@@ -1,10 +1,10 @@
 -- A field as a signed count of tetras, and the address that a count leads to.
 use Prim.Native.Nat.{ℕ, suc, _+_, _-_, _%_, _^_}
 use lib.IntN.{ℤ, pos, negsuc, _*ℤ_}
-use Rattle.model.specs.Opcodes.{Way, forward, backward}
+use Rattle.model.specs.Opcodes.{Direction, forward, backward}
 
 -- of a field f, one of `size` values: f itself forward, f − size backward
-unfoldable pub countOf : Way → ℕ → ℕ → ℤ
+unfoldable pub countOf : Direction → ℕ → ℕ → ℤ
 countOf forward size f = pos f
 countOf backward size f = negsuc (size - suc f)
 

@@ -2,7 +2,7 @@
 ghost use mathlib.Core.Path.{_≡_};
 ghost use Prim.Native.Nat.{_+_, _%_, _^_, _<_, _≤_};
 ghost use lib.Signed.{mag};
-ghost use Rattle.model.specs.Opcodes.{wayOf, conditionOf};
+ghost use Rattle.model.specs.Opcodes.{directionOf, conditionOf};
 ghost use Rattle.model.specs.Control.{branchFields, jumpFields, yzOf, xyzOf, targetOf, holds};
 ghost use Rattle.decode.specs.Counts.{countOf, movedBy};
 
@@ -33,7 +33,7 @@ fn move_by(pc: u64, count: i64) -> u64
 /// A field of `size` values as a signed count: itself where the opcode is even; field − size, a negative one, where it is odd.
 fn count_of(op: u8, size: u64, field: u64) -> i64
     requires { ⌜ (field < size) × (size ≤ 2 ^ 24) ⌝ }
-    ensures { λ r. ⌜ r ≡ countOf (wayOf op) size field ⌝ }
+    ensures { λ r. ⌜ r ≡ countOf (directionOf op) size field ⌝ }
 {
     if op % 2 == 0 {
         return field as i64;
@@ -43,7 +43,7 @@ fn count_of(op: u8, size: u64, field: u64) -> i64
 
 /// The target of a field YZ: an odd opcode's is YZ − 65536, a negative count.
 pub fn near(pc: u64, op: u8, y: u8, z: u8) -> u64
-    ensures { λ r. ⌜ r ≡ targetOf pc (wayOf op) branchFields (yzOf y z) ⌝ }
+    ensures { λ r. ⌜ r ≡ targetOf pc (directionOf op) branchFields (yzOf y z) ⌝ }
 {
     let field = 256 * (y as u64) + z as u64;
     move_by(pc, count_of(op, BRANCH_FIELDS, field))
@@ -51,7 +51,7 @@ pub fn near(pc: u64, op: u8, y: u8, z: u8) -> u64
 
 /// The target of a field XYZ: an odd opcode's is XYZ − 16777216, a negative count.
 pub fn far(pc: u64, op: u8, x: u8, y: u8, z: u8) -> u64
-    ensures { λ r. ⌜ r ≡ targetOf pc (wayOf op) jumpFields (xyzOf x y z) ⌝ }
+    ensures { λ r. ⌜ r ≡ targetOf pc (directionOf op) jumpFields (xyzOf x y z) ⌝ }
 {
     let field = 65536 * (x as u64) + (256 * (y as u64) + z as u64);
     move_by(pc, count_of(op, JUMP_FIELDS, field))

@@ -15,7 +15,7 @@ use Rattle.model.specs.Fill.{tab}
 use Rattle.model.specs.Registers.{rG, rL, rA, rJ, sp, reg, hides, admissible, goes, following, next, halted, withSpecial, setRegister, putLocals, putGlobals}
 use Rattle.model.specs.Memory.{Windows, Shapes, shapesOf, ruled, shares, inside, both}
 use Rattle.model.specs.Plan.{Plan, answer, read, Outcome, perform, worst, clear, looks, puts, named}
-use Rattle.model.specs.Opcodes.{Width, Sign, signed, unsigned, Arm, Way, forward, backward, Operand, register, immediate, branch, jump, getAddress, go, pushJump, pushGo, pop, put, get, save, unsave, sync, swym, trip, trap, load, store, arithmetic, none, armOf}
+use Rattle.model.specs.Opcodes.{Width, Sign, signed, unsigned, Arm, Direction, forward, backward, Operand, register, immediate, branch, jump, getAddress, go, pushJump, pushGo, pop, put, get, save, unsave, sync, swym, trip, trap, load, store, arithmetic, none, armOf}
 use Rattle.model.specs.NoMemory.{say, Said, tell}
 use Rattle.model.specs.Control.{branchFields, jumpFields, targetOf, near, far, yzOf, xyzOf, sumOf, operandOf, holds}
 use Rattle.model.specs.Frames.{hole, framed, pushed, pushFrame, popped, popTo, popRule, noFrame, misplaced, popFrame}
@@ -76,7 +76,7 @@ pub record MeetsInterrupt (s : State) (W : ℕ → Type 0) (R : ℕ → State �
 small : (n : ℕ) → n % 2 ^ 64 < 2 ^ 64
 small n = omega arith
 
-target-small : (a : ℕ) (d : Way) (size f : ℕ) → targetOf a d size f < 2 ^ 64
+target-small : (a : ℕ) (d : Direction) (size f : ℕ) → targetOf a d size f < 2 ^ 64
 unfolding targetOf
 target-small a forward size f = small _
 target-small a backward size f = small _

@@ -8,7 +8,7 @@ use lib.Dec.{leb, ltb, eqb}
 use borrow.Author.Tests.{eqb-true, ltb-true, leb-true, eq-eqb, lt-ltb, le-ltb, le-leb}
 use Rattle.model.specs.Memory.{Windows}
 use Rattle.model.specs.Registers.{reg, goes}
-use Rattle.model.specs.Opcodes.{Condition, Way, forward, backward, branch, jump, armOf}
+use Rattle.model.specs.Opcodes.{Condition, Direction, forward, backward, branch, jump, armOf}
 use Rattle.model.specs.NoMemory.{say}
 use Rattle.model.specs.Control.{yzOf, xyzOf, branchFields, jumpFields, targetOf, near, far, holds}
 use Rattle.model.specs.Step.{refusalOf, planOf, stepOf}
@@ -24,16 +24,16 @@ use Rattle.model.proofs.StepByArm.{passing, step-told}
 -- ---- distances
 
 -- by how much a field moves an address up, modulo 2^64
-unfoldable stride : Way → ℕ → ℕ → ℕ
+unfoldable stride : Direction → ℕ → ℕ → ℕ
 stride forward size f = 4 * f
 stride backward size f = 2 ^ 64 - 4 * (size - f)
 
-target-stride : (from : ℕ) (w : Way) (size f : ℕ) → targetOf from w size f ≡ (from + stride w size f) % 2 ^ 64
+target-stride : (from : ℕ) (w : Direction) (size f : ℕ) → targetOf from w size f ≡ (from + stride w size f) % 2 ^ 64
 unfolding targetOf stride
 target-stride from forward size f = refl
 target-stride from backward size f = refl
 
-stride-small : (w : Way) (size f : ℕ) → size ≤ 2 ^ 61 → f < size → stride w size f < 2 ^ 64
+stride-small : (w : Direction) (size f : ℕ) → size ≤ 2 ^ 61 → f < size → stride w size f < 2 ^ 64
 unfolding stride
 stride-small forward size f h l = omega arith
 stride-small backward size f h l = omega arith
@@ -48,7 +48,7 @@ module _ (from to d : ℕ) (a : from < 2 ^ 64) (b : to < 2 ^ 64) where
 -- ---- a distance and its pair
 
 module _ (size d : ℕ) (h : size ≤ 2 ^ 61) (dl : d < 2 ^ 64) where
-  pair-stride : (w : Way) (f : ℕ) → fieldAt size d ≡ pair w f → (f < size) × (d ≡ stride w size f)
+  pair-stride : (w : Direction) (f : ℕ) → fieldAt size d ≡ pair w f → (f < size) × (d ≡ stride w size f)
   unfolding fieldAt stride
   pair-stride w f =
       on (λ (r : Reach). r ≡ pair w f → (f < size) × (d ≡ stride w size f)) (eqb (d % 4) 0)
@@ -56,19 +56,19 @@ module _ (size d : ℕ) (h : size ≤ 2 ^ 61) (dl : d < 2 ^ 64) where
       (λ k. on (λ (r : Reach). r ≡ pair w f → (f < size) × (d ≡ stride w size f)) (leb (2 ^ 62 - size) (d / 4)) (λ m. behind w (eqb-true (d % 4) 0 e) (leb-true (2 ^ 62 - size) (d / 4) m)) (λ m. never w)))
       (λ e. never w)
     where
-      ahead : (u : Way) → d % 4 ≡ 0 → d / 4 < size → Forward (d / 4) ≡ pair u f → (f < size) × (d ≡ stride u size f)
+      ahead : (u : Direction) → d % 4 ≡ 0 → d / 4 < size → Forward (d / 4) ≡ pair u f → (f < size) × (d ≡ stride u size f)
       ahead forward e k p = let q : d / 4 ≡ f = cc in (omega arith, omega arith)
       ahead backward e k p = absurd (let q : _≡_ {A = ℕ} 0 1 = cc in omega arith)
 
-      behind : (u : Way) → d % 4 ≡ 0 → 2 ^ 62 - size ≤ d / 4 → Backward (d / 4 - (2 ^ 62 - size)) ≡ pair u f → (f < size) × (d ≡ stride u size f)
+      behind : (u : Direction) → d % 4 ≡ 0 → 2 ^ 62 - size ≤ d / 4 → Backward (d / 4 - (2 ^ 62 - size)) ≡ pair u f → (f < size) × (d ≡ stride u size f)
       behind forward e k p = absurd (let q : _≡_ {A = ℕ} 0 1 = cc in omega arith)
       behind backward e k p = let q : d / 4 - (2 ^ 62 - size) ≡ f = cc in (omega arith, omega arith)
 
-      never : (u : Way) → Neither ≡ pair u f → (f < size) × (d ≡ stride u size f)
+      never : (u : Direction) → Neither ≡ pair u f → (f < size) × (d ≡ stride u size f)
       never forward p = absurd (let q : _≡_ {A = ℕ} 0 1 = cc in omega arith)
       never backward p = absurd (let q : _≡_ {A = ℕ} 0 1 = cc in omega arith)
 
-  stride-pair : (w : Way) (f : ℕ) → f < size → d ≡ stride w size f → fieldAt size d ≡ pair w f
+  stride-pair : (w : Direction) (f : ℕ) → f < size → d ≡ stride w size f → fieldAt size d ≡ pair w f
   unfolding fieldAt stride
   stride-pair forward f l e = rw (eq-eqb (d % 4) 0 (omega arith), lt-ltb (d / 4) size (omega arith)) (ap Forward (omega arith))
   stride-pair backward f l e =
@@ -76,13 +76,13 @@ module _ (size d : ℕ) (h : size ≤ 2 ^ 61) (dl : d < 2 ^ 64) where
 
 -- ---- addresses
 
-same-pair : (u v : Way) (f g : ℕ) → pair u f ≡ pair v g → (u ≡ v) × (f ≡ g)
+same-pair : (u v : Direction) (f g : ℕ) → pair u f ≡ pair v g → (u ≡ v) × (f ≡ g)
 same-pair forward forward f g p = (refl, cc)
 same-pair backward backward f g p = (refl, cc)
 same-pair forward backward f g p = absurd (let q : _≡_ {A = ℕ} 0 1 = cc in omega arith)
 same-pair backward forward f g p = absurd (let q : _≡_ {A = ℕ} 0 1 = cc in omega arith)
 
-no-pair : (u : Way) (f : ℕ) → Neither ≢ pair u f
+no-pair : (u : Direction) (f : ℕ) → Neither ≢ pair u f
 no-pair forward f p = let q : _≡_ {A = ℕ} 0 1 = cc in omega arith
 no-pair backward f p = let q : _≡_ {A = ℕ} 0 1 = cc in omega arith
 
@@ -90,13 +90,13 @@ distance-small : (from to : ℕ) → distance from to < 2 ^ 64
 distance-small from to = omega arith
 
 module _ (size from to : ℕ) (h : size ≤ 2 ^ 61) (a : from < 2 ^ 64) (b : to < 2 ^ 64) where
-  found : (w : Way) (f : ℕ) → fieldOf size from to ≡ pair w f → (f < size) × (targetOf from w size f ≡ to)
+  found : (w : Direction) (f : ℕ) → fieldOf size from to ≡ pair w f → (f < size) × (targetOf from w size f ≡ to)
   unfolding fieldOf
   found w f p =
       let q : (f < size) × (distance from to ≡ stride w size f) = pair-stride size (distance from to) h (distance-small from to) w f p in
       (q .0, target-stride from w size f ∙ distance-up from to (stride w size f) a b (sym (q .1)))
 
-  all : (w : Way) (f : ℕ) → f < size → targetOf from w size f ≡ to → fieldOf size from to ≡ pair w f
+  all : (w : Direction) (f : ℕ) → f < size → targetOf from w size f ≡ to → fieldOf size from to ≡ pair w f
   unfolding fieldOf
   all w f l e = stride-pair size (distance from to) h (distance-small from to) w f l
       (up-distance from to (stride w size f) a b (stride-small w size f h l) (sym (target-stride from w size f) ∙ e))
@@ -104,7 +104,7 @@ module _ (size from to : ℕ) (h : size ≤ 2 ^ 61) (a : from < 2 ^ 64) (b : to 
   pub reaches : FieldReaches size from to
   reaches = record { found = found; none = λ e w f l t. no-pair w f (sym e ∙ all w f l t); all = all }
 
-target-word : (from : ℕ) (w : Way) (size f : ℕ) → targetOf from w size f < 2 ^ 64
+target-word : (from : ℕ) (w : Direction) (size f : ℕ) → targetOf from w size f < 2 ^ 64
 target-word from w size f = rw (target-stride from w size f) (omega arith)
 
 pub one-pair : (size from : ℕ) → size ≤ 2 ^ 61 → from < 2 ^ 64 → OnePair size from
@@ -113,7 +113,7 @@ one-pair size from h a u v f g l m e =
 
 -- ---- instructions
 
-module _ (s : State) (to : ℕ) (d : Way) (f : ℕ) (a : s .pc < 2 ^ 64) (b : to < 2 ^ 64) where
+module _ (s : State) (to : ℕ) (d : Direction) (f : ℕ) (a : s .pc < 2 ^ 64) (b : to < 2 ^ 64) where
   pub yz-goes : fieldOf branchFields (s .pc) to ≡ pair d f → YzGoes s to d f
   yz-goes p = record { target = target; branches = branches }
     where

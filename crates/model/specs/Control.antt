@@ -3,7 +3,7 @@ use Prim.Native.Nat.{ℕ, _+_, _-_, _*_, _%_, _^_}
 use mathlib.Core.Bool.{Bool, not, _&&_, _||_}
 use lib.Dec.{leb, eqb}
 use Rattle.model.specs.Registers.{reg}
-use Rattle.model.specs.Opcodes.{Condition, negative, isZero, positive, odd, nonNegative, nonZero, nonPositive, even, Way, forward, backward, Operand, register, immediate}
+use Rattle.model.specs.Opcodes.{Condition, negative, isZero, positive, odd, nonNegative, nonZero, nonPositive, even, Direction, forward, backward, Operand, register, immediate}
 use Rattle.model.specs.declared.State.{State}
 
 -- "YZ is 256 × Y + Z and XYZ is 65536 × X + YZ"
@@ -21,16 +21,16 @@ abbrev pub jumpFields : ℕ
 jumpFields = 16777216
 
 -- from address a by 4 × the signed count of a field f, one of `size` values: f itself forward, f − size backward; modulo 2^64
-unfoldable pub targetOf : ℕ → Way → ℕ → ℕ → ℕ
+unfoldable pub targetOf : ℕ → Direction → ℕ → ℕ → ℕ
 targetOf a forward size f = (a + 4 * f) % 2 ^ 64
 targetOf a backward size f = (a + (2 ^ 64 - 4 * (size - f))) % 2 ^ 64
 
 -- "Forward targets are @ + 4 × YZ. A backward field is the negative count YZ − 65536, from −65536 to −1"
-abbrev pub near : State → Way → ℕ → ℕ → ℕ
+abbrev pub near : State → Direction → ℕ → ℕ → ℕ
 near s w y z = targetOf (s .pc) w branchFields (yzOf y z)
 
 -- "JMP uses XYZ, JMPB XYZ − 16777216"
-abbrev pub far : State → Way → ℕ → ℕ → ℕ → ℕ
+abbrev pub far : State → Direction → ℕ → ℕ → ℕ → ℕ
 far s w x y z = targetOf (s .pc) w jumpFields (xyzOf x y z)
 
 abbrev pub operandOf : State → Operand → ℕ → ℕ

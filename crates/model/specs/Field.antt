@@ -4,7 +4,7 @@
 use Prim.Native.Nat.{ℕ, _+_, _-_, _/_, _%_, _^_}
 use mathlib.Core.Bool.{cond}
 use lib.Dec.{leb, ltb, eqb}
-use Rattle.model.specs.Opcodes.{Way, forward, backward}
+use Rattle.model.specs.Opcodes.{Direction, forward, backward}
 use Rattle.model.specs.Numbers.{numberOf}
 use Rattle.model.specs.declared.Reach.{Reach}
 use Rattle.model.specs.declared.Reach.the-variants.{Forward, Backward, Neither}
@@ -26,7 +26,7 @@ unfoldable pub fieldOf : ℕ → ℕ → ℕ → Reach
 fieldOf size from to = fieldAt size (distance from to)
 
 -- a pair of direction and field
-abbrev pub pair : Way → ℕ → Reach
+abbrev pub pair : Direction → ℕ → Reach
 pair forward f = Forward f
 pair backward f = Backward f
 

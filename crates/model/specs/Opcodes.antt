@@ -18,9 +18,9 @@ pub data Condition : Type 0 where
   even : Condition
 
 -- the direction of a relative address
-pub data Way : Type 0 where
-  forward : Way
-  backward : Way
+pub data Direction : Type 0 where
+  forward : Direction
+  backward : Direction
 
 -- the last operand: $Z, or Z itself
 pub data Operand : Type 0 where
@@ -39,11 +39,11 @@ pub data Sign : Type 0 where
   unsigned : Sign
 
 pub data Arm : Type 0 where
-  branch : Condition → Way → Arm
-  jump : Way → Arm
-  getAddress : Way → Arm
+  branch : Condition → Direction → Arm
+  jump : Direction → Arm
+  getAddress : Direction → Arm
   go : Operand → Arm
-  pushJump : Way → Arm
+  pushJump : Direction → Arm
   pushGo : Operand → Arm
   pop : Arm
   put : Operand → Arm
@@ -159,8 +159,8 @@ abbrev conditions : List Condition
 conditions = negative ∷ isZero ∷ positive ∷ odd ∷ nonNegative ∷ nonZero ∷ nonPositive ∷ even ∷ []
 
 -- even opcodes go forward, odd ones backward
-abbrev pub wayOf : ℕ → Way
-wayOf op = cond (eqb (op % 2) 0) forward backward
+abbrev pub directionOf : ℕ → Direction
+directionOf op = cond (eqb (op % 2) 0) forward backward
 
 -- even opcodes take $Z, odd ones Z
 abbrev pub lastOf : ℕ → Operand
@@ -169,7 +169,7 @@ lastOf op = cond (eqb (op % 2) 0) register immediate
 abbrev widths : List Width
 widths = byte ∷ wyde ∷ tetra ∷ octabyte ∷ []
 
--- "size by bits 2 and 3 of the opcode, unsigned by bit 1"
+-- size by bits 2 and 3 of the opcode, unsigned by bit 1
 unfoldable pub widthOf : ℕ → Width
 widthOf op = getD widths (op / 4 % 4) octabyte
 
@@ -221,7 +221,7 @@ firstOf op = cond (among firstNegation lastNegation op) immediate register
 -- 0x40 to 0x4F are the branches, each forward and then backward; "P-branches act as their plain kin": 0x50 to 0x5F in the same order
 unfoldable pub armOf : ℕ → Arm
 armOf op =
-    cond (among firstBranch lastBranch op) (branch (conditionOf op) (wayOf op))
+    cond (among firstBranch lastBranch op) (branch (conditionOf op) (directionOf op))
     (cond (among firstLoad lastLoad op) (load (widthOf op) (signOf op) (lastOf op))
     (cond (among firstStore lastStore op) (store (widthOf op) (signOf op) (lastOf op))
     (cond (among firstArithmetic lastArithmetic op) (arithmetic (operationOf op) (firstOf op) (lastOf op))

@@ -6,7 +6,7 @@ use mathlib.Core.Logic.{_≢_}
 use mathlib.Core.Bool.{true}
 use Rattle.model.specs.Memory.{Windows}
 use Rattle.model.specs.Registers.{reg, goes}
-use Rattle.model.specs.Opcodes.{Condition, Way, branch, jump, armOf}
+use Rattle.model.specs.Opcodes.{Condition, Direction, branch, jump, armOf}
 use Rattle.model.specs.Control.{branchFields, jumpFields, targetOf, near, far, holds}
 use Rattle.model.specs.Step.{stepOf}
 use Rattle.model.specs.Field.{fieldOf, pair, xIn, yIn, zIn}
@@ -16,28 +16,28 @@ use Rattle.model.specs.declared.Reach.the-variants.{Neither}
 
 -- of any two addresses, whatever their low bits are, and of any number of fields up to 2^61, beyond which the two directions would meet
 pub record FieldReaches (size from to : ℕ) : Type 0 where
-  pub found : (w : Way) (f : ℕ) → fieldOf size from to ≡ pair w f → (f < size) × (targetOf from w size f ≡ to)
-  pub none : fieldOf size from to ≡ Neither → (w : Way) (f : ℕ) → f < size → targetOf from w size f ≢ to
+  pub found : (w : Direction) (f : ℕ) → fieldOf size from to ≡ pair w f → (f < size) × (targetOf from w size f ≡ to)
+  pub none : fieldOf size from to ≡ Neither → (w : Direction) (f : ℕ) → f < size → targetOf from w size f ≢ to
   -- each pair that reaches the target is the one that is found
-  pub all : (w : Way) (f : ℕ) → f < size → targetOf from w size f ≡ to → fieldOf size from to ≡ pair w f
+  pub all : (w : Direction) (f : ℕ) → f < size → targetOf from w size f ≡ to → fieldOf size from to ≡ pair w f
 
 -- two pairs that reach the same target from the same address are the same pair
 abbrev pub OnePair : ℕ → ℕ → Type 0
-OnePair size from = (u v : Way) (f g : ℕ) → f < size → g < size → targetOf from u size f ≡ targetOf from v size g → (u ≡ v) × (f ≡ g)
+OnePair size from = (u v : Direction) (f g : ℕ) → f < size → g < size → targetOf from u size f ≡ targetOf from v size g → (u ≡ v) × (f ≡ g)
 
 -- the machine at an address, and a pair that was found for another: what it means to an instruction there
-pub record YzGoes (s : State) (to : ℕ) (d : Way) (f : ℕ) : Type 0 where
+pub record YzGoes (s : State) (to : ℕ) (d : Direction) (f : ℕ) : Type 0 where
   -- a branch, PUSHJ, GETA
   pub target : near s d (yIn f) (zIn f) ≡ to
   pub branches : (w : Windows) (op x : ℕ) (c : Condition) → Passes w s → armOf op ≡ branch c d → holds c (reg s x) ≡ true
       → stepOf w s op x (yIn f) (zIn f) ≡ refusedBy 0 w (goes s to)
 
-pub record XyzGoes (s : State) (to : ℕ) (d : Way) (f : ℕ) : Type 0 where
+pub record XyzGoes (s : State) (to : ℕ) (d : Direction) (f : ℕ) : Type 0 where
   pub target : far s d (xIn f) (yIn f) (zIn f) ≡ to
   pub jumps : (w : Windows) (op : ℕ) → Passes w s → armOf op ≡ jump d → stepOf w s op (xIn f) (yIn f) (zIn f) ≡ refusedBy 0 w (goes s to)
 
 pub record FieldTheorem : Type 0 where
   pub reaches : (size from to : ℕ) → size ≤ 2 ^ 61 → from < 2 ^ 64 → to < 2 ^ 64 → FieldReaches size from to
   pub one-pair : (size from : ℕ) → size ≤ 2 ^ 61 → from < 2 ^ 64 → OnePair size from
-  pub yz-goes : (s : State) (to : ℕ) (d : Way) (f : ℕ) → s .pc < 2 ^ 64 → to < 2 ^ 64 → fieldOf branchFields (s .pc) to ≡ pair d f → YzGoes s to d f
-  pub xyz-goes : (s : State) (to : ℕ) (d : Way) (f : ℕ) → s .pc < 2 ^ 64 → to < 2 ^ 64 → fieldOf jumpFields (s .pc) to ≡ pair d f → XyzGoes s to d f
+  pub yz-goes : (s : State) (to : ℕ) (d : Direction) (f : ℕ) → s .pc < 2 ^ 64 → to < 2 ^ 64 → fieldOf branchFields (s .pc) to ≡ pair d f → YzGoes s to d f
+  pub xyz-goes : (s : State) (to : ℕ) (d : Direction) (f : ℕ) → s .pc < 2 ^ 64 → to < 2 ^ 64 → fieldOf jumpFields (s .pc) to ≡ pair d f → XyzGoes s to d f
