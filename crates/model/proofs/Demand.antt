@@ -13,9 +13,10 @@ use Rattle.model.specs.Plan.{Plan, Outcome, mapOutcome, perform, All, Of
 use Rattle.model.specs.Opcodes.{forward, backward, register, immediate, armOf}
 use Rattle.model.specs.Control.{near, sumOf}
 use Rattle.model.specs.Frames.{hole, pushFrame}
-use Rattle.model.specs.Lists.{Machine, stepOn}
-use Rattle.model.specs.Step.{refusalOf, unruledBy, planOf, refusing, stepPlan, fromThree, stepOf, Item, step, itemPlan, mmix}
-use Rattle.model.specs.Demand.{Within, Call, PUSHJ, PUSHJB, PUSHGO, PUSHGOI, opcodeOf, Alike, Private, Demand3, Demand3Wider}
+use Rattle.model.specs.Lists.{Machine, Ran, stepOn}
+use Rattle.model.specs.Step.{refusalOf, unruledBy, planOf, refusing, stepPlan, fromThree, stepOf, fetchedOf, Item, step, itemPlan, mmix}
+use Rattle.model.specs.Ways.{Way, by-step, by-fetch}
+use Rattle.model.specs.Demand.{Within, Call, PUSHJ, PUSHJB, PUSHGO, PUSHGOI, opcodeOf, Alike, GivesBack, after, popAfter, Private, Demand3, Demand3Wider}
 use Rattle.model.specs.declared.State.{State}
 use Rattle.model.proofs.Plan.{Always, Always-map}
 use Rattle.model.proofs.Entry.{plan-open, guarded-done, sound, mmix-sound}
@@ -24,7 +25,7 @@ use Rattle.model.proofs.Lists.{runTouches-off, runWider-off}
 use Rattle.model.proofs.AdmissibleKept.{Adm, Good, adm}
 use Rattle.model.proofs.ItemInvariant.{item-keeps}
 use Rattle.model.proofs.Invariants.{good-keeps}
-use Rattle.model.proofs.DemandCore.{Caller, Passed, Calls, push-fits, Paired, PrivateIn, touchedBy, reply-of, call-private}
+use Rattle.model.proofs.DemandCore.{Caller, Passed, Calls, push-fits, popOf, GivesBackIn, Paired, PrivateIn, touchedBy, reply-of, call-private}
 
 -- ---- the call
 
@@ -64,7 +65,7 @@ pub admissible-alike : (s t : State) → s .special ≡ t .special → s .marks 
 unfolding admissible
 admissible-alike s t e f g = rw (e, f, g)
 
-call-open : (c : Call) (j : ℕ → ℕ) (w : Windows) (s : State) (x y z : ℕ) → admissible s ≡ true → unruledBy (shapesOf w) ≡ 0
+pub call-open : (c : Call) (j : ℕ → ℕ) (w : Windows) (s : State) (x y z : ℕ) → admissible s ≡ true → unruledBy (shapesOf w) ≡ 0
     → Calls j w s (step (opcodeOf c) x y z) s (hole s x) (targetOfCall c s y z)
 unfolding itemPlan
 call-open c j w s x y z a r =
@@ -126,6 +127,11 @@ mmix-caller = record {
   does-is = mmix-does;
 }
 
+pop-is-back : (h : ℕ) (s : State) (r : Ran State Windows) (u : Way) → GivesBackIn mmix mmix-caller h s (popOf mmix mmix-caller r u) → GivesBack h s (popAfter r u)
+unfolding stepOf fetchedOf stepOn mmix both itemPlan
+pop-is-back h s r (by-step x y z) g = record { done = g .done; locals = g .locals }
+pop-is-back h s r by-fetch g = record { done = g .done; locals = g .locals }
+
 pub private-is : (h : ℕ) (s t : State) (a b : Outcome State Windows) (is : List Item) → PrivateIn mmix mmix-caller h s t a b is → Private h s t a b is
 unfolding stepOf stepOn mmix both itemPlan
 private-is h s t a b is p = record {
@@ -133,8 +139,8 @@ private-is h s t a b is p = record {
   answers-same = p .answers-same;
   state-same = p .states-same;
   window-same = p .window-same;
-  first-back = λ at x y z. record { done = p .first-back at x y z .done; locals = p .first-back at x y z .locals };
-  second-back = λ at x y z. record { done = p .second-back at x y z .done; locals = p .second-back at x y z .locals };
+  first-back = λ at u m. pop-is-back h s (after a is) u (p .first-back at u m);
+  second-back = λ at u m. pop-is-back h t (after b is) u (p .second-back at u m);
 }
 
 pub demand3 : Demand3

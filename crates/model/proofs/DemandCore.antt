@@ -13,17 +13,18 @@ use Rattle.model.specs.Fill.{tab}
 use Rattle.model.specs.Registers.{rJ, rO, rG, stackStart, sp, reg, Sized, Words, admissible, goes, withSpecial, spilled}
 use Rattle.model.specs.Memory.{Windows, Shapes, shapesOf, both}
 use Rattle.model.specs.Plan.{Plan, Outcome, mapOutcome, perform, All, Off, worst, puts, Agree}
-use Rattle.model.specs.Opcodes.{opPOP, armOf}
-use Rattle.model.specs.Control.{yzOf}
+use Rattle.model.specs.Opcodes.{opPOP}
 use Rattle.model.specs.Frames.{framed, pushedRule, pushed, pushFrame, popFrame}
 use Rattle.model.specs.Lists.{Machine, Ran, stepOn, runs}
-use Rattle.model.specs.Step.{refusalOf, unruledBy, planOf, Item, step, itemPlan}
+use Rattle.model.specs.Step.{unruledBy, Item, itemPlan}
+use Rattle.model.specs.Ways.{Way, itemBy, xBy, MetBy}
 use Rattle.model.specs.Demand.{Within, Alike, AtPop, SameOutside}
 use Rattle.model.specs.declared.State.{State}
 use Rattle.model.proofs.Plan.{Kept, Sound, Always, All-map, All-of, puts-shape}
-use Rattle.model.proofs.Entry.{answered, plan-open, bytes-agree}
+use Rattle.model.proofs.Entry.{answered, bytes-agree}
 use Rattle.model.proofs.Memory.{both-lawful}
 use Rattle.model.proofs.Runs.{length-tab}
+use Rattle.model.proofs.Ways.{targetBy, pop-item}
 use Rattle.model.proofs.Lists.{runTouches, SameRun, runs-agree, runs-kept, runTouches-agree, runs-always}
 use Rattle.model.proofs.AdmissibleKept.{Good, adm-of, goes-good, pushed-good}
 use Rattle.model.proofs.PushPop.{called, called-alike, push-from, push-is, push-same, pop-is, pop-reg, push-rO}
@@ -64,11 +65,11 @@ pub push-fits : (j : ℕ → ℕ) (w : Windows) (b s : State) (h u : ℕ) → pe
 unfolding pushFrame
 push-fits j w b s h u d = rw (length-tab (h + 1) 0 (framed s h)) at (answered j b (called s h u) 0 (sp s rO) (tab 0 (h + 1) (framed s h)) w d)
 
-pushed-pc : (s : State) (h u : ℕ) → called s h u .pc ≡ u
+pub pushed-pc : (s : State) (h u : ℕ) → called s h u .pc ≡ u
 unfolding pushed pushedRule spilled withSpecial goes
 pushed-pc s h u = refl
 
-window-shape : (w : Windows) (a : ℕ) (vs : List ℕ) → shapesOf (puts both w a vs) ≡ shapesOf w
+pub window-shape : (w : Windows) (a : ℕ) (vs : List ℕ) → shapesOf (puts both w a vs) ≡ shapesOf w
 unfolding both
 window-shape w a vs = puts-shape both both-lawful vs w a
 
@@ -79,20 +80,19 @@ kept-shape F v w k = k .shape-kept
 place : (r o h : ℕ) → r ≡ (o + 8 * (h + 1)) % 2 ^ 64 → o < 2 ^ 64 → h ≤ 255 → stackStart < r → r ≡ o + 8 * (h + 1)
 place r o h q u m n = omega arith
 
-narrow : (a h : ℕ) (xs : List ℕ) → All (Off (Within a (h + 1))) xs → All (Off (Within a h)) xs
+pub narrow : (a h : ℕ) (xs : List ℕ) → All (Off (Within a (h + 1))) xs → All (Off (Within a h)) xs
 narrow a h xs o = All-map _ _ xs (λ b f e. f (record { place = e .place; place-below = let l : e .place < h = e .place-below in omega arith; named-by = e .named-by })) o
-
-pop-plan : (e : State) (w : Shapes) (x y z : ℕ) → admissible e ≡ true → unruledBy w ≡ 0 → itemPlan e w (step opPOP x y z) ≡ popFrame e x ((sp e rJ + 4 * yzOf y z) % 2 ^ 64)
-unfolding itemPlan planOf armOf refusalOf
-pop-plan e w x y z a r = plan-open w e opPOP x y z a r refl
 
 module _ {S I : Type 0} (mc : Machine S I Shapes) (k : Caller mc) where
   -- what the demand says, in the machine's own terms
   abbrev pub afterIn : Outcome S Windows → List I → Ran S Windows
   afterIn o is = runs both mc (o .state) (o .memory) is
 
-  abbrev pub popOf : Ran S Windows → ℕ → ℕ → ℕ → Outcome S Windows
-  popOf r x y z = stepOn both mc (r .state) (r .memory) (k .does (step opPOP x y z))
+  abbrev pub popOf : Ran S Windows → Way → Outcome S Windows
+  popOf r u = stepOn both mc (r .state) (r .memory) (k .does (itemBy u opPOP))
+
+  abbrev pub PopMetIn : Ran S Windows → Way → Type 0
+  PopMetIn r u = MetBy opPOP (k .judge (shapesOf (r .memory))) (r .memory) (k .get (r .state)) u
 
   pub record GivesBackIn (h : ℕ) (s : State) (o : Outcome S Windows) : Type 0 where
     pub done : o .reply ≡ 0
@@ -103,8 +103,8 @@ module _ {S I : Type 0} (mc : Machine S I Shapes) (k : Caller mc) where
     pub answers-same : afterIn a is .answers ≡ afterIn b is .answers
     pub states-same : afterIn a is .state ≡ afterIn b is .state
     pub window-same : SameOutside (Within (sp s rO) h) (afterIn a is .memory) (afterIn b is .memory)
-    pub first-back : AtPop h (sp (k .get (a .state)) rO) (k .get (afterIn a is .state)) → (x y z : ℕ) → GivesBackIn h s (popOf (afterIn a is) x y z)
-    pub second-back : AtPop h (sp (k .get (a .state)) rO) (k .get (afterIn a is .state)) → (x y z : ℕ) → GivesBackIn h t (popOf (afterIn b is) x y z)
+    pub first-back : AtPop h (sp (k .get (a .state)) rO) (k .get (afterIn a is .state)) → (u : Way) → PopMetIn (afterIn a is) u → GivesBackIn h s (popOf (afterIn a is) u)
+    pub second-back : AtPop h (sp (k .get (a .state)) rO) (k .get (afterIn a is .state)) → (u : Way) → PopMetIn (afterIn b is) u → GivesBackIn h t (popOf (afterIn b is) u)
 
   -- two states of the machine that are equal but for the caller's, and what both runs have before the call
   pub record Paired (ss ts : S) : Type 0 where
@@ -120,15 +120,13 @@ module _ {S I : Type 0} (mc : Machine S I Shapes) (k : Caller mc) where
   abbrev pub touchedBy : Outcome S Windows → List I → List ℕ
   touchedBy o is = runTouches both mc (o .state) (o .memory) is
 
-  abbrev calledBy : Windows → S → State → ℕ → ℕ → Outcome S Windows
+  abbrev pub calledBy : Windows → S → State → ℕ → ℕ → Outcome S Windows
   calledBy w ss s h u = record { reply = 0; state = k .put ss (called s h u); memory = pushedOn w s h u .memory }
 
-  pop-opens : (v : Windows) (es : S) (x y z : ℕ) → admissible (k .get es) ≡ true → unruledBy (shapesOf v) ≡ 0
-      → stepOn both mc es v (k .does (step opPOP x y z))
-      ≡ mapOutcome (k .put es) (perform both (k .judge (shapesOf v)) (k .get es) (popFrame (k .get es) x ((sp (k .get es) rJ + 4 * yzOf y z) % 2 ^ 64)) v)
-  pop-opens v es x y z a r =
-      k .does-is es v (step opPOP x y z)
-      ∙ ap (λ (p : Plan State). mapOutcome (k .put es) (perform both (k .judge (shapesOf v)) (k .get es) p v)) (pop-plan (k .get es) (shapesOf v) x y z a r)
+  pop-opens : (v : Windows) (es : S) (u : Way) → admissible (k .get es) ≡ true → unruledBy (shapesOf v) ≡ 0 → MetBy opPOP (k .judge (shapesOf v)) v (k .get es) u
+      → stepOn both mc es v (k .does (itemBy u opPOP))
+      ≡ mapOutcome (k .put es) (perform both (k .judge (shapesOf v)) (k .get es) (popFrame (k .get es) (xBy u v (k .get es)) (targetBy u v (k .get es))) v)
+  pop-opens v es u a r m = k .does-is es v (itemBy u opPOP) ∙ ap (mapOutcome (k .put es)) (pop-item (k .judge (shapesOf v)) v (k .get es) u a r m)
 
   sound-at : (w : Windows) → Sound both (k .judge (shapesOf w)) (both .shape w)
   unfolding both
@@ -147,22 +145,22 @@ module _ {S I : Type 0} (mc : Machine S I Shapes) (k : Caller mc) where
     abbrev end : Ran S Windows
     end = afterIn (calledBy w ss s h u) is
 
-    good-end : k .There (end .state) × Good (k .get (end .state))
+    pub good-end : k .There (end .state) × Good (k .get (end .state))
     good-end =
         runs-always both both-lawful mc (λ t. k .There t × Good (k .get t)) (k .keeps) is (k .put ss (called s h u)) (pushedOn w s h u .memory)
         (k .put-there ss (called s h u) there, subst Good (sym (k .get-put ss (called s h u) there)) (goes-good _ u (pushed-good s h good)))
 
     -- no list changes the windows' bases or lengths
-    end-shape : shapesOf (end .memory) ≡ shapesOf w
+    pub end-shape : shapesOf (end .memory) ≡ shapesOf w
     end-shape =
         kept-shape (λ o. ⊥) (pushedOn w s h u .memory) (end .memory)
         (runs-kept both both-lawful mc (λ o. ⊥) (k .all-sound) is (k .put ss (called s h u)) (pushedOn w s h u .memory) (All-of _ (touchedBy (calledBy w ss s h u) is) (λ b x. x)))
         ∙ window-shape w (sp s rO) (tab 0 (h + 1) (framed s h))
 
-    back-core : All (Off (Within (sp s rO) (h + 1))) (touchedBy (calledBy w ss s h u) is)
-        → AtPop h (sp (called s h u) rO) (k .get (end .state)) → (x y z : ℕ) → GivesBackIn h s (popOf end x y z)
+    pub back-core : All (Off (Within (sp s rO) (h + 1))) (touchedBy (calledBy w ss s h u) is)
+        → AtPop h (sp (called s h u) rO) (k .get (end .state)) → (i : Way) → PopMetIn end i → GivesBackIn h s (popOf end i)
     unfolding mapOutcome
-    back-core touched at x y z =
+    back-core touched at i met =
         let es : S = end .state in
         let e : State = k .get es in
         let v : Windows = end .memory in
@@ -177,16 +175,17 @@ module _ {S I : Type 0} (mc : Machine S I Shapes) (k : Caller mc) where
         let b2 : stackStart < sp e rO = rw (at .back) (at .above) in
         let b3 : sp e rO < 2 ^ 63 = rw (at .back) (at .below) in
         let b0 : sp e rO ≡ sp s rO + 8 * (h + 1) = place (sp e rO) (sp s rO) h ro (words .special-word rO) small b2 in
-        let t : ℕ = (sp e rJ + 4 * yzOf y z) % 2 ^ 64 in
-        let op : popOf end x y z ≡ mapOutcome (k .put es) (perform both j e (popFrame e x t) v)
-        = pop-opens v es x y z (adm-of e (ge .admits)) (ap unruledBy end-shape ∙ fine)
+        let x : ℕ = xBy i v e in
+        let t : ℕ = targetBy i v e in
+        let op : popOf end i ≡ mapOutcome (k .put es) (perform both j e (popFrame e x t) v)
+        = pop-opens v es i (adm-of e (ge .admits)) (ap unruledBy end-shape ∙ fine) met
         ∙ ap (λ (q : Shapes). mapOutcome (k .put es) (perform both (k .judge q) e (popFrame e x t) v)) end-shape in
         record {
           done = ap (λ (o : Outcome S Windows). o .reply) op
               ∙ ap (λ (o : Outcome State Windows). o .reply) (pop-is both both-lawful j s e h w v small (sound-at w) fits (words .general-word) kept b0 b1 b2 b3 (at .reach) (ge .admits .g-high) (ge .size) x t);
-          locals = λ i l. ap (λ (o : Outcome S Windows). reg (k .get (o .state)) i) op
-              ∙ ap (λ (q : State). reg q i) (k .get-put es (perform both j e (popFrame e x t) v .state) (good-end .0))
-              ∙ pop-reg both both-lawful j s e h w v small (sound-at w) fits (words .general-word) kept b0 b1 b2 b3 (at .reach) (ge .admits .g-high) (ge .size) x t i l;
+          locals = λ n l. ap (λ (o : Outcome S Windows). reg (k .get (o .state)) n) op
+              ∙ ap (λ (q : State). reg q n) (k .get-put es (perform both j e (popFrame e x t) v .state) (good-end .0))
+              ∙ pop-reg both both-lawful j s e h w v small (sound-at w) fits (words .general-word) kept b0 b1 b2 b3 (at .reach) (ge .admits .g-high) (ge .size) x t n l;
         }
 
   -- ---- two runs

@@ -108,7 +108,7 @@ call-claims PUSHJB = refl
 call-claims PUSHGO = refl
 call-claims PUSHGOI = refl
 
-tetra-alike : (w : Windows) (s t : State) → s .pc ≡ t .pc → tetraOf w s ≡ tetraOf w t
+pub tetra-alike : (w : Windows) (s t : State) → s .pc ≡ t .pc → tetraOf w s ≡ tetraOf w t
 unfolding tetraAt
 tetra-alike w s t e = ap (λ (p : ℕ). operandIn tetra p (look both w p)) e
 
@@ -125,7 +125,7 @@ instruction-calls c s x y z =
     ∙ ap (λ (h : ℕ). pushFrame (claimLocal s x) h (targetOfCall c (claimLocal s x) y z)) (claim-hole s x))
 
 -- a fetched call whose tetra is known
-fetched-calls : (c : Call) (j : ℕ → ℕ) (w : Windows) (s : State) (u : ℕ) → admissible s ≡ true → unruledBy (shapesOf w) ≡ 0 → worst j (s .pc) 1 ≡ 0
+pub fetched-calls : (c : Call) (j : ℕ → ℕ) (w : Windows) (s : State) (u : ℕ) → admissible s ≡ true → unruledBy (shapesOf w) ≡ 0 → worst j (s .pc) 1 ≡ 0
     → tetraOf w s ≡ u → opcodeIn u ≡ opcodeOf c
     → Calls j w s fetched (claimLocal s (xIn u)) (hole s (xIn u)) (targetOfCall c (claimLocal s (xIn u)) (yIn u) (zIn u))
 unfolding itemPlan fetchedPlan tetraPlan looks

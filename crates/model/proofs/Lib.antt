@@ -10,6 +10,7 @@ pub mod Apart
 pub mod Plan
 pub mod Runs
 pub mod Lists
+pub mod Split
 pub mod RunLaws
 pub mod Numbers
 pub mod AdmissibleKept
@@ -29,6 +30,8 @@ pub mod Invariants
 pub mod RunMeant
 pub mod RunTurns
 pub mod PushPop
+pub mod Ways
+pub mod Agrees
 pub mod DemandCore
 pub mod Demand
 pub mod DemandFetched
@@ -37,6 +40,7 @@ pub mod FetchedLeaves
 pub mod Leaves
 pub mod StepNeeds
 pub mod Locality
+pub mod Computed
 pub mod Bench
 pub mod RunPoints
 pub mod Rules
@@ -57,3 +61,4 @@ pub mod Related
 pub mod SeenStates
 pub mod SeenArms
 pub mod Unseen
+pub mod Instance

@@ -6,13 +6,14 @@ use mathlib.Core.Path.{_≡_}
 use mathlib.Core.List.{List}
 use lib.ListN.{length, getD}
 use Rattle.model.specs.Octa.{octa}
-use Rattle.model.specs.Memory.{Window, Windows, both}
+use Rattle.model.specs.Memory.{Window, Windows, shapesOf, both}
 use Rattle.model.specs.Opcodes.{opPUSHJ, opPUSHJB, opPUSHGO, opPUSHGOI, opPOP}
 use Rattle.model.specs.Plan.{Outcome, All, Off}
 use Rattle.model.specs.Lists.{Ran, runs, runNeeds, runWiderNeeds}
 use Rattle.model.specs.Registers.{rO, rG, stackStart, sp, reg, Sized, Words, MarginalZero, claimLocal}
 use Rattle.model.specs.Frames.{hole}
-use Rattle.model.specs.Step.{Item, stepOf, opcodeIn, xIn, fetchedOf, tetraOf, mmix}
+use Rattle.model.specs.Step.{Item, refusing, stepOf, opcodeIn, xIn, fetchedOf, tetraOf, mmix}
+use Rattle.model.specs.Ways.{Way, doneBy, MetBy}
 use Rattle.model.specs.declared.State.{State}
 
 -- the octabytes of a run of n from address a
@@ -78,8 +79,13 @@ afterNeeds o is = runNeeds both mmix (o .state) (o .memory) is
 abbrev pub afterWiderNeeds : Outcome State Windows → List Item → List ℕ
 afterWiderNeeds o is = runWiderNeeds both mmix (o .state) (o .memory) is
 
-abbrev pub popAfter : Ran State Windows → ℕ → ℕ → ℕ → Outcome State Windows
-popAfter r x y z = stepOf (r .memory) (r .state) opPOP x y z
+-- by step, or fetched
+abbrev pub popAfter : Ran State Windows → Way → Outcome State Windows
+popAfter r u = doneBy u opPOP (r .memory) (r .state)
+
+-- fetched, the tetra at PC is a POP, and its octabyte is lent
+abbrev pub PopMet : Ran State Windows → Way → Type 0
+PopMet r u = MetBy opPOP (refusing (shapesOf (r .memory))) (r .memory) (r .state) u
 
 -- what holds of the two runs, a and b their outcomes of the call: "the same answers in the same order, the same registers, PC, halt
 -- code and marks, and the same memory outside those locals"; and the POP in each
@@ -88,8 +94,8 @@ pub record Private (h : ℕ) (s t : State) (a b : Outcome State Windows) (is : L
   pub answers-same : after a is .answers ≡ after b is .answers
   pub state-same : after a is .state ≡ after b is .state
   pub window-same : SameOutside (Within (sp s rO) h) (after a is .memory) (after b is .memory)
-  pub first-back : AtPop h (sp (a .state) rO) (after a is .state) → (x y z : ℕ) → GivesBack h s (popAfter (after a is) x y z)
-  pub second-back : AtPop h (sp (a .state) rO) (after a is .state) → (x y z : ℕ) → GivesBack h t (popAfter (after b is) x y z)
+  pub first-back : AtPop h (sp (a .state) rO) (after a is .state) → (u : Way) → PopMet (after a is) u → GivesBack h s (popAfter (after a is) u)
+  pub second-back : AtPop h (sp (a .state) rO) (after a is .state) → (u : Way) → PopMet (after b is) u → GivesBack h t (popAfter (after b is) u)
 
 -- the claim, for a reading of the needs: "take every list of steps and exceptions on the same window, refused ones included, that
 -- needs no octabyte of the call's frame"; "two runs that began alike in all but the locals pushed below the hole, with equal call

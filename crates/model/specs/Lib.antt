@@ -31,6 +31,8 @@ pub mod Invariants
 pub mod Apart
 pub mod Locality
 pub mod StepNeeds
+pub mod Split
+pub mod Ways
 pub mod Demand
 pub mod Bench
 pub mod Points
@@ -41,12 +43,12 @@ pub mod ArithmeticMeant
 pub mod ArithmeticPoints
 pub mod ArithmeticStepPoints
 pub mod Roundtrip
+pub mod Fetched
 pub mod Departures
 pub mod ExceptionExamples
 pub mod DepartureExamples
 pub mod OneRaised
 pub mod Order
-pub mod Fetched
 pub mod RunMeant
 pub mod Reaches
 pub mod PopOrder
