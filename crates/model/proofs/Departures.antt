@@ -1,17 +1,23 @@
 -- The departures one by one, and the theorem: step and rule are equal outside the condition that each departure names. The whole step is in RuleStep.
-use mathlib.Core.Path.{_≡_, refl, sym, _∙_}
+use mathlib.Core.Path.{_≡_, refl, sym, ap, _∙_}
 use mathlib.Core.Logic.{_≢_}
+use mathlib.Core.Bool.{Bool, true, false, cond}
 use mathlib.Core.List.{List}
 use Prim.Native.Nat.{ℕ, _+_, _-_, _%_, _^_, _<_}
 use native.Mathlib.Omega.{arith}
 use lib.ListN.{set}
 use lib.Seq.{set-getD, getD-set-other}
-use Rattle.model.specs.Registers.{withParts, rC, rO, rS, rI, rU, rK, sp, Words, MarginalZero, goes, halted, withSpecial, spilled}
-use Rattle.model.specs.Opcodes.{register, immediate, Arm, branch, jump, getAddress, go, pushJump, pushGo, pop, put, get, save, unsave, sync, swym, trip, trap, load, store, arithmetic, none}
+use Rattle.model.specs.Registers.{withParts, rC, rO, rS, rI, rU, rK, sp, Words, Sized, MarginalZero, goes, halted, withSpecial, claimLocal, spilled}
+use Rattle.model.specs.Memory.{Windows}
+use Rattle.model.specs.Plan.{Outcome, mapOutcome}
+use Rattle.model.specs.Opcodes.{register, immediate, Arm, branch, jump, getAddress, go, pushJump, pushGo, pop, put, get, save, unsave, sync, swym, trip, trap, load, store, arithmetic, none, armOf}
 use Rattle.model.specs.Trips.{trapped, trapRule, trapOf}
-use Rattle.model.specs.Rules.{counted}
-use Rattle.model.specs.Departures.{ReadsAlike, Departures}
+use Rattle.model.specs.Step.{claims, opcodeIn, xIn, yIn, zIn, keepsClaim, settledBy, claimedBy, fetchedOf, tetraOf, claimedAt}
+use Rattle.model.specs.Fetched.{stepSaid, settled, Fetches}
+use Rattle.model.specs.Rules.{goesOn, settledRule, counted}
+use Rattle.model.specs.Departures.{ReadsAlike, Outside, fetchedRule, Departures}
 use Rattle.model.specs.declared.State.{State}
+use Rattle.model.proofs.Fetched.{fetched-is-step}
 use Rattle.model.proofs.Rules.{read-zero, frame-reads, frame-same, got-same, unsave-same}
 use Rattle.model.proofs.RaisedRule.{added-same, trip-same, exception-same}
 use Rattle.model.proofs.RuleStep.{pop-framed, unhidden, step-same, spilled-same, rule-settled}
@@ -87,10 +93,43 @@ count-none s h =
     same : set (set (set (s .special) rC (sp s rC)) rU (sp s rU)) rI (sp s rI) ≡ s .special
     same = rw (set-getD (s .special) rC 0, set-getD (s .special) rU 0) (set-getD (s .special) rI 0)
 
+-- ---- fetched
+
+back-rule : (s : State) (op : ℕ) (o : Outcome State Windows) → claims op ≡ true → mapOutcome goesOn (settled s o) ≡ fetchedRule s op (mapOutcome goesOn o)
+unfolding mapOutcome fetchedRule settledBy
+back-rule s op o e = rw e (λ i. record { reply = o .reply; state = go (keepsClaim (o .reply)) i; memory = o .memory })
+  where
+    go : (b : Bool) → goesOn (cond b (o .state) (withParts (o .state) (s .general) (s .special)))
+        ≡ cond b (goesOn (o .state)) (goesOn (withParts (o .state) (s .general) (s .special)))
+    go true = refl
+    go false = refl
+
+fetched-same : (w : Windows) (s : State) → Sized s → Fetches w s
+    → Outside w (claimedAt w s) (armOf (opcodeIn (tetraOf w s))) (xIn (tetraOf w s)) (yIn (tetraOf w s)) (zIn (tetraOf w s))
+    → mapOutcome goesOn (fetchedOf w s)
+    ≡ fetchedRule s (opcodeIn (tetraOf w s)) (settledRule w (claimedAt w s) (opcodeIn (tetraOf w s)) (xIn (tetraOf w s)) (yIn (tetraOf w s)) (zIn (tetraOf w s)))
+fetched-same w s n f = go (claims (opcodeIn (tetraOf w s))) refl
+  where
+    t : ℕ
+    t = tetraOf w s
+
+    go : (b : Bool) → claims (opcodeIn t) ≡ b → Outside w (claimedAt w s) (armOf (opcodeIn t)) (xIn t) (yIn t) (zIn t)
+        → mapOutcome goesOn (fetchedOf w s) ≡ fetchedRule s (opcodeIn t) (settledRule w (claimedAt w s) (opcodeIn t) (xIn t) (yIn t) (zIn t))
+    go true e h =
+        let its : claimedAt w s ≡ claimLocal s (xIn t) = unfold claimedBy in (rw e) in
+        ap (mapOutcome goesOn) (fetched-is-step .claiming w s n f e) ∙ back-rule s (opcodeIn t) (stepSaid w t (claimLocal s (xIn t))) e
+        ∙ ap (λ (c : State). fetchedRule s (opcodeIn t) (mapOutcome goesOn (stepSaid w t c))) (sym its)
+        ∙ ap (fetchedRule s (opcodeIn t)) (step-same w (claimedAt w s) (opcodeIn t) (xIn t) (yIn t) (zIn t) h)
+    go false e h =
+        let its : claimedAt w s ≡ s = unfold claimedBy in (rw e) in
+        ap (mapOutcome goesOn) (fetched-is-step .unclaiming w s f e ∙ ap (stepSaid w t) (sym its))
+        ∙ step-same w (claimedAt w s) (opcodeIn t) (xIn t) (yIn t) (zIn t) h ∙ sym (unfold fetchedRule in (rw e))
+
 pub departures : Departures
 departures = record {
   by-step = step-same;
   by-step-whole = λ w s op x y z h t. step-same w s op x y z h ∙ rule-settled w s op x y z t;
+  by-fetched = fetched-same;
   by-exception = exception-same;
   read-marginal = read-zero;
   reads-marginal = all-read;

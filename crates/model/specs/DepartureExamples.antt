@@ -194,15 +194,16 @@ tripExamples =
     ∷ plain start nowhere 0 1 0 0 20 (halted (trapRegisters start 0x010000)) (goesOn (handled 0x010000))
     ∷ plain start nowhere 0 0 0 0 4 start (goesOn (handled 0)) ∷ []
 
--- loads and stores: LDO and STO at 2^63; STO of a marginal $0 = 1; STB of 128 with V enabled and no vector loaded
+-- loads and stores: LDO and STO at 2^63; STO of a marginal $0 = 1; STB of 128 with V enabled and no vector loaded; the same at an address with low bits, its
+-- vector loaded, where rY keeps them in both
 abbrev kernel : State
 kernel = stored start 255 (2 ^ 63)
 
-abbrev overflowing : State
-overflowing = stored (stored (withSpecial fresh rA 0x4000) 254 0x80) 255 stackStart
+abbrev overflowing : State → ℕ → State
+overflowing s a = stored (stored (withSpecial s rA 0x4000) 254 0x80) 255 a
 
-abbrev overflown : State
-overflown = withSpecial (withSpecial (tripRegisters (withSpecial (stored overflowing 255 0) rB stackStart) 0xA1FEFF00) rY stackStart) rZ 0x80
+abbrev overflown : State → ℕ → State
+overflown s a = withSpecial (withSpecial (tripRegisters (withSpecial (stored (overflowing s a) 255 0) rB a) 0xA1FEFF00) rY a) rZ 0x80
 
 abbrev loadStoreExamples : List Example
 loadStoreExamples =
@@ -211,8 +212,10 @@ loadStoreExamples =
     ∷ example (stored (stored start 0 1) 255 stackStart) (zeros stackStart 8) 0xAD 0 255 0 0
     (goes (stored (stored start 0 1) 255 stackStart) 4) (holding (zeros stackStart 8) 0 1)
     (goesOn (goes (stored (stored start 0 1) 255 stackStart) 4)) (zeros stackStart 8)
-    ∷ example overflowing (zeros stackStart 8) 0xA1 254 255 0 19 (halted overflown) (holding (zeros stackStart 8) 0 (2 ^ 63))
-    (goesOn (goes overflown 0x20)) (holding (zeros stackStart 8) 0 (2 ^ 63)) ∷ []
+    ∷ example (overflowing fresh stackStart) (zeros stackStart 8) 0xA1 254 255 0 19 (halted (overflown fresh stackStart)) (holding (zeros stackStart 8) 0 (2 ^ 63))
+    (goesOn (goes (overflown fresh stackStart) 0x20)) (holding (zeros stackStart 8) 0 (2 ^ 63))
+    ∷ example (overflowing start (stackStart + 1)) (zeros stackStart 8) 0xA1 254 255 0 0 (goes (overflown start (stackStart + 1)) 0x20) (holding (zeros stackStart 8) 0 (2 ^ 55))
+    (goesOn (goes (overflown start (stackStart + 1)) 0x20)) (holding (zeros stackStart 8) 0 (2 ^ 55)) ∷ []
 
 -- arithmetic: DIV $254 by 0 with D enabled and no vector loaded
 abbrev dividing : ℕ → State

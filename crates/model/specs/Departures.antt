@@ -1,5 +1,5 @@
 -- Theorem 8, "recorded differences apart": where the steps depart from Knuth's rules, step and rule are equal outside the condition that is
--- named with each departure; and so, outside them all, is the whole step, and the whole exception.
+-- named with each departure; and so, outside them all, is the whole step, the fetched instruction, and the whole exception.
 -- docs/DIFFERENCES.md has the smallest example of each; DepartureExamples computes them.
 use Prim.Native.Nat.{ℕ, _+_, _-_, _/_, _%_, _^_, _<_}
 use mathlib.Core.Path.{_≡_}
@@ -8,9 +8,9 @@ use mathlib.Core.Bool.{Bool, true, false, cond, _&&_}
 use lib.Dec.{leb, ltb, eqb}
 use lib.Count.{leadingZeros}
 use Rattle.model.specs.Octa.{octa}
-use Rattle.model.specs.Registers.{rC, rO, rS, rI, rU, rG, rL, rK, sp, reg, hides, Sized, Words, MarginalZero, isMarginal, spilled}
+use Rattle.model.specs.Registers.{withParts, rC, rO, rS, rI, rU, rG, rL, rK, sp, reg, hides, Sized, Words, MarginalZero, isMarginal, spilled}
 use Rattle.model.specs.Memory.{Windows, shapesOf, inside, both}
-use Rattle.model.specs.Plan.{look, mapOutcome, perform}
+use Rattle.model.specs.Plan.{Outcome, look, mapOutcome, perform}
 use Rattle.model.specs.Opcodes.{Operand, register, immediate, Width, Sign, Arm, branch, jump, getAddress, go, pushJump, pushGo, pop, put, get, save, unsave, sync, swym, trip, trap, load, store, arithmetic, none, armOf}
 use Rattle.model.specs.NoMemory.{Said, say}
 use Rattle.model.specs.Control.{xyzOf, sumOf, operandOf, isNegative}
@@ -20,7 +20,8 @@ use Rattle.model.specs.System.{putRefusal, unlessHidden, got, gotRule}
 use Rattle.model.specs.Trips.{isLoaded, tripRule, tripTo, trapRule, trapOf, enabled, added, exactUnderflow, addedRule}
 use Rattle.model.specs.LoadStore.{fits, flagV}
 use Rattle.model.specs.ArithmeticStep.{resultsIn, withResults}
-use Rattle.model.specs.Step.{refusing, stepOf, exceptionOf}
+use Rattle.model.specs.Step.{refusing, stepOf, claims, opcodeIn, xIn, yIn, zIn, keepsClaim, fetchedOf, tetraOf, claimedAt, exceptionOf}
+use Rattle.model.specs.Fetched.{Fetches}
 use Rattle.model.specs.Rules.{readRule, After, goesOn, interrupts, unsaveRule, stepRule, settledRule, exceptionRule, counted}
 use Rattle.model.specs.declared.State.{State}
 use Rattle.model.specs.declared.Operation.{Operation}
@@ -131,6 +132,15 @@ unfoldable pub AtTop : After → Type 0
 AtTop (goesOn t) = sp t rS ≡ sp t rO
 AtTop interrupts = Unit {0}
 
+-- Knuth's outcome of an instruction that was fetched in state s: a refusal by any number but 19 takes its claim back, as here
+abbrev backTo : State → After → After
+backTo s (goesOn t) = goesOn (withParts t (s .general) (s .special))
+backTo s interrupts = interrupts
+
+unfoldable pub fetchedRule : State → ℕ → Outcome After Windows → Outcome After Windows
+fetchedRule s op o =
+    cond (claims op) (record { reply = o .reply; state = cond (keepsClaim (o .reply)) (o .state) (backTo s (o .state)); memory = o .memory }) o
+
 -- ---- the theorem
 
 pub record Departures : Type 0 where
@@ -139,6 +149,11 @@ pub record Departures : Type 0 where
       → mapOutcome goesOn (stepOf w s op x y z) ≡ settledRule w s op x y z
   pub by-step-whole : (w : Windows) (s : State) (op x y z : ℕ) → Outside w s (armOf op) x y z → AtTop (stepRule w s op x y z .state)
       → mapOutcome goesOn (stepOf w s op x y z) ≡ stepRule w s op x y z
+  -- and so is THE FETCHED INSTRUCTION, of the state in which $X is claimed: the conditions are of that state
+  pub by-fetched : (w : Windows) (s : State) → Sized s → Fetches w s
+      → Outside w (claimedAt w s) (armOf (opcodeIn (tetraOf w s))) (xIn (tetraOf w s)) (yIn (tetraOf w s)) (zIn (tetraOf w s))
+      → mapOutcome goesOn (fetchedOf w s)
+      ≡ fetchedRule s (opcodeIn (tetraOf w s)) (settledRule w (claimedAt w s) (opcodeIn (tetraOf w s)) (xIn (tetraOf w s)) (yIn (tetraOf w s)) (zIn (tetraOf w s)))
   -- and so is THE EXCEPTION
   pub by-exception : (s : State) (f op x y z u v : ℕ) → OutsideException s f → exceptionOf s f op x y z u v ≡ exceptionRule s f op x y z u v
   -- one by one. Reading: only where a marginal register is not zero; the frame of PUSH is an instance

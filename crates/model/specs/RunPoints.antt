@@ -158,6 +158,13 @@ claimPoints =
     ∷ fetches 0x83050300 [] (claiming 0x83 4) []
     ∷ fetches 0xF2040001 (1 ∷ 1 ∷ 1 ∷ 1 ∷ 1 ∷ []) calling (0 ∷ 0 ∷ 0 ∷ 0 ∷ 4 ∷ []) ∷ []
 
+-- PUSHJ $1,#8; at 8 POP 0,0; rL 0 and $0 = 7: what the frame keeps, and what comes back, is $0 after the claim
+abbrev marginalCall : List ℕ → Windows
+marginalCall vs = loaded (0xF2010002 ∷ 0 ∷ 0xF8000000 ∷ 0 ∷ []) vs
+
+abbrev marginalPoint : RunPoint
+marginalPoint = point (stored start 0 7) (marginalCall (0 ∷ 0 ∷ [])) 2 2 0 (goes (withSpecial (withSpecial start rL 1) rJ 4) 4) (marginalCall (0 ∷ 1 ∷ []))
+
 unfoldable pub unclaimedPoints : List Point
 unclaimedPoints =
     steps 0xFE050014 [] (claiming 0 4) []
@@ -178,7 +185,7 @@ claimEnds =
     && alls (λ op. not (claims op)) (0x00 ∷ 0x40 ∷ 0x5F ∷ 0x9A ∷ 0x9D ∷ 0xA0 ∷ 0xBD ∷ 0xF0 ∷ 0xF1 ∷ 0xF6 ∷ 0xF9 ∷ 0xFB ∷ 0xFD ∷ 0xFF ∷ [])
 
 unfoldable pub runPoints : List RunPoint
-runPoints = loopPoints ++ (lowPoints ++ (stopPoints ++ claimPoints))
+runPoints = marginalPoint ∷ (loopPoints ++ (lowPoints ++ (stopPoints ++ claimPoints)))
 
 abbrev pub RunPointsMet : Type 0
 RunPointsMet = (allStop runPoints ≡ true) × (allMet unclaimedPoints ≡ true) × (claimEnds ≡ true)
