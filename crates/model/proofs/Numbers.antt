@@ -1,6 +1,6 @@
 -- The numbers of the replies, and their tags, by which code tells the cases of a match.
 use mathlib.Core.Path.{_≡_, refl, ap, _∙_}
-use mathlib.Core.Logic.{_⊎_, inl, inr, ⊎-elim}
+use mathlib.Core.Logic.{_⊎_, inl, inr}
 use mathlib.Core.Bool.{true}
 use mathlib.Core.List.{List, [], _∷_}
 use Prim.Native.Nat.{ℕ, _≤_}
@@ -68,25 +68,12 @@ unhalting n (inr l) (inl h) = omega arith
 unhalting n (inr l) (inr (inl h)) = let e : n ≡ 29 = h in omega arith
 unhalting n (inr l) (inr (inr h)) = let e : n ≡ 31 = h in omega arith
 
-among : (n k : ℕ) → k ≤ 33 → n ≡ k → n ≤ 33
-among n k l e = omega arith
-
--- a step's number is one of 0 to 20, 22, 29 or 31
-pub step-number : (n : ℕ) → (n ≤ 20) ⊎ ((n ≡ 22) ⊎ ((n ≡ 29) ⊎ (n ≡ 31))) → numberOf (replyOf n) ≡ n
-step-number n h = numbered .number-reply n (⊎-elim (λ l. omega arith) (⊎-elim (among n 22 (omega arith)) (⊎-elim (among n 29 (omega arith)) (among n 31 (omega arith)))) h)
-
--- it is not 24
+-- a step's number is one of 0 to 20, 22, 29 or 31: it is not 24
 pub step-fetched : (n : ℕ) → (n ≤ 20) ⊎ ((n ≡ 22) ⊎ ((n ≡ 29) ⊎ (n ≡ 31))) → n ≡ 24 → ⊥
 step-fetched n (inl l) e = omega arith
 step-fetched n (inr (inl f)) e = omega arith
 step-fetched n (inr (inr (inl f))) e = omega arith
 step-fetched n (inr (inr (inr f))) e = omega arith
-
--- a run's is one of these, 24 or 25
-pub run-number : (n : ℕ) → (n ≤ 20) ⊎ ((n ≡ 22) ⊎ ((n ≡ 24) ⊎ ((n ≡ 25) ⊎ ((n ≡ 29) ⊎ (n ≡ 31))))) → numberOf (replyOf n) ≡ n
-run-number n h = numbered .number-reply n
-    (⊎-elim (λ l. omega arith) (⊎-elim (among n 22 (omega arith)) (⊎-elim (among n 24 (omega arith)) (⊎-elim (among n 25 (omega arith))
-    (⊎-elim (among n 29 (omega arith)) (among n 31 (omega arith)))))) h)
 
 -- a reply's tag is its number
 tags : each 34 (λ n. eqb (tagOf the-type (replyOf n)) n) ≡ true
