@@ -14,7 +14,7 @@ use Rattle.model.specs.declared.Results.{Results}
 abbrev pub flagD : ℕ
 flagD = 0x80
 
--- "'overflow' is that the exact whole number is no signed octabyte"
+-- 'overflow' is that the exact whole number is no signed octabyte
 abbrev pub overflowOf : ℤ → ℕ
 overflowOf n = cond (isSigned n) 0 flagV
 
@@ -26,7 +26,7 @@ plain a v = record { x = v; rh = a .rh; rr = a .rr; flags = 0 }
 abbrev pub exact : Operands → ℤ → Results
 exact a n = record { x = octaOf n; rh = a .rh; rr = a .rr; flags = overflowOf n }
 
--- "MULU: rH gets the upper octabyte"
+-- MULU: rH gets the upper octabyte
 abbrev pub multiplied : Operands → Results
 multiplied a = record { x = productLow (a .y) (a .z); rh = productHigh (a .y) (a .z); rr = a .rr; flags = 0 }
 
@@ -38,15 +38,15 @@ parted a q r f = record { x = q; rh = a .rh; rr = r; flags = f }
 abbrev pub floored : Operands → ℤ → ℤ → Results
 floored a y z = parted a (octaOf (floorQuotient y z)) (octaOf (floorRemainder y z)) (overflowOf (floorQuotient y z))
 
--- "DIV: by zero $X is 0, rR is $Y, D"
+-- DIV: by zero $X is 0, rR is $Y, D
 unfoldable pub divided : Operands → Results
 divided a = cond (eqb (a .z) 0) (parted a 0 (a .y) flagD) (floored a (signedOf (a .y)) (signedOf (a .z)))
 
--- "DIVU: divides rD·2^64 + $Y; if rD ≥ $Z, $X is rD and rR is $Y; it raises nothing, by zero neither"
+-- DIVU: divides rD·2^64 + $Y; if rD ≥ $Z, $X is rD and rR is $Y; it raises nothing, by zero neither
 unfoldable pub dividedWide : Operands → Results
 dividedWide a = cond (leb (a .z) (a .rd)) (parted a (a .rd) (a .y) 0) (parted a (wideOf (a .rd) (a .y) / a .z) (wideOf (a .rd) (a .y) % a .z) 0)
 
--- an operation's results and flags. "NEG, NEGU: Y is a constant": 0 + Y − $Z
+-- an operation's results and flags. NEG, NEGU: Y is a constant: 0 + Y − $Z
 unfoldable pub resultsOf : Operation → Operands → Results
 resultsOf Mul a = exact a (signedOf (a .y) *ℤ signedOf (a .z))
 resultsOf Mulu a = multiplied a

@@ -21,7 +21,7 @@ hole s x = cond (leb (sp s rG) x) (sp s rL) x
 unfoldable pub framed : State → ℕ → ℕ → ℕ
 framed s h i = cond (ltb i h) (reg s i) h
 
--- Knuth's frame: a marginal X is claimed first ("if X ≥ rL, rL is increased to X + 1", the new locals zero).
+-- Knuth's frame: a marginal X is claimed first (if X ≥ rL, rL is increased to X + 1, the new locals zero).
 -- Departure: `framed` takes marginal registers as held; they differ only where one below X is not zero.
 unfoldable pub framedRule : State → ℕ → ℕ → ℕ
 framedRule s x i = framed (claimLocal s x) (hole s x) i

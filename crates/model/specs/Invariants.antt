@@ -34,6 +34,6 @@ pub record ItemsKeep : Type 0 where
   pub words : (w : Windows) (s : State) (i : Item) → Fits i → Bytes w → Words s → Words (stepOn both mmix s w i .state)
   -- "no store sets a mark", and nothing else does
   pub marks : (w : Windows) (s : State) (i : Item) → stepOn both mmix s w i .state .marks ≡ s .marks
-  -- "No step changes the mask"
+  -- No step changes the mask
   pub mask : (w : Windows) (s : State) (i : Item) → stepOn both mmix s w i .state .mask ≡ s .mask
   pub bytes : (w : Windows) (s : State) (i : Item) → Bytes w → Bytes (stepOn both mmix s w i .memory)

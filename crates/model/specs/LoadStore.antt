@@ -36,25 +36,25 @@ unitAt d a = 256 ^ (8 - bytesIn d - placeOf d a)
 unfoldable pub operandIn : Width → ℕ → ℕ → ℕ
 operandIn d a v = v / unitAt d a % valuesOf d
 
--- v with the low bytes of u as that operand; "the other bytes of the octabyte stay"
+-- v with the low bytes of u as that operand; the other bytes of the octabyte stay
 unfoldable pub merged : Width → ℕ → ℕ → ℕ → ℕ
 merged d a v u = v - operandIn d a v * unitAt d a + u % valuesOf d * unitAt d a
 
 -- ---- signs
 
--- an operand as an octabyte: "signed ones extend the sign, unsigned ones zero"
+-- an operand as an octabyte: signed ones extend the sign, unsigned ones zero
 unfoldable pub extended : Width → Sign → ℕ → ℕ
 extended d signed u = cond (leb (valuesOf d / 2) u) (u + (2 ^ 64 - valuesOf d)) u
 extended d unsigned u = u
 
--- "a value that does not fit, as a signed number": its low bytes, extended, are another one. Unsigned stores fit all
+-- a value that does not fit, as a signed number: its low bytes, extended, are another one. Unsigned stores fit all
 unfoldable pub fits : Width → Sign → ℕ → Bool
 fits d signed u = eqb (extended d signed (u % valuesOf d)) u
 fits d unsigned u = true
 
 -- ---- the steps, at address a
 
--- "then $X is written (which claims)"
+-- then $X is written (which claims)
 unfoldable pub loadFrom : State → Width → Sign → ℕ → ℕ → Plan State
 loadFrom s d g x a = read 6 a 1 (λ v. answer 0 (next (setRegister s x (extended d g (operandIn d a (getD v 0 0))))) 0 [])
 
@@ -62,11 +62,11 @@ loadFrom s d g x a = read 6 a 1 (λ v. answer 0 (next (setRegister s x (extended
 abbrev pub flagV : ℕ
 flagV = 0x40
 
--- "store it all the same and raise V through the exception step itself": rY is the address, rZ $X
+-- store it all the same and raise V through the exception step itself: rY is the address, rZ $X
 unfoldable pub storeSays : State → Width → Sign → ℕ → ℕ → ℕ → Said
 storeSays s d g x a word = cond (fits d g (reg s x)) (say 0 (next s)) (raised s flagV word a (reg s x))
 
--- "The low bytes of $X, as held before"
+-- The low bytes of $X, as held before
 unfoldable pub storeTo : State → Width → Sign → ℕ → ℕ → ℕ → Plan State
 storeTo s d g x a word =
     read 6 a 1 (λ v. answer (storeSays s d g x a word .reply) (storeSays s d g x a word .state) a (merged d a (getD v 0 0) (reg s x) ∷ []))

@@ -23,7 +23,7 @@ shapeOf w = record { from = w .base; size = length (w .bytes) }
 abbrev pub windowMax : ℕ
 windowMax = 1048576
 
--- "Its length is a multiple of 8, from 0 to 1,048,576; its base is a multiple of 8" (and, as an address, below 2^64)
+-- Its length is a multiple of 8, from 0 to 1,048,576; its base is a multiple of 8 (and, as an address, below 2^64)
 unfoldable pub ruledOne : Shape → Bool
 ruledOne w = eqb (w .from % 8) 0 && (ltb (w .from) (2 ^ 64) && (eqb (w .size % 8) 0 && leb (w .size) windowMax))
 

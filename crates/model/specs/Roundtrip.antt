@@ -51,7 +51,7 @@ abbrev pub unsaveAfter : Outcome State Windows → ℕ → ℕ → ℕ → Outco
 unsaveAfter o x y z = stepOf (o .memory) (o .state) opUNSAVE y z x
 
 pub record ContextsKept : Type 0 where
-  -- "The reader's reply is, for every admissible state whose $Z is the address and every ruled window, UNSAVE's own", and for every other window too;
+  -- The reader's reply is, for every admissible state whose $Z is the address and every ruled window, UNSAVE's own, and for every other window too;
   -- but 23 where UNSAVE is done and the context lies across both
   pub reader-reply : (w : Windows) (s : State) (x y z : ℕ) → admissible s ≡ true
       → readContext w (reg s z) .reply

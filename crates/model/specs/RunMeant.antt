@@ -52,7 +52,7 @@ pub record RunIsMeant : Type 0 where
   -- "The count is that of the definition's steps": state, memory and answers are those of the list of fetched instructions that were tried
   pub listed : (w : Windows) (s : State) (grant : ℕ) → CallPasses w s grant → Listed w s (runOf w s grant)
 
--- "1, 2, 22 and 25 judged once, in this order", each whatever the later ones would say: the call is refused whole
+-- 1, 2, 22 and 25 judged once, in this order, each whatever the later ones would say: the call is refused whole
 pub record RunsInOrder : Type 0 where
   pub one-first : (w : Windows) (s : State) (grant : ℕ) → admissible s ≡ false → runOf w s grant ≡ refusedWhole 1 w s
   pub two-next : (w : Windows) (s : State) (grant : ℕ) → admissible s ≡ true → ruled (shapesOf w) ≡ false → runOf w s grant ≡ refusedWhole 2 w s

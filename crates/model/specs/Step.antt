@@ -84,7 +84,7 @@ planOf s swym op x y z = tell (say 0 (next s))
 -- "TRIP's vector is 0; the operands of TRIP and TRAP are $Y and $Z from before"
 planOf s trip op x y z = tell (tripTo s 0 (wordOf op x y z) (reg s y) (reg s z))
 planOf s trap op x y z = tell (trapOf s (wordOf op x y z) (reg s y) (reg s z))
--- "A is ($Y + $Z or Z) modulo 2^64"
+-- A is ($Y + $Z or Z) modulo 2^64
 planOf s (load d g o) op x y z = loadFrom s d g x (sumOf s o y z)
 planOf s (store d g o) op x y z = storeTo s d g x (sumOf s o y z) (wordOf op x y z)
 planOf s (arithmetic f p q) op x y z = tell (arithmeticSays s f x (operandOf s p y) (operandOf s q z) (wordOf op x y z))

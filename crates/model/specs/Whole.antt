@@ -1,4 +1,4 @@
--- Change 3, "Definitions over whole numbers": an octabyte's signed value, the octabyte of a whole number, division rounded down, the product of 128 bits.
+-- Change 3, Definitions over whole numbers: an octabyte's signed value, the octabyte of a whole number, division rounded down, the product of 128 bits.
 -- `pos n` is n, and `negsuc n` is −(n + 1).
 use Prim.Native.Nat.{ℕ, suc, _+_, _-_, _*_, _/_, _%_, _^_, min}
 use mathlib.Core.Bool.{Bool, cond}
@@ -9,11 +9,11 @@ use Rattle.model.specs.Control.{isNegative}
 
 -- ---- octabytes
 
--- "the signed value of a register": less 2^64 where it is negative
+-- the signed value of a register: less 2^64 where it is negative
 unfoldable pub signedOf : ℕ → ℤ
 signedOf v = cond (isNegative v) (negsuc (2 ^ 64 - suc v)) (pos v)
 
--- "the word of a whole number": what is left of it modulo 2^64
+-- the word of a whole number: what is left of it modulo 2^64
 unfoldable pub octaOf : ℤ → ℕ
 octaOf (pos n) = n % 2 ^ 64
 octaOf (negsuc n) = 2 ^ 64 - suc (n % 2 ^ 64)
@@ -27,7 +27,7 @@ isSigned (negsuc n) = ltb n (2 ^ 63)
 abbrev pub wideOf : ℕ → ℕ → ℕ
 wideOf high low = high * 2 ^ 64 + low
 
--- "the product of 128 bits": its upper octabyte and its lower one
+-- the product of 128 bits: its upper octabyte and its lower one
 unfoldable pub productHigh : ℕ → ℕ → ℕ
 productHigh y z = y * z / 2 ^ 64
 
@@ -41,12 +41,12 @@ unfoldable pub floorBy : ℤ → ℕ → ℤ
 floorBy (pos n) k = pos (n / k)
 floorBy (negsuc n) k = negsuc (n / k)
 
--- "floor division", for z not 0: by −k as −y by k
+-- floor division, for z not 0: by −k as −y by k
 unfoldable pub floorQuotient : ℤ → ℤ → ℤ
 floorQuotient y (pos k) = floorBy y k
 floorQuotient y (negsuc k) = floorBy (negℤ y) (suc k)
 
--- "the remainder has the divisor's sign"
+-- the remainder has the divisor's sign
 unfoldable pub floorRemainder : ℤ → ℤ → ℤ
 floorRemainder y z = y -ℤ floorQuotient y z *ℤ z
 
