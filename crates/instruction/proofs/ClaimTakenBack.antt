@@ -22,7 +22,7 @@ use Rattle.model.specs.Parts.{made}
 use Rattle.model.specs.declared.State.{State}
 use Rattle.model.proofs.Bools.{on, each, at-each, or-left, or-right}
 use Rattle.model.proofs.Fill.{length-over, over-in, over-below, over-above, lt-or-le}
-use Rattle.model.proofs.Numbers.{unhalting, step-number}
+use Rattle.model.proofs.Numbers.{unhalting}
 use Rattle.model.proofs.ItemInvariant.{Any}
 use Rattle.model.proofs.ArmAnswers.{perform-meets}
 use Rattle.model.proofs.ArmReplies.{three-replies}
@@ -95,12 +95,9 @@ module _ (w : Windows) (c : State) (op x y z : ℕ) (n : Sized c) (a : admissibl
 
   -- as code has it: the reply is r
   module _ (r : ℕ) (t : State) (v : Windows) (h : Numbered o r t v) where
-    number : r ≡ o .reply
-    number = h .reply-is ∙ step-number (o .reply) (l .most)
-
     refused : keepsClaim (r) ≡ false → (o .reply ≢ 0) × (o .reply ≢ 19)
     unfolding keepsClaim
-    refused e = (λ q. eqb-false _ _ (or-left (eqb (r) 0) _ e) (number ∙ q), λ q. eqb-false _ _ (or-right (eqb (r) 0) _ e) (number ∙ q))
+    refused e = (λ q. eqb-false _ _ (or-left (eqb (r) 0) _ e) (h .reply-is ∙ q), λ q. eqb-false _ _ (or-right (eqb (r) 0) _ e) (h .reply-is ∙ q))
 
     pub general-left : keepsClaim (r) ≡ false → t .general ≡ c .general
     general-left e = ap (λ (s : State). s .general) (h .state-is ∙ sym (registers-left (refused e .0) (refused e .1)))
@@ -113,7 +110,7 @@ module _ (w : Windows) (c : State) (op x y z : ℕ) (n : Sized c) (a : admissibl
     unfolding settledBy
     keeps s e = record {
       reply-is = h .reply-is;
-      state-is = h .state-is ∙ rw (ap keepsClaim (sym number) ∙ e);
+      state-is = h .state-is ∙ rw (ap keepsClaim (sym (h .reply-is)) ∙ e);
       window-is = h .window-is;
     }
 
@@ -124,7 +121,7 @@ module _ (w : Windows) (c : State) (op x y z : ℕ) (n : Sized c) (a : admissibl
     takes-back s e g m p q = record {
       reply-is = h .reply-is;
       state-is = ap (λ (i : List ℕ). made i m (t .pc) (t .halt) (t .marks) (t .mask)) p ∙ ap (λ (i : List ℕ). made (s .general) i (t .pc) (t .halt) (t .marks) (t .mask)) q
-          ∙ ap (λ (u : State). withParts u (s .general) (s .special)) (h .state-is) ∙ rw (ap keepsClaim (sym number) ∙ e);
+          ∙ ap (λ (u : State). withParts u (s .general) (s .special)) (h .state-is) ∙ rw (ap keepsClaim (sym (h .reply-is)) ∙ e);
       window-is = h .window-is;
     }
 

@@ -6,7 +6,7 @@ use Prim.Native.Nat.{ℕ, _+_, _%_, _^_}
 use borrow.Author.Tests.{eq-eqb, ne-eqb}
 use Rattle.model.specs.Memory.{Windows, shapesOf}
 use Rattle.model.specs.Registers.{reg, admissible, following, goes, next}
-use Rattle.model.specs.Opcodes.{branch, jump, getAddress, go, pushJump, pushGo, pop, register, immediate, wayOf, conditionOf, armOf, lastOf}
+use Rattle.model.specs.Opcodes.{branch, jump, getAddress, go, pushJump, pushGo, pop, register, immediate, directionOf, conditionOf, armOf, lastOf}
 use Rattle.model.specs.NoMemory.{say}
 use Rattle.model.specs.Control.{near, sumOf, holds}
 use Rattle.model.specs.Step.{refusalOf, unruledBy, planOf, stepOf}
@@ -29,41 +29,41 @@ module _ (s : State) (op y z r : ℕ) where
   sum-immediate h e = e ∙ sym (ap (λ (t : Bool). sumOf s (cond t register immediate) y z) (ne-eqb (op % 2) 0 h))
 
 module _ (s : State) (op x y z n : ℕ) (b : Bool) (e : b ≡ holds (conditionOf op) (reg s x)) where
-  pub branch-taken : b ≡ true → n ≡ near s (wayOf op) y z → goes s n ≡ branchOf s op x y z
+  pub branch-taken : b ≡ true → n ≡ near s (directionOf op) y z → goes s n ≡ branchOf s op x y z
   unfolding branchOf
-  branch-taken h q = ap (goes s) q ∙ sym (ap (λ (t : Bool). cond t (goes s (near s (wayOf op) y z)) (next s)) (sym e ∙ h))
+  branch-taken h q = ap (goes s) q ∙ sym (ap (λ (t : Bool). cond t (goes s (near s (directionOf op) y z)) (next s)) (sym e ∙ h))
 
   pub branch-not : b ≡ false → n ≡ following s → goes s n ≡ branchOf s op x y z
   unfolding branchOf
-  branch-not h q = ap (goes s) q ∙ sym (ap (λ (t : Bool). cond t (goes s (near s (wayOf op) y z)) (next s)) (sym e ∙ h))
+  branch-not h q = ap (goes s) q ∙ sym (ap (λ (t : Bool). cond t (goes s (near s (directionOf op) y z)) (next s)) (sym e ∙ h))
 
 -- ---- the step
 
 module _ (w : Windows) (s : State) (a : admissible s ≡ true) (u : unruledBy (shapesOf w) ≡ 0) (op x y z : ℕ) (r : Reply) (t : State) where
-  pub step-branch : armOf op ≡ branch (conditionOf op) (wayOf op) → Told (say 0 (branchOf s op x y z)) r t → Whole (stepOf w s op x y z) r t w
+  pub step-branch : armOf op ≡ branch (conditionOf op) (directionOf op) → Told (say 0 (branchOf s op x y z)) r t → Whole (stepOf w s op x y z) r t w
   unfolding refusalOf planOf branchOf
-  step-branch k q = told-step w s a u op x y z r t (branch (conditionOf op) (wayOf op)) k refl _ refl q
+  step-branch k q = told-step w s a u op x y z r t (branch (conditionOf op) (directionOf op)) k refl _ refl q
 
   pub step-go : armOf op ≡ go (lastOf op) → Told (say 0 (goOf s op x y z)) r t → Whole (stepOf w s op x y z) r t w
   unfolding refusalOf planOf
   step-go k q = told-step w s a u op x y z r t (go (lastOf op)) k refl _ refl q
 
-  pub step-jump : armOf op ≡ jump (wayOf op) → Told (say 0 (jumpOf s op x y z)) r t → Whole (stepOf w s op x y z) r t w
+  pub step-jump : armOf op ≡ jump (directionOf op) → Told (say 0 (jumpOf s op x y z)) r t → Whole (stepOf w s op x y z) r t w
   unfolding refusalOf planOf
-  step-jump k q = told-step w s a u op x y z r t (jump (wayOf op)) k refl _ refl q
+  step-jump k q = told-step w s a u op x y z r t (jump (directionOf op)) k refl _ refl q
 
-  pub step-get-address : armOf op ≡ getAddress (wayOf op) → Told (say 0 (addressOf s op x y z)) r t → Whole (stepOf w s op x y z) r t w
+  pub step-get-address : armOf op ≡ getAddress (directionOf op) → Told (say 0 (addressOf s op x y z)) r t → Whole (stepOf w s op x y z) r t w
   unfolding refusalOf planOf
-  step-get-address k q = told-step w s a u op x y z r t (getAddress (wayOf op)) k refl _ refl q
+  step-get-address k q = told-step w s a u op x y z r t (getAddress (directionOf op)) k refl _ refl q
 
   -- the two calls, of a target n
   pub step-push-go : (v : Windows) (n : ℕ) → armOf op ≡ pushGo (lastOf op) → n ≡ sumOf s (lastOf op) y z → Whole (callTo w s x n) r t v → Whole (stepOf w s op x y z) r t v
   unfolding refusalOf planOf
   step-push-go v n k e q = stack-step w s a u op x y z r t (pushGo (lastOf op)) k refl (placed s) (admissible-placed s a) _ v refl (rw e at q)
 
-  pub step-push-jump : (v : Windows) (n : ℕ) → armOf op ≡ pushJump (wayOf op) → n ≡ near s (wayOf op) y z → Whole (callTo w s x n) r t v → Whole (stepOf w s op x y z) r t v
+  pub step-push-jump : (v : Windows) (n : ℕ) → armOf op ≡ pushJump (directionOf op) → n ≡ near s (directionOf op) y z → Whole (callTo w s x n) r t v → Whole (stepOf w s op x y z) r t v
   unfolding refusalOf planOf
-  step-push-jump v n k e q = stack-step w s a u op x y z r t (pushJump (wayOf op)) k refl (placed s) (admissible-placed s a) _ v refl (rw e at q)
+  step-push-jump v n k e q = stack-step w s a u op x y z r t (pushJump (directionOf op)) k refl (placed s) (admissible-placed s a) _ v refl (rw e at q)
 
   pub step-pop : (v : Windows) → armOf op ≡ pop → Whole (returnOf w s x y z) r t v → Whole (stepOf w s op x y z) r t v
   unfolding refusalOf planOf

@@ -1,12 +1,12 @@
 -- 1, 2 and 22 as a step answers them, by their number: nothing is changed; and a step's outcome by the number of its reply. 3: `ranged-step` of LoadStoreArms.
 -- 4 and 5 are judged by their arms: SystemArms.
 use mathlib.Core.Path.{_≡_, refl, sym, ap, _∙_}
-use mathlib.Core.Logic.{_⊎_, inl, inr}
+use mathlib.Core.Logic.{⊎-elim}
 use mathlib.Core.Bool.{true}
 use mathlib.Core.List.{List}
-use Prim.Native.Nat.{ℕ}
+use Prim.Native.Nat.{ℕ, _≤_}
+use native.Mathlib.Omega.{arith}
 use Rattle.model.specs.Memory.{Windows, shapesOf}
-use Rattle.model.specs.Plan.{Outcome}
 use Rattle.model.specs.Registers.{admissible}
 use Rattle.model.specs.Opcodes.{firstBranch, lastBranch, among, armOf}
 use Rattle.model.specs.NoMemory.{say}
@@ -15,25 +15,20 @@ use Rattle.model.specs.Step.{unruledBy, fromThree, stepPlan, stepOf}
 use Rattle.model.specs.Parts.{made}
 use Rattle.model.specs.declared.State.{State}
 use Rattle.model.specs.declared.Reply.{Reply}
-use Rattle.stack.specs.GivenBack.{Refused, guardedOn, refusalOn}
-use Rattle.stack.proofs.Judged.{refused-guarded, refused-by}
+use Rattle.model.proofs.Numbers.{numbered as numbers}
+use Rattle.model.proofs.ItemInvariant.{Any}
+use Rattle.model.proofs.ArmAnswers.{perform-meets, step-meets}
+use Rattle.model.proofs.ArmReplies.{plan-replies}
+use Rattle.stack.specs.GivenBack.{guardedOn, refusalOn}
+use Rattle.stack.proofs.Judged.{refused-guarded}
 use Rattle.decode.proofs.Groups.{branch-arm}
 use Rattle.exceptions.specs.Told.{Told}
 use Rattle.instruction.specs.StepAnswer.{Whole, Numbered}
 use Rattle.instruction.specs.Arms.{branchOf}
 use Rattle.instruction.proofs.ControlArms.{step-branch}
 
-refused-is : (n : ℕ) → Refused n → n ≡ numberOf (replyOf n)
-unfolding numberOf replyOf
-refused-is n (inl e) = rw e refl
-refused-is n (inr (inl e)) = rw e refl
-refused-is n (inr (inr e)) = rw e refl
-
-pub refusal-number : (w : Windows) (s : State) (n : ℕ) → n ≡ refusalOn w s → (n ≡ 0 → ⊥) → n ≡ numberOf (replyOf n)
-refusal-number w s n e f = refused-is n (refused-by w s n e f)
-
 pub refused-step : (w : Windows) (s : State) (op x y z n : ℕ) → n ≡ refusalOn w s → (n ≡ 0 → ⊥) → Numbered (stepOf w s op x y z) n s w
-refused-step w s op x y z n e f = rw refused (record { reply-is = refusal-number w s n e f; state-is = refl; window-is = refl })
+refused-step w s op x y z n e f = rw refused (record { reply-is = refl; state-is = refl; window-is = refl })
   where
     refused : stepOf w s op x y z ≡ record { reply = n; state = s; memory = w }
     refused = unfold stepOf stepPlan guardedOn in (refused-guarded w s (fromThree s (armOf op) op x y z) n e f)
@@ -43,8 +38,19 @@ pub refusal-alike : (w : Windows) (l : List ℕ) (m k : ℕ) (g h : List ℕ) (p
 unfolding refusalOn admissible
 refusal-alike w l m k g h p q i j e = e
 
-pub numbered : (o : Outcome State Windows) (r : Reply) (t : State) (v : Windows) (n : ℕ) → Whole o r t v → n ≡ numberOf r → Numbered o n t v
-numbered o r t v n h e = record { reply-is = e ∙ ap numberOf (h .reply-is); state-is = h .state-is; window-is = h .window-is }
+-- a step's reply, of any state, is 31 at most
+step-most : (w : Windows) (s : State) (op x y z : ℕ) → stepOf w s op x y z .reply ≤ 31
+unfolding stepOf
+step-most w s op x y z =
+    perform-meets w s Any (λ r t vs. r ≤ 31) (λ o. o .reply ≤ 31) (omega arith) (λ r t a vs h. h) (λ a n. tt) (stepPlan s (shapesOf w) op x y z)
+    (step-meets s (shapesOf w) Any (λ r t vs. r ≤ 31) (λ n e. ⊎-elim (λ l. omega arith) (λ q. omega arith) e) op x y z
+    (λ a. plan-replies (λ r. r ≤ 31) (omega arith) (omega arith) (λ n e. ⊎-elim (λ l. omega arith) (⊎-elim (λ q. omega arith) (λ q. omega arith)) e) (omega arith) s (armOf op) op x y z (λ q. omega arith)))
+
+-- so the number of the reply that it names is its own
+pub numbered : (w : Windows) (s : State) (op x y z : ℕ) (r : Reply) (t : State) (v : Windows) (n : ℕ) → Whole (stepOf w s op x y z) r t v → n ≡ numberOf r → Numbered (stepOf w s op x y z) n t v
+numbered w s op x y z r t v n h e =
+    let most : stepOf w s op x y z .reply ≤ 31 = step-most w s op x y z in
+    record { reply-is = e ∙ ap numberOf (h .reply-is) ∙ numbers .number-reply (stepOf w s op x y z .reply) (omega arith); state-is = h .state-is; window-is = h .window-is }
 
 -- a branch is done
 pub done-numbered : (w : Windows) (s : State) (op x y z : ℕ) (r : Reply) (t : State) → admissible s ≡ true → unruledBy (shapesOf w) ≡ 0 → among firstBranch lastBranch op ≡ true
@@ -52,5 +58,5 @@ pub done-numbered : (w : Windows) (s : State) (op x y z : ℕ) (r : Reply) (t : 
 unfolding numberOf replyOf
 done-numbered w s op x y z r t a u b h =
     let k = step-branch w s a u op x y z r t (branch-arm op b) h in
-    let z : 0 ≡ numberOf r = sym (ap numberOf (h .reply-is)) in
-    numbered _ r t w 0 k z
+    let e : 0 ≡ numberOf r = sym (ap numberOf (h .reply-is)) in
+    numbered w s op x y z r t w 0 k e

@@ -1,6 +1,5 @@
 -- A fetched instruction and a run as code has them, over plain variables: 24, then what the tetra says; the turns of the loop; 1, 2, 22 and 25.
 use mathlib.Core.Path.{_≡_, refl, sym, ap, _∙_}
-use mathlib.Core.Logic.{inl, inr, ⊎-elim}
 use mathlib.Core.Bool.{Bool, true, false, cond}
 use mathlib.Core.List.{List}
 use Prim.Native.Nat.{ℕ, _+_, _≤_, _<_}
@@ -14,14 +13,11 @@ use Rattle.model.specs.LoadStore.{operandIn}
 use Rattle.model.specs.Step.{unruledBy, tetraAt, fetchedOf, fetched, mmix}
 use Rattle.model.specs.Run.{Stopped, runFor, grantMost, runOf}
 use Rattle.model.specs.Order.{Passes}
-use Rattle.model.specs.Numbers.{numberOf, replyOf}
 use Rattle.model.specs.Parts.{lent}
 use Rattle.model.specs.declared.Bases.{Bases}
 use Rattle.model.specs.declared.State.{State}
-use Rattle.model.proofs.Numbers.{run-number}
 use Rattle.model.proofs.Entry.{unruled-none}
 use Rattle.model.proofs.Fetched.{fetched-missing, fetched-there}
-use Rattle.model.proofs.Leaves.{replies-leave}
 use Rattle.model.proofs.RunMeant.{Ready, fetched-shapes, fetched-ready, run-unruled, run-open, runs-in-order}
 use Rattle.model.proofs.RunTurns.{Turned, turned-none, turned-done, turned-refused, turned-spent}
 use Rattle.stack.specs.GivenBack.{refusalOn}
@@ -29,13 +25,11 @@ use Rattle.stack.proofs.Judged.{judged-by}
 use Rattle.stack.proofs.PassedOctas.{held-inside, held-none}
 use Rattle.instruction.specs.StepAnswer.{Numbered, RunNumbered}
 use Rattle.instruction.specs.FetchedArms.{saidBy}
-use Rattle.instruction.proofs.EarlyRefusals.{refusal-number}
 
 -- ---- one instruction
 
 module _ (w : Windows) (s : State) (a : admissible s ≡ true) (u : unruledBy (shapesOf w) ≡ 0) (h : ℕ) (e : h ≡ holder (shapesOf w) (s .pc)) where
   pub not-fetched : h ≡ 2 → Numbered (fetchedOf w s) 24 s w
-  unfolding numberOf replyOf
   not-fetched q = rw (fetched-missing w s a u (held-none (shapesOf w) (s .pc) (sym e ∙ q))) (record { reply-is = refl; state-is = refl; window-is = refl })
 
   -- v is the octabyte at PC, t the tetra there
@@ -66,18 +60,12 @@ first-turn grant w s n a u = record { turned = turned-none grant w s; sized = n;
 
 module _ (grant : ℕ) (r : Stopped State Windows) (i : ℕ) (w : Windows) (s : State) (k : InTurn grant r i w s) where
   pub run-spent : grant ≤ i → RunNumbered r 0 i s w
-  unfolding numberOf replyOf
   run-spent n =
       let e : i ≡ grant = let m : i ≤ grant = k .most in omega arith in
       let z : Turned grant r grant w s = rw e at (k .turned) in
       rw (turned-spent grant r w s z) (record { reply-is = refl; count-is = e; state-is = refl; window-is = refl })
 
   module _ (b : i < grant) (q : ℕ) (t : State) (v : Windows) (h : Numbered (fetchedOf w s) q t v) where
-    number : q ≡ fetchedOf w s .reply
-    number =
-        h .reply-is
-        ∙ run-number (fetchedOf w s .reply) (⊎-elim (λ m. inl m) (⊎-elim (λ m. inr (inl m)) (⊎-elim (λ m. inr (inr (inl m))) (λ m. inr (inr (inr (inr m)))))) (replies-leave .by-fetched w s (k .sized) .most))
-
     pub next-shapes : shapesOf v ≡ shapesOf w
     next-shapes = ap shapesOf (h .window-is) ∙ fetched-shapes w s
 
@@ -85,7 +73,7 @@ module _ (grant : ℕ) (r : Stopped State Windows) (i : ℕ) (w : Windows) (s : 
     next-turn z =
         let g : Ready (fetchedOf w s .memory) (fetchedOf w s .state) = fetched-ready w s (record { sized = k .sized; passes = passed w s (k .admitted) (k .fine) }) in
         rw (h .window-is, h .state-is) (record {
-          turned = turned-done grant r i w s b (k .turned) (sym number ∙ z);
+          turned = turned-done grant r i w s b (k .turned) (sym (h .reply-is) ∙ z);
           sized = g .sized;
           admitted = g .passes .admitted;
           fine = ap unruledBy (fetched-shapes w s) ∙ k .fine;
@@ -94,7 +82,7 @@ module _ (grant : ℕ) (r : Stopped State Windows) (i : ℕ) (w : Windows) (s : 
 
     pub run-refused : (q ≡ 0 → ⊥) → RunNumbered r q i t v
     run-refused z =
-        rw (turned-refused grant r i w s b (k .turned) (λ e. z (number ∙ e)))
+        rw (turned-refused grant r i w s b (k .turned) (λ e. z (h .reply-is ∙ e)))
         (record { reply-is = h .reply-is; count-is = refl; state-is = h .state-is; window-is = h .window-is })
 
 -- windows of the same shapes are as long
@@ -109,19 +97,15 @@ module _ (w : Windows) (s : State) (grant : ℕ) where
   unfolding refusalOn
   run-unopened n e f = go (admissible s) refl e
     where
-      number : n ≡ numberOf (replyOf n)
-      number = refusal-number w s n (unfold refusalOn in e) f
-
       go : (b : Bool) → admissible s ≡ b → n ≡ cond b (unruledBy (shapesOf w)) 1 → RunNumbered (runOf w s grant) n 0 s w
-      go true a q = rw (run-unruled w s grant a (λ k. f (q ∙ k))) (record { reply-is = number ∙ ap (λ (k : ℕ). numberOf (replyOf k)) q; count-is = refl; state-is = refl; window-is = refl })
-      go false a q = rw (runs-in-order .one-first w s grant a) (record { reply-is = number ∙ ap (λ (k : ℕ). numberOf (replyOf k)) q; count-is = refl; state-is = refl; window-is = refl })
+      go true a q = rw (run-unruled w s grant a (λ k. f (q ∙ k))) (record { reply-is = q; count-is = refl; state-is = refl; window-is = refl })
+      go false a q = rw (runs-in-order .one-first w s grant a) (record { reply-is = q; count-is = refl; state-is = refl; window-is = refl })
 
   module _ (e : refusalOn w s ≡ 0) where
     good : (admissible s ≡ true) × (unruledBy (shapesOf w) ≡ 0)
     good = judged-by w s e
 
     pub run-large : grantMost < grant → RunNumbered (runOf w s grant) 25 0 s w
-    unfolding numberOf replyOf
     run-large l = rw (runs-in-order .twenty-five w s grant (passed w s (good .0) (good .1)) l) (record { reply-is = refl; count-is = refl; state-is = refl; window-is = refl })
 
     pub run-turns : grant ≤ grantMost → (r m : ℕ) (t : State) (v : Windows) → RunNumbered (running grant s w) r m t v → RunNumbered (runOf w s grant) r m t v

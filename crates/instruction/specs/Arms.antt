@@ -5,7 +5,7 @@ use mathlib.Core.Bool.{cond}
 use Rattle.model.specs.Memory.{Windows, shapesOf, both}
 use Rattle.model.specs.Plan.{Plan, Outcome, perform}
 use Rattle.model.specs.Registers.{rJ, sp, reg, goes, next, following, setRegister}
-use Rattle.model.specs.Opcodes.{firstLoad, lastLoad, firstStore, lastStore, firstArithmetic, lastArithmetic, opPUSHGO, opPUSHGOI, opPUSHJ, opPUSHJB, opPUT, opPUTI, widthOf, signOf, lastOf, wayOf, conditionOf, among}
+use Rattle.model.specs.Opcodes.{firstLoad, lastLoad, firstStore, lastStore, firstArithmetic, lastArithmetic, opPUSHGO, opPUSHGOI, opPUSHJ, opPUSHJB, opPUT, opPUTI, widthOf, signOf, lastOf, directionOf, conditionOf, among}
 use Rattle.model.specs.NoMemory.{Said}
 use Rattle.model.specs.Control.{near, far, sumOf, yzOf, holds}
 use Rattle.model.specs.Frames.{hole, pushFrame, popFrame}
@@ -19,15 +19,15 @@ use Rattle.instruction.specs.NoMemoryArms.{arithmeticOf, putOf}
 
 -- a branch
 unfoldable pub branchOf : State → ℕ → ℕ → ℕ → ℕ → State
-branchOf s op x y z = cond (holds (conditionOf op) (reg s x)) (goes s (near s (wayOf op) y z)) (next s)
+branchOf s op x y z = cond (holds (conditionOf op) (reg s x)) (goes s (near s (directionOf op) y z)) (next s)
 
 -- JMP
 abbrev pub jumpOf : State → ℕ → ℕ → ℕ → ℕ → State
-jumpOf s op x y z = goes s (far s (wayOf op) x y z)
+jumpOf s op x y z = goes s (far s (directionOf op) x y z)
 
 -- GETA
 abbrev pub addressOf : State → ℕ → ℕ → ℕ → ℕ → State
-addressOf s op x y z = next (setRegister s x (near s (wayOf op) y z))
+addressOf s op x y z = next (setRegister s x (near s (directionOf op) y z))
 
 -- GO, to a target that was read first
 abbrev pub goTo : State → ℕ → ℕ → State

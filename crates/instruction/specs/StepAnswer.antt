@@ -5,7 +5,7 @@ use Prim.Native.Nat.{ℕ}
 use Rattle.model.specs.Memory.{Windows}
 use Rattle.model.specs.Plan.{Outcome}
 use Rattle.model.specs.Run.{Stopped}
-use Rattle.model.specs.Numbers.{numberOf, replyOf}
+use Rattle.model.specs.Numbers.{replyOf}
 use Rattle.model.specs.Parts.{lent}
 use Rattle.model.specs.declared.State.{State}
 use Rattle.model.specs.declared.Reply.{Reply}
@@ -17,12 +17,12 @@ pub record Whole (o : Outcome State Windows) (r : Reply) (t : State) (v : Window
 
 -- the same with the reply's number
 pub record Numbered (o : Outcome State Windows) (n : ℕ) (t : State) (v : Windows) : Type 0 where
-  pub reply-is : n ≡ numberOf (replyOf (o .reply))
+  pub reply-is : n ≡ o .reply
   pub state-is : t ≡ o .state
   pub window-is : v ≡ o .memory
 
 pub record RunNumbered (o : Stopped State Windows) (n k : ℕ) (t : State) (v : Windows) : Type 0 where
-  pub reply-is : n ≡ numberOf (replyOf (o .reply))
+  pub reply-is : n ≡ o .reply
   pub count-is : k ≡ o .done
   pub state-is : t ≡ o .state
   pub window-is : v ≡ o .memory

@@ -8,8 +8,8 @@ use model::Bases;
 use model::Reply;
 use stack::frame::PopFrame;
 
-/// A call of `target` with the hole that x makes.
-pub fn push_to(
+/// Does not judge 2 or 22, nor 1 beyond rL ≤ rG ≤ 255: the caller has. A call of `target` with the hole that x makes.
+pub fn push_to_judged(
     general: &mut [u64; 256],
     special: &mut [u64; 32],
     pc: &mut u64,
@@ -25,7 +25,7 @@ pub fn push_to(
         r (made (now (general .exit)) (now (special .exit)) (now (pc .exit)) halt marks mask) (lent at (now (a .exit)) (now (b .exit)))) ⌝ }
 {
     let from = *pc;
-    let reply = stack::frame::push_frame(general, special, from, a, b, at, x);
+    let reply = stack::frame::push_frame_judged(general, special, from, a, b, at, x);
     match reply {
         Reply::Done => {
             *pc = target;
@@ -35,8 +35,8 @@ pub fn push_to(
     reply
 }
 
-/// POP.
-pub fn pop_to(
+/// Does not judge 2 or 22, nor 1 beyond rL ≤ rG ≤ 255: the caller has. POP.
+pub fn pop_to_judged(
     general: &mut [u64; 256],
     special: &mut [u64; 32],
     pc: &mut u64,
@@ -54,7 +54,7 @@ pub fn pop_to(
         r (made (now (general .exit)) (now (special .exit)) (now (pc .exit)) (now (halt .exit)) marks mask) (lent at (now (a .entry)) (now (b .entry)))) ⌝ }
 {
     let yz = 256 * (y as u16) + z as u16;
-    let found = stack::frame::pop_frame(general, special, halt, a, b, at, x, yz);
+    let found = stack::frame::pop_frame_judged(general, special, halt, a, b, at, x, yz);
     match found {
         PopFrame::Frame(to) => {
             *pc = to;

@@ -7,8 +7,8 @@ ghost use Rattle.instruction.specs.StepAnswer.{Whole};
 use model::Bases;
 use model::Reply;
 
-/// SAVE $x.
-pub fn save_to(
+/// Does not judge 2 or 22: the caller has; 1 is judged. SAVE $x.
+pub fn save_to_judged(
     general: &mut [u64; 256],
     special: &mut [u64; 32],
     pc: &mut u64,
@@ -25,7 +25,17 @@ pub fn save_to(
         (made (now (general .entry)) (now (special .entry)) (now (pc .entry)) (now (halt .entry)) marks mask) x)
         r (made (now (general .exit)) (now (special .exit)) (now (pc .exit)) (now (halt .exit)) marks mask) (lent at (now (a .exit)) (now (b .exit))) ⌝ }
 {
-    let reply = stack::context::save_context(general, special, halt, marks, mask, a, b, at, x);
+    let reply = stack::context::save_context_judged(
+        general,
+        special,
+        halt,
+        marks,
+        mask,
+        a,
+        b,
+        at,
+        x,
+    );
     match reply {
         Reply::Done => {
             *pc = decode::target::following(*pc);
@@ -35,8 +45,8 @@ pub fn save_to(
     reply
 }
 
-/// UNSAVE of the context at `address`.
-pub fn unsave_from(
+/// Does not judge 1, 2 or 22: the caller has. UNSAVE of the context at `address`.
+pub fn unsave_from_judged(
     general: &mut [u64; 256],
     special: &mut [u64; 32],
     pc: &mut u64,
@@ -51,7 +61,7 @@ pub fn unsave_from(
         (made (now (general .entry)) (now (special .entry)) (now (pc .entry)) (now (halt .entry)) marks mask) address)
         r (made (now (general .exit)) (now (special .exit)) (now (pc .exit)) (now (halt .exit)) marks mask) (lent at (now (a .entry)) (now (b .entry)))) ⌝ }
 {
-    let reply = stack::context::unsave_context(general, special, halt, a, b, at, address);
+    let reply = stack::context::unsave_context_judged(general, special, halt, a, b, at, address);
     match reply {
         Reply::Done => {
             *pc = decode::target::following(*pc);

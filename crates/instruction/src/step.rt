@@ -91,8 +91,19 @@ fn by_key(
         opcode::JMPB => control::jump(pc, op, x, y, z),
         opcode::GETA => registers::get_address(general, special, pc, op, x, y, z),
         opcode::GETAB => registers::get_address(general, special, pc, op, x, y, z),
-        opcode::POP => calls::pop_to(general, special, pc, halt, a, b, at, x, y, z),
-        opcode::SAVE => contexts::save_to(general, special, pc, halt, marks, mask, a, b, at, x),
+        opcode::POP => calls::pop_to_judged(general, special, pc, halt, a, b, at, x, y, z),
+        opcode::SAVE => contexts::save_to_judged(
+            general,
+            special,
+            pc,
+            halt,
+            marks,
+            mask,
+            a,
+            b,
+            at,
+            x,
+        ),
         opcode::UNSAVE => { system::unsave_register(general, special, pc, halt, a, b, at, z) }
         opcode::SYNC => registers::synchronize(pc, halt, x, y, z),
         opcode::SWYM => system::skip(pc),
@@ -165,7 +176,7 @@ pub(crate) fn dispatch(
             );
         }
     };
-    calls::push_to(general, special, pc, a, b, at, x, target)
+    calls::push_to_judged(general, special, pc, a, b, at, x, target)
 }
 
 /// What is added to an opcode to say that 1, 2 and 22 have passed.

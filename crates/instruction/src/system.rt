@@ -60,5 +60,5 @@ pub(crate) fn unsave_register(
         r (made (now (general .exit)) (now (special .exit)) (now (pc .exit)) (now (halt .exit)) marks mask) (lent at (now (a .entry)) (now (b .entry)))) ⌝ }
 {
     let address = general[z as usize];
-    contexts::unsave_from(general, special, pc, halt, a, b, at, address)
+    contexts::unsave_from_judged(general, special, pc, halt, a, b, at, address)
 }

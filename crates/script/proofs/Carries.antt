@@ -10,16 +10,12 @@ use lib.ListN.{length, take, drop, length-drop, drop-of-length-le}
 use lib.Seq.{drop-drop, set-out}
 use borrow.Author.Tests.{le-leb, lt-leb, eq-eqb, ne-eqb}
 use Rattle.model.specs.Octa.{written}
-use Rattle.model.specs.Registers.{Sized, rG, rL, rO, sp, fresh, setRegister, withSpecial}
+use Rattle.model.specs.Registers.{rG, rL, rO, sp, fresh, setRegister, withSpecial}
 use Rattle.model.specs.Memory.{Windows}
-use Rattle.model.specs.Numbers.{numberOf}
 use Rattle.model.specs.Step.{stepOf}
 use Rattle.model.specs.Parts.{made}
 use Rattle.model.specs.Bench.{start}
 use Rattle.model.specs.declared.State.{State}
-use Rattle.model.specs.declared.Reply.{Reply}
-use Rattle.model.proofs.Numbers.{step-number}
-use Rattle.model.proofs.Leaves.{replies-leave}
 use Rattle.instruction.specs.StepAnswer.{Numbered}
 use Rattle.script.specs.Line.{lineOf}
 use Rattle.text.specs.Text.{filled, badText}
@@ -69,15 +65,13 @@ module _ (n : ℕ) (s : State) (w : Windows) (f : Form) (b : List ℕ) (at : ℕ
       → Leaves (turnOf n s w g) b at c end going t v → Leaves (turnOf n s w f) b at c end going t v
   leaves-same g e c end going t v h = rw e h
 
--- a step's reply is one of 0 to 20, so that its number says all
-pub leaves-step : (n : ℕ) (s : State) (w : Windows) (i : Instruction) (b : List ℕ) (at : ℕ) → Sized s → (number : ℕ) (t : State) (v : Windows)
+pub leaves-step : (n : ℕ) (s : State) (w : Windows) (i : Instruction) (b : List ℕ) (at number : ℕ) (t : State) (v : Windows)
     → Numbered (stepOf w s (i .op) (i .x) (i .y) (i .z)) number t v
     → (c : List ℕ) (end : ℕ) → Wrote b at (stepText i number t) c end → Leaves (turnOf n s w (Step i)) b at c end (eqb number 0) t v
 unfolding turnOf
-leaves-step n s w i b at z number t v g c end p =
+leaves-step n s w i b at number t v g c end p =
     let o = stepOf w s (i .op) (i .x) (i .y) (i .z) in
-    let r : number ≡ o .reply =
-    g .reply-is ∙ step-number (o .reply) (replies-leave .by-step w s (i .op) (i .x) (i .y) (i .z) z .most) in
+    let r : number ≡ o .reply = g .reply-is in
     record {
       text-is = wrote-as b at (stepText i number t) (stepText i (o .reply) (o .state)) c end
           (ap (λ (k : ℕ). stepText i k t) r ∙ ap (stepText i (o .reply)) (g .state-is)) p;

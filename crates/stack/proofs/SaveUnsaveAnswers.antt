@@ -1,4 +1,4 @@
--- The ways out of save_context and unsave_context, in that order: each is what the plan gives, PC apart. What SAVE stores is in
+-- The ways out of save_context_judged and unsave_context_judged, in that order: each is what the plan gives, PC apart. What SAVE stores is in
 -- SaveStores, what UNSAVE loads in UnsaveLoads, what `locate` tells in LocateAnswers.
 use mathlib.Core.Path.{_≡_, refl, sym, ap, _∙_}
 use mathlib.Core.Bool.{true, false}

@@ -1,4 +1,4 @@
--- What push_frame and pop_frame answer and leave, and what their private functions go by.
+-- What push_frame and pop_frame, and push_frame_judged and pop_frame_judged in place, answer and leave, and what the private functions go by.
 use Prim.Native.Nat.{ℕ, _+_, _-_, _*_, _%_, _^_, _≤_, _<_, min}
 use mathlib.Core.Path.{_≡_}
 use mathlib.Core.Bool.{true, false, cond}

@@ -1,4 +1,4 @@
--- What save_context, unsave_context, save_context_layout, locate, place_context and read_context answer and leave.
+-- What save_context and unsave_context, save_context_judged and unsave_context_judged in place, save_context_layout, locate, place_context and read_context answer and leave.
 use Prim.Native.Nat.{ℕ, _+_, _*_, _%_, _^_, _≤_}
 use mathlib.Core.List.{List}
 use mathlib.Core.Path.{_≡_}

@@ -124,8 +124,8 @@ fn depart(special: &mut [u64; 32])
     special[State::RS] = new_ro;
 }
 
-/// SAVE $x: the context goes to the windows at rO.
-pub fn save_context(
+/// Does not judge 2 or 22: the caller has; 1 is judged. SAVE $x: the context goes to the windows at rO.
+pub fn save_context_judged(
     general: &mut [u64; 256],
     special: &mut [u64; 32],
     halt: &mut u64,
@@ -225,8 +225,8 @@ fn arrive(
     special[State::RS] = first;
 }
 
-/// UNSAVE of the context whose packed octabyte is at `address`.
-pub fn unsave_context(
+/// Does not judge 1, 2 or 22: the caller has. UNSAVE of the context whose packed octabyte is at `address`.
+pub fn unsave_context_judged(
     general: &mut [u64; 256],
     special: &mut [u64; 32],
     halt: &mut u64,

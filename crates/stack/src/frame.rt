@@ -133,8 +133,9 @@ fn enter(general: &mut [u64; 256], special: &mut [u64; 32], pc: u64, h: u64)
     special[State::RS] = new_ro;
 }
 
-/// PUSH with x: the frame goes to the windows at rO, and the callee gets the registers above the hole.
-pub fn push_frame(
+/// Does not judge 2 or 22, nor 1 beyond rL ≤ rG ≤ 255: the caller has. PUSH with x: the frame goes to the windows at rO, and the callee gets the registers
+/// above the hole.
+pub fn push_frame_judged(
     general: &mut [u64; 256],
     special: &mut [u64; 32],
     pc: u64,
@@ -294,8 +295,8 @@ fn pop_at(
     PopFrame::Frame(target)
 }
 
-/// POP x, yz.
-pub fn pop_frame(
+/// Does not judge 2 or 22, nor 1 beyond rL ≤ rG ≤ 255: the caller has. POP x, yz.
+pub fn pop_frame_judged(
     general: &mut [u64; 256],
     special: &mut [u64; 32],
     halt: &mut u64,

@@ -36,7 +36,7 @@ pub fn push_frame(state: State, a: &mut [u8], b: &mut [u8], at: Bases, x: u8) ->
             state: state,
         };
     }
-    let reply = super::frame::push_frame(&mut general, &mut special, pc, a, b, at, x);
+    let reply = super::frame::push_frame_judged(&mut general, &mut special, pc, a, b, at, x);
     let next = State {
         general: general,
         special: special,
@@ -67,7 +67,16 @@ pub fn pop_frame(state: State, a: &[u8], b: &[u8], at: Bases, x: u8, yz: u16) ->
             state: state,
         };
     }
-    let answer = super::frame::pop_frame(&mut general, &mut special, &mut halt, a, b, at, x, yz);
+    let answer = super::frame::pop_frame_judged(
+        &mut general,
+        &mut special,
+        &mut halt,
+        a,
+        b,
+        at,
+        x,
+        yz,
+    );
     let next = State {
         general: general,
         special: special,
@@ -98,7 +107,7 @@ pub fn save_context(state: State, a: &mut [u8], b: &mut [u8], at: Bases, x: u8) 
             state: state,
         };
     }
-    let reply = super::context::save_context(
+    let reply = super::context::save_context_judged(
         &mut general,
         &mut special,
         &mut halt,
@@ -139,7 +148,7 @@ pub fn unsave_context(state: State, a: &[u8], b: &[u8], at: Bases, address: u64)
             state: state,
         };
     }
-    let reply = super::context::unsave_context(
+    let reply = super::context::unsave_context_judged(
         &mut general,
         &mut special,
         &mut halt,

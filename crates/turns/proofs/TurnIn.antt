@@ -13,7 +13,6 @@ use Rattle.model.specs.Registers.{Sized, admissible}
 use Rattle.model.specs.Step.{unruledBy, fetchedNeeds, fetched}
 use Rattle.model.specs.Run.{Stopped, runFor, grantMost, refusedWhole, runOf}
 use Rattle.model.specs.Order.{Passes}
-use Rattle.model.specs.Numbers.{numberOf, replyOf}
 use Rattle.model.specs.Parts.{lent}
 use Rattle.model.specs.declared.Bases.{Bases}
 use Rattle.model.specs.declared.State.{State}
@@ -23,7 +22,6 @@ use Rattle.model.proofs.RunMeant.{run-open}
 use Rattle.stack.specs.GivenBack.{refusalOn}
 use Rattle.stack.proofs.Judged.{judged-by}
 use Rattle.instruction.specs.StepAnswer.{RunNumbered}
-use Rattle.instruction.proofs.EarlyRefusals.{refusal-number}
 use Rattle.instruction.proofs.RunTurned.{passed}
 use Rattle.studies.specs.Tasks.{Own, foreign, mmixIn, anyForeign}
 use Rattle.studies.specs.Call.{partRuled}
@@ -37,7 +35,7 @@ use Rattle.turns.proofs.TurnRun.{run-shapes}
 
 -- ---- what refuses a turn whole
 
-refused : (w : Windows) (s : State) (n m : ℕ) → n ≡ numberOf (replyOf m) → RunNumbered (refusedWhole m w s) n 0 s w
+refused : (w : Windows) (s : State) (n m : ℕ) → n ≡ m → RunNumbered (refusedWhole m w s) n 0 s w
 refused w s n m e = record { reply-is = e; count-is = refl; state-is = refl; window-is = refl }
 
 module _ (p : Own) (w : Windows) (s : State) (grant : ℕ) where
@@ -45,27 +43,24 @@ module _ (p : Own) (w : Windows) (s : State) (grant : ℕ) where
   unfolding refusalOn runIn
   turn-unopened n e f = go (admissible s) e
     where
-      number : n ≡ numberOf (replyOf n)
-      number = refusal-number w s n (unfold refusalOn in e) f
-
       go : (b : Bool) → n ≡ cond b (unruledBy (shapesOf w)) 1 → RunNumbered (cond b (cond (eqb (unruledBy (shapesOf w)) 0)
           (cond (ltb grantMost grant) (refusedWhole 25 w s)
           (cond (partRuled (shapesOf w .b .size) p) (runFor both (mmixIn p) fetched grant s w) (refusedWhole 33 w s)))
           (refusedWhole (unruledBy (shapesOf w)) w s)) (refusedWhole 1 w s)) n 0 s w
-      go true q = rw (ne-eqb (unruledBy (shapesOf w)) 0 (λ k. f (q ∙ k))) (refused w s n (unruledBy (shapesOf w)) (number ∙ ap (λ (k : ℕ). numberOf (replyOf k)) q))
-      go false q = refused w s n 1 (number ∙ ap (λ (k : ℕ). numberOf (replyOf k)) q)
+      go true q = rw (ne-eqb (unruledBy (shapesOf w)) 0 (λ k. f (q ∙ k))) (refused w s n (unruledBy (shapesOf w)) q)
+      go false q = refused w s n 1 q
 
   module _ (e : refusalOn w s ≡ 0) where
     good : (admissible s ≡ true) × (unruledBy (shapesOf w) ≡ 0)
     good = judged-by w s e
 
     pub turn-large : grantMost < grant → RunNumbered (runIn w s p grant) 25 0 s w
-    unfolding runIn numberOf replyOf
+    unfolding runIn
     turn-large l = rw (good .0, good .1, lt-ltb grantMost grant l) (refused w s 25 25 refl)
 
     module _ (l : grant ≤ grantMost) where
       pub turn-partless : partRuled (length (w .b .bytes)) p ≡ false → RunNumbered (runIn w s p grant) 33 0 s w
-      unfolding runIn numberOf replyOf shapesOf shapeOf
+      unfolding runIn shapesOf shapeOf
       turn-partless f = rw (good .0, good .1, le-ltb grantMost grant l, f) (refused w s 33 33 refl)
 
       turn-open : partRuled (length (w .b .bytes)) p ≡ true → runIn w s p grant ≡ runFor both (mmixIn p) fetched grant s w
@@ -158,7 +153,7 @@ module _ (at : Bases) (a b : List ℕ) (p : Own) (s : State) (e : refusalOn (len
     unfolding told
     turn-done = rw (turn-whole p (lent at a b) f fine s grant z e l) (record {
       reply-is = viewed-told .reply-is
-          ∙ ap (λ (c : Bool). numberOf (replyOf (cond (lost (ran .reply) && c) 32 (ran .reply)))) (sym (any-whole p (lent at a b) (fetchedNeeds (ran .memory) (ran .state))));
+          ∙ ap (λ (c : Bool). cond (lost (ran .reply) && c) 32 (ran .reply)) (sym (any-whole p (lent at a b) (fetchedNeeds (ran .memory) (ran .state))));
       count-is = viewed-told .count-is;
       state-is = viewed-told .state-is;
       window-is = put-back ∙ ap (back p (lent at a b)) (viewed-told .window-is);

@@ -8,11 +8,8 @@ use Rattle.model.specs.Registers.{Sized, admissible}
 use Rattle.model.specs.Lists.{stepOn}
 use Rattle.model.specs.Step.{unruledBy, fetchedNeeds, fetched, mmix}
 use Rattle.model.specs.Run.{runOf}
-use Rattle.model.specs.Numbers.{numberOf, replyOf}
 use Rattle.model.specs.declared.State.{State}
-use Rattle.model.proofs.Numbers.{run-number}
 use Rattle.model.proofs.AdmissibleKept.{adm}
-use Rattle.model.proofs.Leaves.{replies-leave}
 use Rattle.model.proofs.RunLaws.{run-by}
 use Rattle.model.proofs.RunMeant.{Ready, fetched-on, fetched-shapes, run-ready, call-by}
 use Rattle.instruction.specs.StepAnswer.{RunNumbered}
@@ -33,9 +30,6 @@ run-shapes grant w s =
 
 module _ (h : Whole) (w : Windows) (s : State) (grant : ℕ) (z : Sized s) (a : admissible s ≡ true) (u : unruledBy (shapesOf w) ≡ 0) (o : OwnOnly h w)
     (n d : ℕ) (t : State) (v : Windows) (e : RunNumbered (runOf w s grant) n d t v) where
-  number : n ≡ runOf w s grant .reply
-  number = e .reply-is ∙ run-number (runOf w s grant .reply) (replies-leave .by-run w s grant z .most)
-
   ends : Ready (runOf w s grant .memory) (runOf w s grant .state)
   ends = call-by (λ r. Ready (r .memory) (r .state)) w s grant (λ b. starts) (λ b n. starts) (λ b l. starts) (λ c. run-ready grant w s starts)
     where
@@ -59,23 +53,23 @@ module _ (h : Whole) (w : Windows) (s : State) (grant : ℕ) (z : Sized s) (a : 
   -- ---- the number told
 
   told-by : (f : Bool) → (lost (runOf w s grant .reply) && asks h (fetchedNeeds (runOf w s grant .memory) (runOf w s grant .state))) ≡ f
-      → (m : ℕ) → m ≡ numberOf (replyOf (cond f 32 (runOf w s grant .reply))) → RunNumbered (told h (runOf w s grant)) m d t v
+      → (m : ℕ) → m ≡ cond f 32 (runOf w s grant .reply) → RunNumbered (told h (runOf w s grant)) m d t v
   unfolding told
   told-by f g m i = record { reply-is = rw g i; count-is = e .count-is; state-is = e .state-is; window-is = e .window-is }
 
   pub told-found : lost n ≡ false → RunNumbered (told h (runOf w s grant)) n d t v
   told-found l =
-      let k : lost (runOf w s grant .reply) ≡ false = ap lost (sym number) ∙ l in
+      let k : lost (runOf w s grant .reply) ≡ false = ap lost (sym (e .reply-is)) ∙ l in
       told-by false (rw k) n (e .reply-is)
 
   asked : lost n ≡ true → (r : Bool) → r ≡ asks h (fetchedNeeds v t) → (lost (runOf w s grant .reply) && asks h (fetchedNeeds (runOf w s grant .memory) (runOf w s grant .state))) ≡ r
   asked l r q =
-      let k : lost (runOf w s grant .reply) ≡ true = ap lost (sym number) ∙ l in
+      let k : lost (runOf w s grant .reply) ≡ true = ap lost (sym (e .reply-is)) ∙ l in
       rw (k, ← (e .window-is), ← (e .state-is)) (sym q)
 
   module _ (l : lost n ≡ true) (r : Bool) (q : r ≡ asks h (fetchedNeeds v t)) where
     pub told-foreign : r ≡ true → RunNumbered (told h (runOf w s grant)) 32 d t v
-    told-foreign f = told-by true (asked l r q ∙ f) 32 (unfold numberOf replyOf in refl)
+    told-foreign f = told-by true (asked l r q ∙ f) 32 refl
 
     pub told-lost : r ≡ false → RunNumbered (told h (runOf w s grant)) n d t v
     told-lost f = told-by false (asked l r q ∙ f) n (e .reply-is)

@@ -29,11 +29,11 @@ get-address-requires c κs = search needs
 get-address-requires-2 : tie.Need-get-address-requires-2
 get-address-requires-2 c κs = search needs
 
-pop-to-requires : tie.Need-pop-to-requires
-pop-to-requires c κs = search needs
+pop-to-judged-requires : tie.Need-pop-to-judged-requires
+pop-to-judged-requires c κs = search needs
 
-save-to-requires : tie.Need-save-to-requires
-save-to-requires c κs = search needs
+save-to-judged-requires : tie.Need-save-to-judged-requires
+save-to-judged-requires c κs = search needs
 
 unsave-register-requires : tie.Need-unsave-register-requires
 unsave-register-requires c κs = search needs
@@ -113,7 +113,7 @@ unfolding armOf
 returns-8 c =
     let key = c .before .before .before .before .before .before .before in
     let start = key .before .before .before in
-    step-pop _ _ (start .pre .0) (start .pre .1) _ _ _ _ _ (made _ _ _ _ _ _) _ (rw (key .match .keys8)) (c .pop-to .ensures _ _)
+    step-pop _ _ (start .pre .0) (start .pre .1) _ _ _ _ _ (made _ _ _ _ _ _) _ (rw (key .match .keys8)) (c .pop-to-judged .ensures _ _)
 
 same-length-3 : tie.Need-same-length-3
 same-length-3 c = search needs
@@ -126,7 +126,7 @@ unfolding armOf
 returns-9 c =
     let key = c .before .before .before .before .before .before .before .before .before .before .before in
     let start = key .before .before .before in
-    save-step _ _ (start .pre .0) (start .pre .1) _ _ _ _ _ (made _ _ _ _ _ _) _ (rw (key .match .keys9)) (c .before .before .before .before .save-to .ensures)
+    save-step _ _ (start .pre .0) (start .pre .1) _ _ _ _ _ (made _ _ _ _ _ _) _ (rw (key .match .keys9)) (c .before .before .before .before .save-to-judged .ensures)
 
 same-length-5 : tie.Need-same-length-5
 same-length-5 c = search needs
@@ -183,4 +183,4 @@ returns-15 c =
     ranged-step _ _ (start .pre .0) (start .pre .1) _ _ _ _ _ (made _ _ _ _ _ _) _ (start .pre .2) (start .pre .3) (rest .match .rest) (call .by-range .ensures)
 
 pub by-key-spec : {M : Type 1} → statement M
-by-key-spec = tie.close (tie.spec trap-arm-requires go-by-requires go-by-requires-2 jump-requires jump-requires-2 get-address-requires get-address-requires-2 pop-to-requires save-to-requires unsave-register-requires synchronize-requires skip-requires get-special-requires trip-arm-requires by-range-requires returns returns-2 returns-3 returns-4 returns-5 returns-6 returns-7 same-length same-length-2 returns-8 same-length-3 same-length-4 returns-9 same-length-5 same-length-6 returns-10 returns-11 returns-12 returns-13 returns-14 same-length-7 same-length-8 returns-15)
+by-key-spec = tie.close (tie.spec trap-arm-requires go-by-requires go-by-requires-2 jump-requires jump-requires-2 get-address-requires get-address-requires-2 pop-to-judged-requires save-to-judged-requires unsave-register-requires synchronize-requires skip-requires get-special-requires trip-arm-requires by-range-requires returns returns-2 returns-3 returns-4 returns-5 returns-6 returns-7 same-length same-length-2 returns-8 same-length-3 same-length-4 returns-9 same-length-5 same-length-6 returns-10 returns-11 returns-12 returns-13 returns-14 same-length-7 same-length-8 returns-15)

@@ -50,8 +50,8 @@ same-length-2 c = search needs
 returns-2 : tie.Need-returns-2
 returns-2 c = search needs
 
-push-to-requires : tie.Need-push-to-requires
-push-to-requires c κs = search needs
+push-to-judged-requires : tie.Need-push-to-judged-requires
+push-to-judged-requires c κs = search needs
 
 same-length-3 : tie.Need-same-length-3
 same-length-3 c = search needs
@@ -68,7 +68,7 @@ returns-3 c =
     let a = start .args in
     let w = lent (a .at) (a .a .now) (a .b .now) in
     let s = made (a .general .now) (a .special .now) (a .pc .now) (a .halt .now) (a .marks) (a .mask) in
-    let called = pushed .push-to .ensures (a .halt .now) (a .marks) (a .mask) in
+    let called = pushed .push-to-judged .ensures (a .halt .now) (a .marks) (a .mask) in
     ⊎-elim
     (λ k. step-push-go w s (start .pre .0) (start .pre .1) _ _ _ _ _ (made _ _ _ _ _ _) _ _ (rw (k .0 .keys1)) (k .3 ∙ k .2 .ensures _ _ _ _ _) called)
     (λ o. ⊎-elim
@@ -94,7 +94,7 @@ dispatch-spec =
     same-length
     same-length-2
     returns-2
-    push-to-requires
+    push-to-judged-requires
     same-length-3
     same-length-4
     returns-3)

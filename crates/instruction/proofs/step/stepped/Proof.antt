@@ -45,7 +45,7 @@ same-length-4 : tie.Need-same-length-4
 same-length-4 c = search needs
 
 returns-2 : tie.Need-returns-2
-returns-2 c = numbered _ _ (made _ _ _ _ _ _) _ _ (c .before .before .before .before .before .dispatch .ensures) (c .number-of .ensures)
+returns-2 c = numbered (lentAt _ _ _ _) (made _ _ _ _ _ _) _ _ _ _ _ (made _ _ _ _ _ _) _ _ (c .before .before .before .before .before .dispatch .ensures) (c .number-of .ensures)
 
 pub stepped-spec : {M : Type 1} → statement M
 stepped-spec =

@@ -16,15 +16,15 @@ refused-requires c κs = let a = c .before .before .before .before .before .befo
 returns : tie.Need-returns
 returns c = let a = c .before .before .before .before .before .before .before .before .args in pop-refused (lent (a .at) (a .a .now) (a .b .now)) (a .state) (a .x) (a .yz) _ (c .before .before .refusal .ensures (a .state .general) (a .state .pc) (a .state .halt)) (c .before .if1 .taken) _ (c .refused .ensures .0) (c .refused .ensures .1 (a .state) (a .yz))
 
-pop-frame-requires : tie.Need-pop-frame-requires
-pop-frame-requires c κs = search needs
+pop-frame-judged-requires : tie.Need-pop-frame-judged-requires
+pop-frame-judged-requires c κs = search needs
 
 returns-2 : tie.Need-returns-2
 returns-2 c =
     let a = c .before .before .before .before .before .before .before .before .before .before .before .args in
     let w = lent (a .at) (a .a .now) (a .b .now) in
-    rw (pop-judged w (a .state) (a .x) (a .yz) (sym (c .before .before .before .before .before .refusal .ensures (a .state .general) (a .state .pc) (a .state .halt)) ∙ c .before .before .before .before .if1 .left)) at (c .pop-frame .ensures (a .state .pc) (a .state .marks) (a .state .mask))
+    rw (pop-judged w (a .state) (a .x) (a .yz) (sym (c .before .before .before .before .before .refusal .ensures (a .state .general) (a .state .pc) (a .state .halt)) ∙ c .before .before .before .before .if1 .left)) at (c .pop-frame-judged .ensures (a .state .pc) (a .state .marks) (a .state .mask))
 
 pub pop-frame-spec : {M : Type 1} → statement M
 pop-frame-spec =
-    tie.close (tie.spec refusal-requires refused-requires returns pop-frame-requires returns-2)
+    tie.close (tie.spec refusal-requires refused-requires returns pop-frame-judged-requires returns-2)

@@ -22,8 +22,8 @@ same-length-2 c = search needs
 returns : tie.Need-returns
 returns c = let a = c .before .before .before .before .before .before .before .before .before .before .args in push-refused (lent (a .at) (a .a .now) (a .b .now)) (a .state) (a .x) _ (c .before .before .refusal .ensures (a .state .general) (a .state .pc) (a .state .halt)) (c .before .if1 .taken) _ (c .refused .ensures)
 
-push-frame-requires : tie.Need-push-frame-requires
-push-frame-requires c κs = search needs
+push-frame-judged-requires : tie.Need-push-frame-judged-requires
+push-frame-judged-requires c κs = search needs
 
 same-length-3 : tie.Need-same-length-3
 same-length-3 c = search needs
@@ -35,7 +35,7 @@ returns-2 : tie.Need-returns-2
 returns-2 c =
     let a = c .before .before .before .before .before .before .before .before .before .before .before .before .before .before .before .before .before .before .args in
     let w = lent (a .at) (a .a .now) (a .b .now) in
-    rw (push-judged w (a .state) (a .x) (sym (c .before .before .before .before .before .before .before .before .before .before .refusal .ensures (a .state .general) (a .state .pc) (a .state .halt)) ∙ c .before .before .before .before .before .before .before .before .before .if1 .left)) at (c .before .before .before .before .push-frame .ensures (a .state .halt) (a .state .marks) (a .state .mask))
+    rw (push-judged w (a .state) (a .x) (sym (c .before .before .before .before .before .before .before .before .before .before .refusal .ensures (a .state .general) (a .state .pc) (a .state .halt)) ∙ c .before .before .before .before .before .before .before .before .before .if1 .left)) at (c .before .before .before .before .push-frame-judged .ensures (a .state .halt) (a .state .marks) (a .state .mask))
 
 pub push-frame-spec : {M : Type 1} → statement M
 push-frame-spec =
@@ -46,7 +46,7 @@ push-frame-spec =
     same-length
     same-length-2
     returns
-    push-frame-requires
+    push-frame-judged-requires
     same-length-3
     same-length-4
     returns-2)

@@ -22,8 +22,8 @@ same-length-2 c = search needs
 returns : tie.Need-returns
 returns c = let a = c .before .before .before .before .before .before .before .before .before .before .args in save-refused (lent (a .at) (a .a .now) (a .b .now)) (a .state) (a .x) _ (c .before .before .refusal .ensures (a .state .general) (a .state .pc) (a .state .halt)) (c .before .if1 .taken) _ (c .refused .ensures)
 
-save-context-requires : tie.Need-save-context-requires
-save-context-requires c κs = search needs
+save-context-judged-requires : tie.Need-save-context-judged-requires
+save-context-judged-requires c κs = search needs
 
 same-length-3 : tie.Need-same-length-3
 same-length-3 c = search needs
@@ -35,7 +35,7 @@ returns-2 : tie.Need-returns-2
 returns-2 c =
     let a = c .before .before .before .before .before .before .before .before .before .before .before .before .before .before .before .before .before .before .before .args in
     let w = lent (a .at) (a .a .now) (a .b .now) in
-    rw (save-judged w (a .state) (a .x) (sym (c .before .before .before .before .before .before .before .before .before .before .before .refusal .ensures (a .state .general) (a .state .pc) (a .state .halt)) ∙ c .before .before .before .before .before .before .before .before .before .before .if1 .left)) at (c .before .before .before .before .save-context .ensures (a .state .pc))
+    rw (save-judged w (a .state) (a .x) (sym (c .before .before .before .before .before .before .before .before .before .before .before .refusal .ensures (a .state .general) (a .state .pc) (a .state .halt)) ∙ c .before .before .before .before .before .before .before .before .before .before .if1 .left)) at (c .before .before .before .before .save-context-judged .ensures (a .state .pc))
 
 pub save-context-spec : {M : Type 1} → statement M
 save-context-spec =
@@ -46,7 +46,7 @@ save-context-spec =
     same-length
     same-length-2
     returns
-    save-context-requires
+    save-context-judged-requires
     same-length-3
     same-length-4
     returns-2)

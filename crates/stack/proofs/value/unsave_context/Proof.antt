@@ -16,16 +16,16 @@ refused-requires c κs = let a = c .before .before .before .before .before .befo
 returns : tie.Need-returns
 returns c = let a = c .before .before .before .before .before .before .before .before .args in unsave-refused (lent (a .at) (a .a .now) (a .b .now)) (a .state) (a .address) _ (c .before .before .refusal .ensures (a .state .general) (a .state .pc) (a .state .halt)) (c .before .if1 .taken) _ (c .refused .ensures)
 
-unsave-context-requires : tie.Need-unsave-context-requires
-unsave-context-requires c κs = search needs
+unsave-context-judged-requires : tie.Need-unsave-context-judged-requires
+unsave-context-judged-requires c κs = search needs
 
 returns-2 : tie.Need-returns-2
 returns-2 c =
     let a = c .before .before .before .before .before .before .before .before .before .before .before .args in
     let w = lent (a .at) (a .a .now) (a .b .now) in
-    rw (unsave-judged w (a .state) (a .address) (sym (c .before .before .before .before .before .refusal .ensures (a .state .general) (a .state .pc) (a .state .halt)) ∙ c .before .before .before .before .if1 .left)) at (c .unsave-context .ensures (a .state .pc) (a .state .marks) (a .state .mask))
+    rw (unsave-judged w (a .state) (a .address) (sym (c .before .before .before .before .before .refusal .ensures (a .state .general) (a .state .pc) (a .state .halt)) ∙ c .before .before .before .before .if1 .left)) at (c .unsave-context-judged .ensures (a .state .pc) (a .state .marks) (a .state .mask))
 
 pub unsave-context-spec : {M : Type 1} → statement M
 unsave-context-spec =
     tie.close
-    (tie.spec refusal-requires refused-requires returns unsave-context-requires returns-2)
+    (tie.spec refusal-requires refused-requires returns unsave-context-judged-requires returns-2)

@@ -1,4 +1,4 @@
--- `pop_frame` meets its contract: what it judges is what the definition judges, in that order.
+-- `pop_frame_judged` meets its contract: what it judges is what the definition judges, in that order.
 use mathlib.Core.Path.{_≡_, refl, sym, _∙_}
 use mathlib.Core.Bool.{true}
 use Prim.Native.Nat.{ℕ}
@@ -10,8 +10,8 @@ use Rattle.stack.specs.GivenBack.{placed}
 use Rattle.stack.proofs.PushPopRegisters.{held-by, placed-by}
 use Rattle.stack.proofs.PushPopAnswers.{pop-one, pop-none, pop-rejected}
 use borrow.Author.Needs.{needs}
-use Rattle.stack.proofs.frame.pop_frame.Statement.{statement}
-use Rattle.stack.proofs.frame.pop_frame.Tie as tie
+use Rattle.stack.proofs.frame.pop_frame_judged.Statement.{statement}
+use Rattle.stack.proofs.frame.pop_frame_judged.Tie as tie
 
 -- rG and rL are placed
 good : (c : tie.Else1) (pc halt marks mask : ℕ) → placed (made (c .before .before .before .before .before .before .before .before .before .before .args .general .now) (c .before .before .before .before .before .before .before .before .before .before .args .special .now) pc halt marks mask) ≡ true
@@ -73,8 +73,8 @@ returns-4 c =
     let a = c .before .before .before .before .before .before .before .before .before .before .before .before .before .before .before .before .args in
     c .pop-at .ensures pc (a .halt .now) marks mask (sym (c .before .before .before .before .is-misplaced .ensures (made (a .general .now) (a .special .now) pc (a .halt .now) marks mask) refl) ∙ c .before .before .before .if3 .left)
 
-pub pop-frame-spec : {M : Type 1} → statement M
-pop-frame-spec =
+pub pop-frame-judged-spec : {M : Type 1} → statement M
+pop-frame-judged-spec =
     tie.close
     (tie.spec
     counted-requires

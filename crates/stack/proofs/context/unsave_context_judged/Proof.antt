@@ -1,10 +1,10 @@
--- `unsave_context` meets its contract: each way out is what `locate` found.
+-- `unsave_context_judged` meets its contract: each way out is what `locate` found.
 use Rattle.model.specs.Registers.{halted}
 use Rattle.stack.proofs.LocateAnswers.{stands-at}
 use Rattle.stack.proofs.SaveUnsaveAnswers.{unsave-done, unsave-bad, unsave-lost}
 use borrow.Author.Needs.{needs}
-use Rattle.stack.proofs.context.unsave_context.Statement.{statement}
-use Rattle.stack.proofs.context.unsave_context.Tie as tie
+use Rattle.stack.proofs.context.unsave_context_judged.Statement.{statement}
+use Rattle.stack.proofs.context.unsave_context_judged.Tie as tie
 
 locate-requires : tie.Need-locate-requires
 locate-requires c κs = search needs
@@ -31,8 +31,8 @@ returns-2 c = λ pc marks mask. unsave-bad _ _ _ _ (c .before .before .before .l
 returns-3 : tie.Need-returns-3
 returns-3 c = λ pc marks mask. unsave-lost _ _ _ _ (c .before .before .before .locate .ensures) _ (c .before .located3 .given .1)
 
-pub unsave-context-spec : {M : Type 1} → statement M
-unsave-context-spec =
+pub unsave-context-judged-spec : {M : Type 1} → statement M
+unsave-context-judged-spec =
     tie.close
     (tie.spec
     locate-requires

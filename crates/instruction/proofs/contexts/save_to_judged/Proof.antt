@@ -1,13 +1,13 @@
--- `save_to` meets its contract: the reply's number is the outcome's, so the match tells whether PC goes on.
+-- `save_to_judged` meets its contract: the reply's number is the outcome's, so the match tells whether PC goes on.
 use borrow.Author.Needs.{needs}
 use Rattle.model.specs.Parts.{made, lent}
 use Rattle.stack.specs.SaveUnsave.{saveIn}
 use Rattle.instruction.proofs.SaveUnsaveSent.{save-onward, onward-done, onward-refused}
-use Rattle.instruction.proofs.contexts.save_to.Statement.{statement}
-use Rattle.instruction.proofs.contexts.save_to.Tie as tie
+use Rattle.instruction.proofs.contexts.save_to_judged.Statement.{statement}
+use Rattle.instruction.proofs.contexts.save_to_judged.Tie as tie
 
-save-context-requires : tie.Need-save-context-requires
-save-context-requires c κs = search needs
+save-context-judged-requires : tie.Need-save-context-judged-requires
+save-context-judged-requires c κs = search needs
 
 enum-told : tie.Need-enum-told
 enum-told c = search needs
@@ -27,7 +27,7 @@ returns c =
     let told = c .before .before .before .before .before .before .before .before in
     let a = told .before .before .before .before .before .before .before .before .args in
     let s = made (a .general .now) (a .special .now) (a .pc .now) (a .halt .now) (a .marks) (a .mask) in
-    onward-done _ s (save-onward (lent (a .at) (a .a .now) (a .b .now)) s (a .x)) _ _ _ _ _ (told .save-context .ensures (a .pc .now)) _ (c .before .before .before .match .keys1) (c .following .ensures)
+    onward-done _ s (save-onward (lent (a .at) (a .a .now) (a .b .now)) s (a .x)) _ _ _ _ _ (told .save-context-judged .ensures (a .pc .now)) _ (c .before .before .before .match .keys1) (c .following .ensures)
 
 same-length-3 : tie.Need-same-length-3
 same-length-3 c = search needs
@@ -41,13 +41,13 @@ returns-2 c =
     let told = c .before .before .before .before .before in
     let a = told .before .before .before .before .before .before .before .before .args in
     let s = made (a .general .now) (a .special .now) (a .pc .now) (a .halt .now) (a .marks) (a .mask) in
-    onward-refused _ s (save-onward (lent (a .at) (a .a .now) (a .b .now)) s (a .x)) _ _ _ _ _ (told .save-context .ensures (a .pc .now)) (c .match .keys2)
+    onward-refused _ s (save-onward (lent (a .at) (a .a .now) (a .b .now)) s (a .x)) _ _ _ _ _ (told .save-context-judged .ensures (a .pc .now)) (c .match .keys2)
 
-pub save-to-spec : {M : Type 1} → statement M
-save-to-spec =
+pub save-to-judged-spec : {M : Type 1} → statement M
+save-to-judged-spec =
     tie.close
     (tie.spec
-    save-context-requires
+    save-context-judged-requires
     enum-told
     following-requires
     same-length

@@ -1,4 +1,4 @@
--- `push_frame` meets its contract: what it asks is what the definition asks, and what its calls leave is what PUSH does.
+-- `push_frame_judged` meets its contract: what it asks is what the definition asks, and what its calls leave is what PUSH does.
 use mathlib.Core.Path.{_≡_, refl, sym, _∙_}
 use mathlib.Core.Bool.{true}
 use Prim.Native.Nat.{ℕ}
@@ -11,8 +11,8 @@ use Rattle.stack.proofs.PushPopRegisters.{held-by}
 use Rattle.stack.proofs.Judged.{passed, failed, lost-by, missing-by}
 use Rattle.stack.proofs.PushPopAnswers.{push-one, push-six, push-done}
 use borrow.Author.Needs.{needs}
-use Rattle.stack.proofs.frame.push_frame.Statement.{statement}
-use Rattle.stack.proofs.frame.push_frame.Tie as tie
+use Rattle.stack.proofs.frame.push_frame_judged.Statement.{statement}
+use Rattle.stack.proofs.frame.push_frame_judged.Tie as tie
 
 -- rG and rL are placed
 good : (c : tie.Else1) (pc halt marks mask : ℕ) → placed (made (c .before .before .before .before .before .before .before .before .before .before .args .general .now) (c .before .before .before .before .before .before .before .before .before .before .args .special .now) pc halt marks mask) ≡ true
@@ -94,8 +94,8 @@ returns-3 c =
     (passed w _ _ _ _ (c .before .before .before .before .before .before .before .before .before .before .before .before .run-refusal .ensures) (c .before .before .before .before .before .before .before .before .before .before .before .if2 .left) (omega arith))
     (c .before .before .before .before .before .before .before .store-frame .ensures (a .special .now) (a .pc) halt marks mask) (c .enter .ensures halt marks mask)
 
-pub push-frame-spec : {M : Type 1} → statement M
-push-frame-spec =
+pub push-frame-judged-spec : {M : Type 1} → statement M
+push-frame-judged-spec =
     tie.close
     (tie.spec
     counted-requires

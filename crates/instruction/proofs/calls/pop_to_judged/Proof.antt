@@ -1,4 +1,4 @@
--- `pop_to` meets its contract: each answer of the stack is a number, and with 0 PC is sent on.
+-- `pop_to_judged` meets its contract: each answer of the stack is a number, and with 0 PC is sent on.
 use mathlib.Core.Path.{refl}
 use borrow.Author.Needs.{needs}
 use Rattle.model.specs.Registers.{goes}
@@ -7,8 +7,8 @@ use Rattle.model.specs.Numbers.{replyOf}
 use Rattle.model.specs.Parts.{made, lent}
 use Rattle.stack.specs.PushPop.{popNumber}
 use Rattle.instruction.proofs.PushPopSent.{pop-done, pop-refused}
-use Rattle.instruction.proofs.calls.pop_to.Statement.{statement}
-use Rattle.instruction.proofs.calls.pop_to.Tie as tie
+use Rattle.instruction.proofs.calls.pop_to_judged.Statement.{statement}
+use Rattle.instruction.proofs.calls.pop_to_judged.Tie as tie
 
 mul-yz : tie.Need-mul-yz
 mul-yz c = search needs
@@ -16,8 +16,8 @@ mul-yz c = search needs
 add-yz : tie.Need-add-yz
 add-yz c = search needs
 
-pop-frame-requires : tie.Need-pop-frame-requires
-pop-frame-requires c κs = search needs
+pop-frame-judged-requires : tie.Need-pop-frame-judged-requires
+pop-frame-judged-requires c κs = search needs
 
 enum-known-found : tie.Need-enum-known-found
 enum-known-found c = search needs
@@ -46,7 +46,7 @@ returns c =
     λ marks mask.
     let told = c .before .before .before in
     let a = told .before .before .before .before .before .before .args in
-    pop-done (lent (a .at) (a .a .now) (a .b .now)) (made (a .general .now) (a .special .now) (a .pc .now) (a .halt .now) marks mask) (a .x) (yzOf (a .y) (a .z)) _ _ (told .pop-frame .ensures (a .pc .now) marks mask) _ (c .before .found .given .1)
+    pop-done (lent (a .at) (a .a .now) (a .b .now)) (made (a .general .now) (a .special .now) (a .pc .now) (a .halt .now) marks mask) (a .x) (yzOf (a .y) (a .z)) _ _ (told .pop-frame-judged .ensures (a .pc .now) marks mask) _ (c .before .found .given .1)
 
 returns-2 : tie.Need-returns-2
 unfolding replyOf popNumber
@@ -54,7 +54,7 @@ returns-2 c =
     λ marks mask.
     let told = c .before .before in
     let a = told .before .before .before .before .before .before .args in
-    pop-refused (lent (a .at) (a .a .now) (a .b .now)) (made (a .general .now) (a .special .now) (a .pc .now) (a .halt .now) marks mask) (a .x) (yzOf (a .y) (a .z)) _ _ (told .pop-frame .ensures (a .pc .now) marks mask) _ _ (c .enum-told .given .1) refl refl
+    pop-refused (lent (a .at) (a .a .now) (a .b .now)) (made (a .general .now) (a .special .now) (a .pc .now) (a .halt .now) marks mask) (a .x) (yzOf (a .y) (a .z)) _ _ (told .pop-frame-judged .ensures (a .pc .now) marks mask) _ _ (c .enum-told .given .1) refl refl
 
 returns-3 : tie.Need-returns-3
 unfolding replyOf popNumber
@@ -62,7 +62,7 @@ returns-3 c =
     λ marks mask.
     let told = c .before .before in
     let a = told .before .before .before .before .before .before .args in
-    pop-refused (lent (a .at) (a .a .now) (a .b .now)) (made (a .general .now) (a .special .now) (a .pc .now) (a .halt .now) marks mask) (a .x) (yzOf (a .y) (a .z)) _ _ (told .pop-frame .ensures (a .pc .now) marks mask) _ _ (c .enum-told2 .given .1) refl refl
+    pop-refused (lent (a .at) (a .a .now) (a .b .now)) (made (a .general .now) (a .special .now) (a .pc .now) (a .halt .now) marks mask) (a .x) (yzOf (a .y) (a .z)) _ _ (told .pop-frame-judged .ensures (a .pc .now) marks mask) _ _ (c .enum-told2 .given .1) refl refl
 
 returns-4 : tie.Need-returns-4
 unfolding replyOf popNumber
@@ -70,7 +70,7 @@ returns-4 c =
     λ marks mask.
     let told = c .before .before in
     let a = told .before .before .before .before .before .before .args in
-    pop-refused (lent (a .at) (a .a .now) (a .b .now)) (made (a .general .now) (a .special .now) (a .pc .now) (a .halt .now) marks mask) (a .x) (yzOf (a .y) (a .z)) _ _ (told .pop-frame .ensures (a .pc .now) marks mask) _ _ (c .enum-told3 .given .1) refl refl
+    pop-refused (lent (a .at) (a .a .now) (a .b .now)) (made (a .general .now) (a .special .now) (a .pc .now) (a .halt .now) marks mask) (a .x) (yzOf (a .y) (a .z)) _ _ (told .pop-frame-judged .ensures (a .pc .now) marks mask) _ _ (c .enum-told3 .given .1) refl refl
 
 returns-5 : tie.Need-returns-5
 unfolding replyOf popNumber
@@ -78,7 +78,7 @@ returns-5 c =
     λ marks mask.
     let told = c .before .before in
     let a = told .before .before .before .before .before .before .args in
-    pop-refused (lent (a .at) (a .a .now) (a .b .now)) (made (a .general .now) (a .special .now) (a .pc .now) (a .halt .now) marks mask) (a .x) (yzOf (a .y) (a .z)) _ _ (told .pop-frame .ensures (a .pc .now) marks mask) _ _ (c .enum-told4 .given .1) refl refl
+    pop-refused (lent (a .at) (a .a .now) (a .b .now)) (made (a .general .now) (a .special .now) (a .pc .now) (a .halt .now) marks mask) (a .x) (yzOf (a .y) (a .z)) _ _ (told .pop-frame-judged .ensures (a .pc .now) marks mask) _ _ (c .enum-told4 .given .1) refl refl
 
 returns-6 : tie.Need-returns-6
 unfolding replyOf popNumber
@@ -86,7 +86,7 @@ returns-6 c =
     λ marks mask.
     let told = c .before .before in
     let a = told .before .before .before .before .before .before .args in
-    pop-refused (lent (a .at) (a .a .now) (a .b .now)) (made (a .general .now) (a .special .now) (a .pc .now) (a .halt .now) marks mask) (a .x) (yzOf (a .y) (a .z)) _ _ (told .pop-frame .ensures (a .pc .now) marks mask) _ _ (c .enum-told5 .given .1) refl refl
+    pop-refused (lent (a .at) (a .a .now) (a .b .now)) (made (a .general .now) (a .special .now) (a .pc .now) (a .halt .now) marks mask) (a .x) (yzOf (a .y) (a .z)) _ _ (told .pop-frame-judged .ensures (a .pc .now) marks mask) _ _ (c .enum-told5 .given .1) refl refl
 
 returns-7 : tie.Need-returns-7
 unfolding replyOf popNumber
@@ -94,15 +94,15 @@ returns-7 c =
     λ marks mask.
     let told = c .before .before in
     let a = told .before .before .before .before .before .before .args in
-    pop-refused (lent (a .at) (a .a .now) (a .b .now)) (made (a .general .now) (a .special .now) (a .pc .now) (a .halt .now) marks mask) (a .x) (yzOf (a .y) (a .z)) _ _ (told .pop-frame .ensures (a .pc .now) marks mask) _ _ (c .enum-told6 .given .1) refl refl
+    pop-refused (lent (a .at) (a .a .now) (a .b .now)) (made (a .general .now) (a .special .now) (a .pc .now) (a .halt .now) marks mask) (a .x) (yzOf (a .y) (a .z)) _ _ (told .pop-frame-judged .ensures (a .pc .now) marks mask) _ _ (c .enum-told6 .given .1) refl refl
 
-pub pop-to-spec : {M : Type 1} → statement M
-pop-to-spec =
+pub pop-to-judged-spec : {M : Type 1} → statement M
+pop-to-judged-spec =
     tie.close
     (tie.spec
     mul-yz
     add-yz
-    pop-frame-requires
+    pop-frame-judged-requires
     enum-known-found
     enum-told
     enum-told-2

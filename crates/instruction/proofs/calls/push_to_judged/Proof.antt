@@ -1,13 +1,13 @@
--- `push_to` meets its contract: the stack's reply tells whether PC is sent on.
+-- `push_to_judged` meets its contract: the stack's reply tells whether PC is sent on.
 use borrow.Author.Needs.{needs}
 use Rattle.model.specs.Registers.{goes}
 use Rattle.model.specs.Parts.{made, lent}
 use Rattle.instruction.proofs.PushPopSent.{push-done, push-refused}
-use Rattle.instruction.proofs.calls.push_to.Statement.{statement}
-use Rattle.instruction.proofs.calls.push_to.Tie as tie
+use Rattle.instruction.proofs.calls.push_to_judged.Statement.{statement}
+use Rattle.instruction.proofs.calls.push_to_judged.Tie as tie
 
-push-frame-requires : tie.Need-push-frame-requires
-push-frame-requires c κs = search needs
+push-frame-judged-requires : tie.Need-push-frame-judged-requires
+push-frame-judged-requires c κs = search needs
 
 enum-told : tie.Need-enum-told
 enum-told c = search needs
@@ -24,7 +24,7 @@ returns c =
     λ halt marks mask.
     let told = c .before .before .before .before .before .before in
     let a = told .before .before .before .before .before .before .before .before .args in
-    push-done (lent (a .at) (a .a .now) (a .b .now)) (made (a .general .now) (a .special .now) (a .pc .now) halt marks mask) (a .x) (a .target) _ _ _ (told .push-frame .ensures halt marks mask) (c .before .match .keys1)
+    push-done (lent (a .at) (a .a .now) (a .b .now)) (made (a .general .now) (a .special .now) (a .pc .now) halt marks mask) (a .x) (a .target) _ _ _ (told .push-frame-judged .ensures halt marks mask) (c .before .match .keys1)
 
 same-length-3 : tie.Need-same-length-3
 same-length-3 c = search needs
@@ -37,13 +37,13 @@ returns-2 c =
     λ halt marks mask.
     let told = c .before .before .before .before .before in
     let a = told .before .before .before .before .before .before .before .before .args in
-    push-refused (lent (a .at) (a .a .now) (a .b .now)) (made (a .general .now) (a .special .now) (a .pc .now) halt marks mask) (a .x) (a .target) _ _ _ (told .push-frame .ensures halt marks mask) (c .match .keys2)
+    push-refused (lent (a .at) (a .a .now) (a .b .now)) (made (a .general .now) (a .special .now) (a .pc .now) halt marks mask) (a .x) (a .target) _ _ _ (told .push-frame-judged .ensures halt marks mask) (c .match .keys2)
 
-pub push-to-spec : {M : Type 1} → statement M
-push-to-spec =
+pub push-to-judged-spec : {M : Type 1} → statement M
+push-to-judged-spec =
     tie.close
     (tie.spec
-    push-frame-requires
+    push-frame-judged-requires
     enum-told
     same-length
     same-length-2

@@ -1,4 +1,4 @@
--- `save_context` meets its contract: each way out is one of the plan: 1, 13, 6, done.
+-- `save_context_judged` meets its contract: each way out is one of the plan: 1, 13, 6, done.
 use mathlib.Core.Path.{_≡_, sym, _∙_}
 use mathlib.Core.Bool.{true}
 use Prim.Native.Nat.{ℕ}
@@ -11,8 +11,8 @@ use Rattle.stack.proofs.SaveStores.{departed}
 use Rattle.stack.proofs.Judged.{lost-by, missing-by}
 use Rattle.stack.proofs.SaveUnsaveAnswers.{ranged, save-state, save-local, save-missing, save-done}
 use borrow.Author.Needs.{needs}
-use Rattle.stack.proofs.context.save_context.Statement.{statement}
-use Rattle.stack.proofs.context.save_context.Tie as tie
+use Rattle.stack.proofs.context.save_context_judged.Statement.{statement}
+use Rattle.stack.proofs.context.save_context_judged.Tie as tie
 
 -- 1 has passed
 judged : (c : tie.Else1) (pc halt : ℕ) → admissible (made (c .before .before .before .before .before .args .general .now) (c .before .before .before .before .before .args .special .now) pc halt (c .before .before .before .before .before .args .marks) (c .before .before .before .before .before .args .mask)) ≡ true
@@ -86,8 +86,8 @@ returns-4 c =
     save-done _ _ _ (judged (c .before .before .before .before .before .before .before .before .before .before .before .before .before .before .before .before .before .before .before .before .before .before) pc _) (c .before .before .before .before .before .before .before .before .before .before .before .before .before .before .before .before .before .before .if2 .left) (omega (arith, c .before .before .before .before .before .before .before .before .before .before .before .before .before .before .before .run-refusal .ensures, c .before .before .before .before .before .before .before .before .before .before .before .before .before .before .if3 .left)) _ _
     (departed _ _ _ _ _ (c .before .before .before .before .before .before .before .before .before .before .before .counted .ensures .1) (stored .1) (c .depart .ensures) pc _ _ _) (stored .0)
 
-pub save-context-spec : {M : Type 1} → statement M
-save-context-spec =
+pub save-context-judged-spec : {M : Type 1} → statement M
+save-context-judged-spec =
     tie.close
     (tie.spec
     admissible-requires
