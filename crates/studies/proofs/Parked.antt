@@ -11,25 +11,26 @@ use borrow.Author.Tests.{ltb-false}
 use Rattle.model.specs.Fill.{over}
 use Rattle.model.specs.Memory.{Windows, Shapes, shapesOf, both}
 use Rattle.model.specs.Opcodes.{opSAVE, opUNSAVE, armOf}
-use Rattle.model.specs.Plan.{Plan, read, Outcome, mapOutcome, perform, worst, looks, All, Off}
+use Rattle.model.specs.Plan.{Plan, Outcome, mapOutcome, perform, worst, All, Off}
 use Rattle.model.specs.NoMemory.{tell}
 use Rattle.model.specs.Lists.{Machine, stepOn}
 use Rattle.model.specs.Registers.{rO, rS, rG, rL, sp, reg, following, Sized, Words, admissible, goes, next, halted, claimLocal, withSpecial, spilled}
 use Rattle.model.specs.Contexts.{extent, saved, contextAddress, savedState, saveContext, contextAt, unsavedUnspilled, unsaved, unsaveContext}
-use Rattle.model.specs.Step.{refusalOf, unruledBy, planOf, fromThree, stepPlan, claims, xIn, yIn, zIn, tetraAt, keepsClaim, settledBy, takenBack, instructionPlan, tetraPlan, fetchedPlan, tetraOf, itemPlan}
+use Rattle.model.specs.Step.{refusalOf, unruledBy, planOf, fromThree, claims, keepsClaim, settledBy, takenBack, instructionPlan, itemPlan}
+use Rattle.model.specs.Ways.{Way, by-step, by-fetch, itemBy, NamesBy, xBy, yBy, zBy}
 use Rattle.model.specs.declared.State.{State}
 use Rattle.model.proofs.Fill.{over-in, over-below, over-above}
 use Rattle.model.proofs.Memory.{both-lawful}
 use Rattle.model.proofs.Plan.{Kept}
-use Rattle.model.proofs.Runs.{perform-read, read-done}
 use Rattle.model.proofs.Lists.{runs-kept, runs-always}
-use Rattle.model.proofs.Entry.{said-by, guarded-is, guarded-done}
+use Rattle.model.proofs.Entry.{said-by}
+use Rattle.model.proofs.Ways.{planBy, item-opens, Opened, item-opened}
 use Rattle.model.proofs.AdmissibleKept.{Adm, Good, adm, adm-of, goes-good, saved-good}
 use Rattle.model.proofs.DemandCore.{Caller, touchedBy, afterIn, reply-of}
 use Rattle.model.proofs.DemandFetched.{claim-other, claim-global}
 use Rattle.model.proofs.SaveUnsave.{savedOn, Saves, save-fits, save-stores, savedState-address, Wraps, shape-same, unsavedNext, withContext, Unsaves, unsave-found}
 use Rattle.model.proofs.Roundtrip.{isSaved, unsaved-generals, unsaved-specials, unsaved-rS}
-use Rattle.studies.specs.Parked.{inContext, ComesBack, Way, by-step, by-fetch, itemBy, NamesBy, LentBy, xBy, zBy, Asks, Context}
+use Rattle.studies.specs.Parked.{inContext, ComesBack, Asks, Context}
 
 -- ---- the registers
 
@@ -66,56 +67,6 @@ saved-address : (s : State) (x : ℕ) → Sized s → x < 256 → reg (next (sav
 unfolding goes
 saved-address s x n l = savedState-address s x n l
 
--- ---- an instruction, by step or fetched, by any judge
-
--- its plan once 1, 2, 22 and the fetch have passed, y its Y
-abbrev yBy : Way → Windows → State → ℕ
-yBy (by-step x y z) w s = y
-yBy by-fetch w s = yIn (tetraOf w s)
-
-abbrev planBy : Way → State → ℕ → ℕ → ℕ → ℕ → Plan State
-planBy (by-step x' y' z') s op x y z = fromThree s (armOf op) op x y z
-planBy by-fetch s op x y z = instructionPlan s op x y z
-
-one-judged : (j : ℕ → ℕ) (a : ℕ) → j a ≡ 0 → worst j a 1 ≡ 0
-unfolding worst
-one-judged j a e = omega arith
-
-judged-one : (j : ℕ → ℕ) (a : ℕ) → worst j a 1 ≡ 0 → j a ≡ 0
-unfolding worst
-judged-one j a e = omega arith
-
-module _ (op : ℕ) (j : ℕ → ℕ) (w : Windows) (s : State) where
-  abbrev Opens : Way → Type 0
-  Opens i = perform both j s (itemPlan s (shapesOf w) (itemBy i op)) w ≡ perform both j s (planBy i s op (xBy i w s) (yBy i w s) (zBy i w s)) w
-
-  item-opens : (i : Way) → admissible s ≡ true → unruledBy (shapesOf w) ≡ 0 → NamesBy i op w s → LentBy i j s → Opens i
-  unfolding itemPlan stepPlan fetchedPlan tetraPlan looks
-  item-opens (by-step x y z) a r e l = ap (λ (p : Plan State). perform both j s p w) (guarded-is s s (shapesOf w) (fromThree s (armOf op) op x y z) a r)
-  item-opens by-fetch a r e l =
-      ap (λ (p : Plan State). perform both j s p w) (guarded-is s s (shapesOf w) (read 24 (s .pc) 1 (λ v. tetraPlan s (tetraAt s (getD v 0 0)))) a r)
-      ∙ perform-read both both-lawful j s 24 (s .pc) 1 (λ v. tetraPlan s (tetraAt s (getD v 0 0))) w (one-judged j (s .pc) l)
-      ∙ ap (λ (o : ℕ). perform both j s (instructionPlan s o (xIn (tetraOf w s)) (yIn (tetraOf w s)) (zIn (tetraOf w s))) w) e
-
-  -- one that is done
-  record Opened (i : Way) : Type 0 where
-    admitted : admissible s ≡ true
-    fine : unruledBy (shapesOf w) ≡ 0
-    opens : Opens i
-
-  item-opened : (i : Way) → NamesBy i op w s → perform both j s (itemPlan s (shapesOf w) (itemBy i op)) w .reply ≡ 0 → Opened i
-  unfolding itemPlan stepPlan fetchedPlan
-  item-opened (by-step x y z) e d =
-      let m : (admissible s ≡ true) × (unruledBy (shapesOf w) ≡ 0) = guarded-done j w s s (fromThree s (armOf op) op x y z) d in
-      record { admitted = m .0; fine = m .1; opens = item-opens (by-step x y z) (m .0) (m .1) e tt }
-  item-opened by-fetch e d =
-      let k : List ℕ → Plan State = λ v. tetraPlan s (tetraAt s (getD v 0 0)) in
-      let m : (admissible s ≡ true) × (unruledBy (shapesOf w) ≡ 0) = guarded-done j w s s (read 24 (s .pc) 1 k) d in
-      let there : worst j (s .pc) 1 ≡ 0
-      = read-done both both-lawful j s 24 (s .pc) 1 k w (λ q. omega arith)
-      (ap (λ (q : Plan State). perform both j s q w .reply) (sym (guarded-is s s (shapesOf w) (read 24 (s .pc) 1 k) (m .0) (m .1))) ∙ d) in
-      record { admitted = m .0; fine = m .1; opens = item-opens by-fetch (m .0) (m .1) e (judged-one j (s .pc) there) }
-
 -- ---- SAVE
 
 -- fetched and done, it claimed nothing: a marginal X is refused by 13
@@ -142,11 +93,11 @@ unfolding fromThree instructionPlan planOf armOf refusalOf claims
 save-plan (by-step a b c) j w s x y z d = refl
 save-plan by-fetch j w s x y z d = save-unclaimed j w s x d
 
-record SaveItem (j : ℕ → ℕ) (w : Windows) (s : State) (i : Way) : Type 0 where
-  saves : Saves j w s (xBy i w s)
-  outcome-is : perform both j s (itemPlan s (shapesOf w) (itemBy i opSAVE)) w ≡ record { reply = 0; state = next (savedState s (xBy i w s)); memory = savedOn w s }
+pub record SaveItem (j : ℕ → ℕ) (w : Windows) (s : State) (i : Way) : Type 0 where
+  pub saves : Saves j w s (xBy i w s)
+  pub outcome-is : perform both j s (itemPlan s (shapesOf w) (itemBy i opSAVE)) w ≡ record { reply = 0; state = next (savedState s (xBy i w s)); memory = savedOn w s }
 
-save-item : (j : ℕ → ℕ) (w : Windows) (s : State) (i : Way) → NamesBy i opSAVE w s → perform both j s (itemPlan s (shapesOf w) (itemBy i opSAVE)) w .reply ≡ 0 → SaveItem j w s i
+pub save-item : (j : ℕ → ℕ) (w : Windows) (s : State) (i : Way) → NamesBy i opSAVE w s → perform both j s (itemPlan s (shapesOf w) (itemBy i opSAVE)) w .reply ≡ 0 → SaveItem j w s i
 save-item j w s i e d =
     let m : Opened opSAVE j w s i = item-opened opSAVE j w s i e d in
     let x : ℕ = xBy i w s in
@@ -184,16 +135,16 @@ module _ {S I : Type 0} (mc : Machine S I Shapes) (k : Caller mc) (wraps : (w : 
     pub halt-same : end .halt ≡ k .get es .halt
 
   module _ (w : Windows) (ss : S) (i u : Way) (is : List I) (there : k .There ss) (n : Sized (k .get ss)) (words : Words (k .get ss)) where
-    abbrev Survives : Outcome S Windows → Type 0
+    abbrev pub Survives : Outcome S Windows → Type 0
     Survives o = All (Off (Context (k .get ss))) (touchedBy mc k o is)
         → Asks (k .judge (shapesOf (afterIn mc k o is .memory))) (afterIn mc k o is .memory) (k .get (afterIn mc k o is .state)) (reg (k .get (o .state)) (xBy i w (k .get ss))) u
         → UnparksIn (k .get ss) (afterIn mc k o is .state) (afterIn mc k o is .memory)
         (stepOn both mc (afterIn mc k o is .state) (afterIn mc k o is .memory) (k .does (itemBy u opUNSAVE)))
 
-    abbrev parked : State
+    abbrev pub parked : State
     parked = next (savedState (k .get ss) (xBy i w (k .get ss)))
 
-    survives : Saves (k .judge (shapesOf w)) w (k .get ss) (xBy i w (k .get ss)) → xBy i w (k .get ss) < 256
+    pub survives : Saves (k .judge (shapesOf w)) w (k .get ss) (xBy i w (k .get ss)) → xBy i w (k .get ss) < 256
         → Survives (record { reply = 0; state = k .put ss parked; memory = savedOn w (k .get ss) })
     unfolding mapOutcome
     survives c byte off asks =

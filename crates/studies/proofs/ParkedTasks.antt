@@ -9,27 +9,29 @@ use Rattle.model.specs.Opcodes.{opSAVE, opUNSAVE}
 use Rattle.model.specs.Plan.{Outcome, All, Off}
 use Rattle.model.specs.Lists.{Ran, stepOn}
 use Rattle.model.specs.Registers.{reg, fresh}
-use Rattle.model.specs.Step.{refusing, stepOf, fetchedOf, itemPlan, mmix}
+use Rattle.model.specs.Step.{refusing, mmix}
+use Rattle.model.specs.Ways.{itemBy, xBy, doneBy}
 use Rattle.model.specs.Demand.{after, afterNeeds}
 use Rattle.model.specs.declared.State.{State}
 use Rattle.model.proofs.Memory.{both-lawful}
 use Rattle.model.proofs.Runs.{octa-mod}
+use Rattle.model.proofs.Ways.{done-is}
 use Rattle.model.proofs.Lists.{runTouches-off}
 use Rattle.model.proofs.Demand.{mmix-caller}
 use Rattle.model.proofs.SaveUnsave.{refusing-mod, Wraps}
 use Rattle.studies.specs.Tasks.{Own, refusingIn, taskOf, studies}
 use Rattle.studies.specs.TaskDemand.{turnOn}
-use Rattle.studies.specs.Parked.{Way, by-step, by-fetch, itemBy, xBy, Asks, Context, savedBy, untilUnsave, UnparksTo, ParkedTasks, doneBy, Unparks, ParkedSurvives}
+use Rattle.studies.specs.Parked.{Asks, Context, savedBy, untilUnsave, UnparksTo, ParkedTasks, Unparks, ParkedSurvives}
 use Rattle.studies.proofs.Judge.{judge-octa}
 use Rattle.studies.proofs.Callers.{task-caller, turns-off}
 use Rattle.studies.proofs.Parked.{UnparksIn, parked-survives-in}
 
 -- ---- task c
 
-task-wraps : (p : Own) (w : Shapes) → Wraps (refusingIn p w)
+pub task-wraps : (p : Own) (w : Shapes) → Wraps (refusingIn p w)
 task-wraps p w a b e = judge-octa p w a b (octa-mod a b e)
 
-unparks-to : (p : Own) (c : ℕ) (s : State) (r : Ran (List State) Windows) (o : Outcome (List State) Windows)
+pub unparks-to : (p : Own) (c : ℕ) (s : State) (r : Ran (List State) Windows) (o : Outcome (List State) Windows)
     → UnparksIn studies (task-caller c p) (task-wraps p) s (r .state) (r .memory) o → UnparksTo c s r o
 unparks-to p c s r o h =
     let its : taskOf (set (r .state) c (h .end)) c ≡ h .end = getD-set-same (r .state) c (h .end) fresh (h .there) in
@@ -50,11 +52,6 @@ parked-tasks p w ss c i u is there n words names byte done off asks =
     (turns-off (Off (Context (taskOf ss c))) is (savedBy p w ss c i .state) (savedBy p w ss c i .memory) off) asks)
 
 -- ---- one state
-
-done-is : (i : Way) (op : ℕ) (w : Windows) (s : State) → stepOn both mmix s w (itemBy i op) ≡ doneBy i op w s
-unfolding stepOn mmix both itemPlan stepOf fetchedOf
-done-is (by-step x y z) op w s = refl
-done-is by-fetch op w s = refl
 
 unparks : (s : State) (r : Ran State Windows) (o : Outcome State Windows) → UnparksIn mmix mmix-caller refusing-mod s (r .state) (r .memory) o → Unparks s r o
 unparks s r o h =

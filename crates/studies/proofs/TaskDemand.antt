@@ -36,7 +36,7 @@ set-alike {A} d c xs ys n others l v =
     go k (yes e) = rw e (getD-set-same xs c v d l ∙ sym (getD-set-same ys c v d (rw (← n) l)))
     go k (no m) = getD-set-other xs c k v d m ∙ others k m ∙ sym (getD-set-other ys c k v d m)
 
-paired : (p : Own) (c h : ℕ) (ss ts : List State) → TasksAlike c h ss ts → c < length ss → Sized (taskOf ss c) → Sized (taskOf ts c) → Words (taskOf ss c) → Words (taskOf ts c)
+pub paired : (p : Own) (c h : ℕ) (ss ts : List State) → TasksAlike c h ss ts → c < length ss → Sized (taskOf ss c) → Sized (taskOf ts c) → Words (taskOf ss c) → Words (taskOf ts c)
     → Paired studies (task-caller c p) ss ts
 paired p c h ss ts a l ns nt ws wt = record {
   there = l;
@@ -48,14 +48,14 @@ paired p c h ss ts a l ns nt ws wt = record {
   words-too = wt;
 }
 
-private-to : (p : Own) (c h : ℕ) (s t : State) (a b : Outcome (List State) Windows) (is : List Turn) → PrivateIn studies (task-caller c p) h s t a b is → PrivateTo p c h s t a b is
+pub private-to : (p : Own) (c h : ℕ) (s t : State) (a b : Outcome (List State) Windows) (is : List Turn) → PrivateIn studies (task-caller c p) h s t a b is → PrivateTo p c h s t a b is
 private-to p c h s t a b is q = record {
   call-same = q .call-same;
   answers-same = q .answers-same;
   states-same = q .states-same;
   window-same = q .window-same;
-  first-back = λ at x y z. record { done = q .first-back at x y z .done; locals = q .first-back at x y z .locals };
-  second-back = λ at x y z. record { done = q .second-back at x y z .done; locals = q .second-back at x y z .locals };
+  first-back = λ at u m. record { done = q .first-back at u m .done; locals = q .first-back at u m .locals };
+  second-back = λ at u m. record { done = q .second-back at u m .done; locals = q .second-back at u m .locals };
 }
 
 -- ---- any parts
@@ -75,7 +75,7 @@ demand3-tasks-fetched p w ss ts c f is any there ns nt ws wt op alike done pcs o
 
 -- ---- a frame in the caller's own part
 
-frame-off : (p : Own) (w : Windows) (a n c : ℕ) (is : List Turn) (ss : List State) (i : Item) → worst (refusingIn p (shapesOf w)) a n ≡ 0 → OwnFrame p w a n c is
+pub frame-off : (p : Own) (w : Windows) (a n c : ℕ) (is : List Turn) (ss : List State) (i : Item) → worst (refusingIn p (shapesOf w)) a n ≡ 0 → OwnFrame p w a n c is
     → All (Off (Within a n)) (runNeedsBy both studies (ownNeeds c) (turnOn p w ss c i .state) (turnOn p w ss c i .memory) is)
     → All (Off (Within a n)) (runTouches both studies (turnOn p w ss c i .state) (turnOn p w ss c i .memory) is)
 frame-off p w a n c is ss i fits own off =

@@ -13,14 +13,15 @@ use Rattle.model.specs.Lists.{Ran, stepOn, needsOf, runs, runNeedsBy}
 use Rattle.model.specs.Registers.{rO, sp, fresh}
 use Rattle.model.specs.Opcodes.{opPOP}
 use Rattle.model.specs.Frames.{hole}
-use Rattle.model.specs.Step.{refusing, stepOf, Item, step, itemPlan, mmix}
-use Rattle.model.specs.Demand.{Within, opcodeOf, SameOutside, AtPop, GivesBack, after, popAfter, Private}
+use Rattle.model.specs.Step.{refusing, stepOf, fetchedOf, Item, step, fetched, itemPlan, mmix}
+use Rattle.model.specs.Ways.{Way, by-step, by-fetch, itemBy, doneBy, MetBy}
+use Rattle.model.specs.Demand.{Within, opcodeOf, SameOutside, AtPop, GivesBack, after, popAfter, PopMet, Private}
 use Rattle.model.specs.declared.State.{State}
 use Rattle.model.proofs.Bools.{on}
 use Rattle.model.proofs.Memory.{both-lawful}
 use Rattle.model.proofs.Plan.{needs-map, perform-shape}
 use Rattle.studies.specs.Tasks.{Own, refusingIn, taskOf, Turn, turn, turnJudge, turnPlan, studies, without32, turnNeeds}
-use Rattle.studies.specs.TaskDemand.{TasksAlike, turnOn, afterTurns, popIn, GivesBackTo, PrivateTo, WithoutTasks}
+use Rattle.studies.specs.TaskDemand.{TasksAlike, turnOn, afterTurns, popIn, PopMetIn, GivesBackTo, PrivateTo, WithoutTasks}
 use Rattle.studies.proofs.Judge.{whole, whole-judge}
 use Rattle.studies.proofs.Callers.{turn-does}
 
@@ -96,19 +97,29 @@ module _ (sh : Shapes) where
   step-alone : (s : State) (m : Windows) (op x y z : ℕ) → shapesOf m ≡ sh → turnOn (whole sh) m (s ∷ []) 0 (step op x y z) ≡ alone (stepOf m s op x y z)
   step-alone s m op x y z e = turn-alone s m (step op x y z) e ∙ (unfold stepOn mmix stepOf itemPlan both in refl)
 
+  way-alone : (s : State) (m : Windows) (op : ℕ) (u : Way) → shapesOf m ≡ sh → turnOn (whole sh) m (s ∷ []) 0 (itemBy u op) ≡ alone (doneBy u op m s)
+  way-alone s m op (by-step x y z) e = step-alone s m op x y z e
+  way-alone s m op by-fetch e = turn-alone s m fetched e ∙ (unfold stepOn mmix fetchedOf itemPlan both in refl)
+
   -- from the tasks' claim to 01's, a and b the outcomes of the call
   module _ (h : ℕ) (is : List Item) where
     after-alone : (o : Outcome State Windows) → shapesOf (o .memory) ≡ sh → afterTurns (alone o) (turnsOf sh is) ≡ ranAlone (after o is)
     after-alone o e = runs-alone is (o .state) (o .memory) e
 
-    back-alone : (u : State) (o : Outcome State Windows) → shapesOf (o .memory) ≡ sh → (x y z : ℕ)
-        → GivesBackTo 0 h u (popIn (whole sh) (afterTurns (alone o) (turnsOf sh is)) 0 x y z) → GivesBack h u (popAfter (after o is) x y z)
-    back-alone u o e x y z g =
-        let p : popIn (whole sh) (afterTurns (alone o) (turnsOf sh is)) 0 x y z ≡ alone (popAfter (after o is) x y z)
-        = ap (λ (r : Ran (List State) Windows). popIn (whole sh) r 0 x y z) (after-alone o e)
-        ∙ step-alone (after o is .state) (after o is .memory) opPOP x y z (runs-shape is (o .state) (o .memory) ∙ e) in
-        let b : GivesBackTo 0 h u (alone (popAfter (after o is) x y z)) = subst (GivesBackTo 0 h u) p g in
+    back-alone : (q : State) (o : Outcome State Windows) → shapesOf (o .memory) ≡ sh → (u : Way)
+        → GivesBackTo 0 h q (popIn (whole sh) (afterTurns (alone o) (turnsOf sh is)) 0 u) → GivesBack h q (popAfter (after o is) u)
+    back-alone q o e u g =
+        let p : popIn (whole sh) (afterTurns (alone o) (turnsOf sh is)) 0 u ≡ alone (popAfter (after o is) u)
+        = ap (λ (r : Ran (List State) Windows). popIn (whole sh) r 0 u) (after-alone o e)
+        ∙ way-alone (after o is .state) (after o is .memory) opPOP u (runs-shape is (o .state) (o .memory) ∙ e) in
+        let b : GivesBackTo 0 h q (alone (popAfter (after o is) u)) = subst (GivesBackTo 0 h q) p g in
         record { done = b .done; locals = b .locals }
+
+    met-alone : (o : Outcome State Windows) → shapesOf (o .memory) ≡ sh → (u : Way) → PopMet (after o is) u → PopMetIn (whole sh) (afterTurns (alone o) (turnsOf sh is)) 0 u
+    met-alone o e u m =
+        let r : Ran State Windows = after o is in
+        subst (λ (x : Ran (List State) Windows). PopMetIn (whole sh) x 0 u) (sym (after-alone o e))
+        (subst (λ (j : ℕ → ℕ). MetBy opPOP j (r .memory) (r .state) u) (sym (judge-is (r .memory) (runs-shape is (o .state) (o .memory) ∙ e))) m)
 
     private-alone : (s t : State) (a b : Outcome State Windows) → shapesOf (a .memory) ≡ sh → shapesOf (b .memory) ≡ sh
         → PrivateTo (whole sh) 0 h s t (alone a) (alone b) (turnsOf sh is) → Private h s t a b is
@@ -124,8 +135,8 @@ module _ (sh : Shapes) where
               ∙ ap (λ (r : Ran (List State) Windows). taskOf (r .state) 0) rb;
           window-same = subst (λ (r : Ran (List State) Windows). SameOutside (Within (sp s rO) h) (after a is .memory) (r .memory)) rb
               (subst (λ (r : Ran (List State) Windows). SameOutside (Within (sp s rO) h) (r .memory) (afterTurns (alone b) (turnsOf sh is) .memory)) ra (p .window-same));
-          first-back = λ at x y z. back-alone s a ea x y z (p .first-back (at-pop at) x y z);
-          second-back = λ at x y z. back-alone t b eb x y z (p .second-back (at-pop at) x y z);
+          first-back = λ at u m. back-alone s a ea u (p .first-back (at-pop at) u (met-alone a ea u m));
+          second-back = λ at u m. back-alone t b eb u (p .second-back (at-pop at) u (met-alone b eb u m));
         }
 
 step-shape : (w : Windows) (s : State) (op x y z : ℕ) → shapesOf (stepOf w s op x y z .memory) ≡ shapesOf w

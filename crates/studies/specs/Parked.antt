@@ -1,6 +1,6 @@
 -- Theorem (02, change 14). "A parked context survives the study": what SAVE stored comes back by UNSAVE, whatever the list between them does that needs no
--- octabyte of the context. "SAVE that is done, by step or fetched"; "UNSAVE by step and by run", a run being the list of its fetched instructions (RunMeant);
--- "a return to a point is no item of the list". For any rO: "Misaligned rO and contexts across both windows are included"; and any parts.
+-- octabyte of the context. SAVE that is done, by step or fetched; UNSAVE by step and by run, a run being the list of its fetched instructions (RunMeant);
+-- a return to a point is no item of the list. For any rO: "Misaligned rO and contexts across both windows are included"; and any parts.
 use Prim.Native.Nat.{ℕ, _≤_, _<_}
 use mathlib.Core.Path.{_≡_}
 use mathlib.Core.Logic.{_≢_}
@@ -14,7 +14,8 @@ use Rattle.model.specs.Plan.{Outcome, All, Off}
 use Rattle.model.specs.Lists.{Ran, runNeedsBy}
 use Rattle.model.specs.Registers.{rO, rS, rG, rL, rA, rP, rR, rZ, sp, reg, following, Sized, Words}
 use Rattle.model.specs.Contexts.{extent}
-use Rattle.model.specs.Step.{Item, step, fetched, refusing, stepOf, fetchedOf, opcodeIn, xIn, zIn, tetraOf}
+use Rattle.model.specs.Step.{Item, refusing}
+use Rattle.model.specs.Ways.{Way, itemBy, NamesBy, LentBy, xBy, zBy, doneBy}
 use Rattle.model.specs.Demand.{Within, after, afterNeeds}
 use Rattle.model.specs.declared.State.{State}
 use Rattle.studies.specs.Tasks.{Own, refusingIn, taskOf, Turn, studies, turnNeeds}
@@ -26,7 +27,7 @@ use Rattle.studies.specs.TaskDemand.{turnOn, afterTurns}
 unfoldable pub inContext : ℕ → Bool
 inContext k = eqb k rG || (eqb k rL || (eqb k rA || (eqb k rO || (leb k rR || (leb rP k && leb k rZ)))))
 
--- of s, before SAVE, in t, after UNSAVE: ".. the locals below rL and all globals, SAVE's own $X too, are as before SAVE, the other locals 0, rS = rO"
+-- of s, before SAVE, in t, after UNSAVE: the locals below rL and all globals, SAVE's own $X too, are as before SAVE, the other locals 0, rS = rO
 pub record ComesBack (s t : State) : Type 0 where
   pub special-back : (k : ℕ) → k < 32 → inContext k ≡ true → sp t k ≡ sp s k
   pub stack-back : sp t rS ≡ sp t rO
@@ -34,36 +35,9 @@ pub record ComesBack (s t : State) : Type 0 where
   pub other-zero : (i : ℕ) → sp s rL ≤ i → i < sp s rG → reg t i ≡ 0
   pub global-back : (i : ℕ) → sp s rG ≤ i → i < 256 → reg t i ≡ reg s i
 
--- ---- how an instruction is done
+-- ---- UNSAVE
 
--- "by step", with X, Y and Z; "or fetched", the tetra at PC
-pub data Way : Type 0 where
-  by-step : ℕ → ℕ → ℕ → Way
-  by-fetch : Way
-
-abbrev pub itemBy : Way → ℕ → Item
-itemBy (by-step x y z) op = step op x y z
-itemBy by-fetch op = fetched
-
--- what is fetched has that opcode
-abbrev pub NamesBy : Way → ℕ → Windows → State → Type 0
-NamesBy (by-step x y z) op w s = Unit {0}
-NamesBy by-fetch op w s = opcodeIn (tetraOf w s) ≡ op
-
--- and its octabyte is lent, by the judge j
-abbrev pub LentBy : Way → (ℕ → ℕ) → State → Type 0
-LentBy (by-step x y z) j s = Unit {0}
-LentBy by-fetch j s = j (s .pc) ≡ 0
-
-abbrev pub xBy : Way → Windows → State → ℕ
-xBy (by-step x y z) w s = x
-xBy by-fetch w s = xIn (tetraOf w s)
-
-abbrev pub zBy : Way → Windows → State → ℕ
-zBy (by-step x y z) w s = z
-zBy by-fetch w s = zIn (tetraOf w s)
-
--- an UNSAVE in state s "names the address that SAVE gave (the value in its $Z, low bits included)", a
+-- an UNSAVE in state s names the address that SAVE gave (the value in its $Z, low bits included), a
 pub record Asks (j : ℕ → ℕ) (w : Windows) (s : State) (a : ℕ) (u : Way) : Type 0 where
   pub names : NamesBy u opUNSAVE w s
   pub lent : LentBy u j s
@@ -75,14 +49,14 @@ Context s = Within (sp s rO) (extent s)
 
 -- ---- several tasks: task c on part p
 
--- SAVE, and where the list after it ends: "other tasks' turns included, refused ones too"
+-- SAVE, and where the list after it ends: other tasks' turns included, refused ones too
 abbrev pub savedBy : Own → Windows → List State → ℕ → Way → Outcome (List State) Windows
 savedBy p w ss c i = turnOn p w ss c (itemBy i opSAVE)
 
 abbrev pub untilUnsave : Own → Windows → List State → ℕ → Way → List Turn → Ran (List State) Windows
 untilUnsave p w ss c i is = afterTurns (savedBy p w ss c i) is
 
--- "it succeeds"; "PC and halt code as UNSAVE leaves them": @ + 4, and the code that was. The others' states and the windows stay
+-- "it succeeds"; PC and halt code as UNSAVE leaves them: @ + 4, and the code that was. The others' states and the windows stay
 pub record UnparksTo (c : ℕ) (s : State) (r : Ran (List State) Windows) (o : Outcome (List State) Windows) : Type 0 where
   pub done : o .reply ≡ 0
   pub state-back : ComesBack s (taskOf (o .state) c)
@@ -91,8 +65,8 @@ pub record UnparksTo (c : ℕ) (s : State) (r : Ran (List State) Windows) (o : O
   pub others-same : (k : ℕ) → k ≢ c → taskOf (o .state) k ≡ taskOf (r .state) k
   pub memory-same : o .memory ≡ r .memory
 
--- "let any list follow on the same windows and parts .. that needs no octabyte of the saved context, while nothing else writes the windows. When that task's
--- UNSAVE then names the address that SAVE gave .., it succeeds". X is a byte
+-- let any list follow on the same windows and parts that needs no octabyte of the saved context, while nothing else writes the windows. When that task's
+-- UNSAVE then names the address that SAVE gave, it succeeds. X is a byte
 abbrev pub ParkedTasks : Type 0
 ParkedTasks = (p : Own) (w : Windows) (ss : List State) (c : ℕ) (i u : Way) (is : List Turn)
     → c < length ss → Sized (taskOf ss c) → Words (taskOf ss c)
@@ -105,10 +79,6 @@ ParkedTasks = (p : Own) (w : Windows) (ss : List State) (c : ℕ) (i u : Way) (i
     (turnOn p (untilUnsave p w ss c i is .memory) (untilUnsave p w ss c i is .state) c (itemBy u opUNSAVE))
 
 -- ---- one state
-
-abbrev pub doneBy : Way → ℕ → Windows → State → Outcome State Windows
-doneBy (by-step x y z) op w s = stepOf w s op x y z
-doneBy by-fetch op w s = fetchedOf w s
 
 pub record Unparks (s : State) (r : Ran State Windows) (o : Outcome State Windows) : Type 0 where
   pub done : o .reply ≡ 0

@@ -15,9 +15,10 @@ use Rattle.model.specs.Lists.{Ran, stepOn, needsOf, runs, runNeedsBy}
 use Rattle.model.specs.Registers.{rO, sp, reg, Sized, Words, claimLocal}
 use Rattle.model.specs.Frames.{hole}
 use Rattle.model.specs.Step.{Item, step, fetched, opcodeIn, tetraOf}
+use Rattle.model.specs.Ways.{Way, itemBy, MetBy}
 use Rattle.model.specs.Demand.{Within, Call, opcodeOf, Alike, SameOutside, AtPop, xAt, Demand3}
 use Rattle.model.specs.declared.State.{State}
-use Rattle.studies.specs.Tasks.{Own, owns, taskOf, Turn, turn, studies, turnNeeds}
+use Rattle.studies.specs.Tasks.{Own, owns, refusingIn, taskOf, Turn, turn, studies, turnNeeds}
 
 -- ---- the claim
 
@@ -31,12 +32,17 @@ pub record TasksAlike (c h : ℕ) (ss ts : List State) : Type 0 where
 abbrev pub turnOn : Own → Windows → List State → ℕ → Item → Outcome (List State) Windows
 turnOn p w ss c i = stepOn both studies ss w (turn c p i)
 
--- the list after a call, and the POP after it, "by that task"
+-- the list after a call, and the POP after it, by that task
 abbrev pub afterTurns : Outcome (List State) Windows → List Turn → Ran (List State) Windows
 afterTurns o is = runs both studies (o .state) (o .memory) is
 
-abbrev pub popIn : Own → Ran (List State) Windows → ℕ → ℕ → ℕ → ℕ → Outcome (List State) Windows
-popIn p r c x y z = turnOn p (r .memory) (r .state) c (step opPOP x y z)
+-- by step, or fetched
+abbrev pub popIn : Own → Ran (List State) Windows → ℕ → Way → Outcome (List State) Windows
+popIn p r c u = turnOn p (r .memory) (r .state) c (itemBy u opPOP)
+
+-- fetched, the tetra at its PC is a POP, and its octabyte is lent to that task
+abbrev pub PopMetIn : Own → Ran (List State) Windows → ℕ → Way → Type 0
+PopMetIn p r c u = MetBy opPOP (refusingIn p (shapesOf (r .memory))) (r .memory) (taskOf (r .state) c) u
 
 pub record GivesBackTo (c h : ℕ) (s : State) (o : Outcome (List State) Windows) : Type 0 where
   pub done : o .reply ≡ 0
@@ -49,10 +55,10 @@ pub record PrivateTo (p : Own) (c h : ℕ) (s t : State) (a b : Outcome (List St
   -- every task's: ".. and after the list"
   pub states-same : afterTurns a is .state ≡ afterTurns b is .state
   pub window-same : SameOutside (Within (sp s rO) h) (afterTurns a is .memory) (afterTurns b is .memory)
-  pub first-back : AtPop h (sp (taskOf (a .state) c) rO) (taskOf (afterTurns a is .state) c) → (x y z : ℕ)
-      → GivesBackTo c h s (popIn p (afterTurns a is) c x y z)
-  pub second-back : AtPop h (sp (taskOf (a .state) c) rO) (taskOf (afterTurns a is .state) c) → (x y z : ℕ)
-      → GivesBackTo c h t (popIn p (afterTurns b is) c x y z)
+  pub first-back : AtPop h (sp (taskOf (a .state) c) rO) (taskOf (afterTurns a is .state) c) → (u : Way) → PopMetIn p (afterTurns a is) c u
+      → GivesBackTo c h s (popIn p (afterTurns a is) c u)
+  pub second-back : AtPop h (sp (taskOf (a .state) c) rO) (taskOf (afterTurns a is .state) c) → (u : Way) → PopMetIn p (afterTurns b is) c u
+      → GivesBackTo c h t (popIn p (afterTurns b is) c u)
 
 -- a condition on the caller's part, the windows, the frame (an address and how many octabytes), the caller and the list's turns
 abbrev pub Condition : Type 1
@@ -96,7 +102,7 @@ Demand3Tasks = ClaimIn anyParts (λ c. turnNeeds)
 abbrev pub Demand3TasksFetched : Type 0
 Demand3TasksFetched = FetchedClaimIn anyParts (λ c. turnNeeds)
 
--- "The claim without tasks follows from it and keeps its text"
+-- The claim without tasks follows from it and keeps its text
 abbrev pub WithoutTasks : Type 0
 WithoutTasks = Demand3Tasks → Demand3
 
