@@ -6,6 +6,7 @@ pub mod Waits
 pub mod Ends
 pub mod Counts
 pub mod SameCall
+pub mod Tried
 pub mod Parts
 pub mod Judge
 pub mod AnyForeign
@@ -17,7 +18,14 @@ pub mod OthersKept
 pub mod WithoutTasks
 pub mod Parked
 pub mod ParkedTasks
+pub mod CallBy
+pub mod Anywhere
+pub mod ParkedAnywhere
+pub mod Lent
+pub mod CallApart
 pub mod CallOrder
 pub mod Listed
 pub mod TasksUnseen
 pub mod TasksMeant
+pub mod Instance
+pub mod ParkedInstance

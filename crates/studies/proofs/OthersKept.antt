@@ -10,7 +10,7 @@ use native.Mathlib.Decide.{ℕ-discrete}
 use lib.Dec.{eqb}
 use lib.ListN.{length, getD, List·getD-eq-default}
 use lib.Seq.{getD-set-other}
-use borrow.Author.Tests.{eqb-true, eqb-false, le-leb, lt-ltb}
+use borrow.Author.Tests.{eqb-true, eqb-false}
 use Rattle.model.specs.Octa.{octa}
 use Rattle.model.specs.Memory.{Windows, Shapes, shapeOf, shapesOf, offset, has, both}
 use Rattle.model.specs.Plan.{Outcome, mapOutcome, perform, Off, Agree}
@@ -26,15 +26,11 @@ use Rattle.model.proofs.Apart.{Ruled, ruled-b}
 use Rattle.model.proofs.Entry.{said-by, guarded-leaves, unruled-none, offset-byte, byte-has, bytes-agree}
 use Rattle.studies.specs.Tasks.{Own, owns, refusingIn, taskOf, turn, turnJudge, studies}
 use Rattle.studies.specs.TaskDemand.{turnOn, Disjoint, NoneAltersAnother}
-use Rattle.studies.proofs.Parts.{owns-is}
+use Rattle.studies.proofs.Parts.{owns-is, is-owned}
 use Rattle.studies.proofs.Judge.{passed, owns-both, studies-sound}
 use Rattle.studies.proofs.Callers.{turn-does, turn-shape}
 
 -- ---- bytes of parts
-
-owns-of : (r : Own) (d : ℕ) → r .start ≤ d → d < r .start + r .size → owns r d ≡ true
-unfolding owns
-owns-of r d a b = rw (le-leb (r .start) d a, lt-ltb d (r .start + r .size) b)
 
 -- a part that splits no octabyte has, with a byte, the first of that byte's octabyte
 owns-first : (r : Own) (d : ℕ) → r .start % 8 ≡ 0 → owns r d ≡ true → owns r (8 * (d / 8)) ≡ true
@@ -42,7 +38,7 @@ owns-first r d al e =
     let b : (r .start ≤ d) × (d < r .start + r .size) = owns-is r d e in
     let lo : r .start ≤ d = b .0 in
     let hi : d < r .start + r .size = b .1 in
-    owns-of r (8 * (d / 8)) (omega arith) (omega arith)
+    is-owned r (8 * (d / 8)) (omega arith) (omega arith)
 
 -- ---- a turn
 

@@ -5,5 +5,9 @@ pub mod Call
 pub mod TaskDemand
 pub mod TasksMeant
 pub mod Parked
+pub mod Anywhere
+pub mod ParkedAnywhere
+pub mod Lent
+pub mod CallApart
 pub mod TaskPoints
 pub mod ParkedPoints

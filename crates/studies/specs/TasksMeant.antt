@@ -17,6 +17,7 @@ use Rattle.model.specs.declared.State.{State}
 use Rattle.studies.specs.Tasks.{Own, owns, anyForeign, mmixIn, taskOf, Turn, turn, studies}
 use Rattle.studies.specs.Schedule.{Given, Scheduled, Desk}
 use Rattle.studies.specs.Call.{tasksIn, partAt, overlaps, tasksRuled, allAdmissible, turnRun, callOf, Tasked, wholeRefused, tasksOf}
+use Rattle.studies.specs.TaskDemand.{Disjoint, PartsApart}
 
 -- ---- the turns that were tried
 
@@ -30,7 +31,7 @@ unfoldable pub triedAnswers : List Given → List ℕ
 triedAnswers [] = []
 triedAnswers (g ∷ gs) = triedAnswers gs ++ (replicate (g .done) 0 ++ cond (eqb (g .reply) 0) [] (g .reply ∷ []))
 
--- "counts are those of the definition's steps": states, memory and answers are those of the list of turns that were tried
+-- counts are those of the definition's steps: states, memory and answers are those of the list of turns that were tried
 pub record CallListed (w : Windows) (ss : List State) (ns : List ℕ) (d : Desk (List State) Windows) : Type 0 where
   pub answers-are : runs both studies ss w (triedTurns ns (d .given)) .answers ≡ triedAnswers (d .given)
   pub states-are : runs both studies ss w (triedTurns ns (d .given)) .state ≡ d .states
@@ -39,7 +40,7 @@ pub record CallListed (w : Windows) (ss : List State) (ns : List ℕ) (d : Desk 
 -- ---- 32
 
 pub record ForeignMeant : Type 0 where
-  -- 32 "leaves everything"; what it does not refuse is done, or refused, as on all of B: what each other number leaves is said there (RepliesLeave)
+  -- 32 leaves everything; what it does not refuse is done, or refused, as on all of B: what each other number leaves is said there (RepliesLeave)
   pub either : (p : Own) (w : Windows) (s : State) (i : Item)
       → (stepOn both (mmixIn p) s w i ≡ stepOn both mmix s w i) ⊎ (stepOn both (mmixIn p) s w i ≡ record { reply = 32; state = s; memory = w })
   -- "a needed or fetched octabyte lies in the stack window outside the task's own part": just there
@@ -59,7 +60,7 @@ pub record CallIsMeant : Type 0 where
   -- waiting, ending, spending
   pub scheduled : (ns : List ℕ) (q : ℕ) → Scheduled (turnRun ns) (tasksIn ns) q
   pub listed : (w : Windows) (ss : List State) (ns : List ℕ) (q grant : ℕ) → length ss ≡ tasksIn ns → CallListed w ss ns (callOf w ss ns q grant)
-  -- "in a call that is not refused whole the total is the grant or all have stopped"
+  -- in a call that is not refused whole the total is the grant or all have stopped
   pub total : (w : Windows) (ss : List State) (ns : List ℕ) (q grant : ℕ) → tasksOf w ss ns q grant .reply ≡ 0
       → (sumOf (tasksOf w ss ns q grant .counts) ≡ grant) ⊎ ((k : ℕ) → k < tasksIn ns → getD (tasksOf w ss ns q grant .refusals) k 0 ≢ 0)
   pub total-most : (w : Windows) (ss : List State) (ns : List ℕ) (q grant : ℕ) → sumOf (tasksOf w ss ns q grant .counts) ≤ grant
@@ -67,7 +68,7 @@ pub record CallIsMeant : Type 0 where
   pub admitted : (w : Windows) (ss : List State) (ns : List ℕ) (q grant : ℕ) → ((k : ℕ) → Sized (taskOf ss k)) → tasksOf w ss ns q grant .reply ≡ 0
       → allAdmissible (tasksIn ns) (tasksOf w ss ns q grant .states) ≡ true
 
--- "Order of the call: 2, 22, 25, 33, then 1 for any task's state", each whatever the later ones would say
+-- Order of the call: 2, 22, 25, 33, then 1 for any task's state, each whatever the later ones would say
 pub record TasksInOrder : Type 0 where
   pub two-first : (w : Windows) (ss : List State) (ns : List ℕ) (q grant : ℕ) → ruled (shapesOf w) ≡ false → tasksOf w ss ns q grant ≡ wholeRefused 2 w ss
   pub twenty-two : (w : Windows) (ss : List State) (ns : List ℕ) (q grant : ℕ) → ruled (shapesOf w) ≡ true → shares (shapesOf w) ≡ true
@@ -88,6 +89,10 @@ pub record PartsMeant : Type 0 where
   -- of a call that 33 does not refuse
   pub each-apart : (b : ℕ) (ns : List ℕ) (q : ℕ) → tasksRuled b ns q ≡ true → (j k : ℕ) → j < tasksIn ns → k < tasksIn ns → j ≢ k
       → overlaps (partAt ns j) (partAt ns k) ≡ false
+  -- as `NoneAltersAnother` and `Demand3Own` ask: such parts are disjoint, and the turns that a call tries are apart from each task's part
+  pub disjoint : (b : ℕ) (ns : List ℕ) (q : ℕ) → tasksRuled b ns q ≡ true → (j k : ℕ) → j < tasksIn ns → k < tasksIn ns → j ≢ k → Disjoint (partAt ns j) (partAt ns k)
+  pub turns-apart : (b : ℕ) (ns : List ℕ) (q : ℕ) → tasksRuled b ns q ≡ true → (w : Windows) (ss : List State) (grant c : ℕ) → c < tasksIn ns
+      → PartsApart (partAt ns c) c (triedTurns ns (callOf w ss ns q grant .given))
 
 -- ---- what is hidden
 
