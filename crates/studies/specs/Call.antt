@@ -15,7 +15,7 @@ use Rattle.studies.specs.Schedule.{countBy, refusalBy, Desk, callBy}
 
 -- ---- the parts, as a host hands them over: start and length of the first, then of the second, ..
 
--- "n = parts_len / 2"
+-- n = parts_len / 2
 abbrev pub tasksIn : List ℕ → ℕ
 tasksIn ns = length ns / 2
 
@@ -27,11 +27,11 @@ unfoldable pub eachBelow : ℕ → (ℕ → Bool) → Bool
 eachBelow zero P = true
 eachBelow (suc n) P = P n && eachBelow n P
 
--- it does not "split an octabyte" nor "leave the window", of b bytes; "start + length is a whole number"
+-- it does not "split an octabyte" nor "leave the window", of b bytes; start + length is a whole number
 unfoldable pub partRuled : ℕ → Own → Bool
 partRuled b p = eqb (p .start % 8) 0 && (eqb (p .size % 8) 0 && leb (p .start + p .size) b)
 
--- two parts "overlap": the first byte of one lies in the other; an empty one "overlaps nothing"
+-- two parts "overlap": the first byte of one lies in the other; an empty one overlaps nothing
 unfoldable pub overlaps : Own → Own → Bool
 overlaps p r = (ltb 0 (r .size) && owns p (r .start)) || (ltb 0 (p .size) && owns r (p .start))
 
@@ -43,7 +43,7 @@ partClear ns k = eachBelow k (λ j. not (overlaps (partAt ns j) (partAt ns k)))
 abbrev pub turnMost : ℕ
 turnMost = 1000
 
--- 33: "tasks not 1 to 8, parts that overlap, leave the window or split an octabyte, or q out of range"; "an odd length is 33"
+-- 33: "tasks not 1 to 8, parts that overlap, leave the window or split an octabyte, or q out of range"; an odd length is 33
 unfoldable pub tasksRuled : ℕ → List ℕ → ℕ → Bool
 tasksRuled b ns q =
     eqb (length ns % 2) 0 && ((leb 1 (tasksIn ns) && leb (tasksIn ns) 8) && ((leb 1 q && leb q turnMost)
@@ -55,14 +55,14 @@ tasksRuled b ns q =
 unfoldable pub allAdmissible : ℕ → List State → Bool
 allAdmissible n ss = eqb (length ss) n && eachBelow n (λ k. admissible (taskOf ss k))
 
--- "Order of the call: 2, 22, 25, 33, then 1 for any task's state"; 0 where it is not refused whole
+-- Order of the call: 2, 22, 25, 33, then 1 for any task's state; 0 where it is not refused whole
 unfoldable pub callRefusal : Shapes → List State → List ℕ → ℕ → ℕ → ℕ
 callRefusal w ss ns q grant =
     cond (eqb (unruledBy w) 0)
     (cond (ltb grantMost grant) 25 (cond (tasksRuled (w .b .size) ns q) (cond (allAdmissible (tasksIn ns) ss) 0 1) 33))
     (unruledBy w)
 
--- "A turn is a run of request 6", of task k on its part
+-- A turn is a run of request 6, of task k on its part
 unfoldable pub turnRun : List ℕ → ℕ → ℕ → List State → Windows → Stopped (List State) Windows
 turnRun ns k g ss w = runFor both studies (turn k (partAt ns k) fetched) g ss w
 
@@ -70,7 +70,7 @@ turnRun ns k g ss w = runFor both studies (turn k (partAt ns k) fetched) g ss w
 unfoldable pub callOf : Windows → List State → List ℕ → ℕ → ℕ → Desk (List State) Windows
 callOf w ss ns q grant = callBy (turnRun ns) (tasksIn ns) q grant ss w
 
--- "The reply of the call is 0 or the number that refuses it whole; each task's count, and its refusal or 0 for spent", eight of each; states and windows after it
+-- The reply of the call is 0 or the number that refuses it whole; each task's count, and its refusal or 0 for spent, eight of each; states and windows after it
 pub record Tasked : Type 0 where
   pub reply : ℕ
   pub counts : List ℕ

@@ -16,7 +16,7 @@ pub record Given : Type 0 where
   pub done : ℕ
   pub reply : ℕ
 
--- "each task's count", "and its refusal or 0 for spent"
+-- "each task's count", and its refusal or 0 for spent
 unfoldable pub countBy : ℕ → List Given → ℕ
 countBy k [] = 0
 countBy k (g ∷ gs) = cond (eqb (g .task) k) (g .done) 0 + countBy k gs
@@ -67,7 +67,7 @@ module _ {C M : Type 0} (run : ℕ → ℕ → C → M → Stopped C M) (n q : �
     given = record { task = k; done = r .done; reply = r .reply } ∷ d .given;
   }
 
-  -- "A turn is a run of request 6 with grant min(q, what is left)"; none where nothing is left or k has stopped
+  -- A turn is a run of request 6 with grant min(q, what is left); none where nothing is left or k has stopped
   unfoldable pub turnOf : ℕ → Desk C M → Desk C M
   turnOf k d = cond (ltb 0 (d .left) && running k (d .given)) (gave k d (run k (min q (d .left)) (d .states) (d .memory))) d
 

@@ -70,8 +70,11 @@ eight a b c = a ∷ b ∷ c ∷ replicate 5 0
 abbrev thirds : List ℕ
 thirds = 0 ∷ 16 ∷ 16 ∷ 16 ∷ 32 ∷ 16 ∷ []
 
+abbrev partsPoint : List ℕ → ℕ → ℕ → List State → List ℕ → List ℕ → List State → TaskPoint
+partsPoint ns q g ss cs rs ts = record { begin = ss; window = empty; parts = ns; q = q; grant = g; reply = 0; counts = cs; refusals = rs; end = ts; left = empty }
+
 abbrev turnPoint : ℕ → ℕ → List State → List ℕ → List ℕ → List State → TaskPoint
-turnPoint q g ss cs rs ts = record { begin = ss; window = empty; parts = thirds; q = q; grant = g; reply = 0; counts = cs; refusals = rs; end = ts; left = empty }
+turnPoint = partsPoint thirds
 
 abbrev loops : List State
 loops = at 0 0 ∷ at 0 2 ∷ at 0 4 ∷ []
@@ -86,6 +89,12 @@ turnPoints =
     ∷ turnPoint 3 11 (at 0 0 ∷ at 8 2 ∷ at 0 4 ∷ []) (eight 6 1 4) (eight 0 4 0) (at 0 0 ∷ at 12 2 ∷ at 0 4 ∷ [])
     -- all stop before the grant is spent
     ∷ turnPoint 2 100 (at 8 0 ∷ at 12 2 ∷ at 8 4 ∷ []) (eight 1 0 1) (eight 4 4 4) (at 12 0 ∷ at 12 2 ∷ at 12 4 ∷ []) ∷ []
+
+-- one task with all of B; eight, each with an empty part
+abbrev countPoints : List TaskPoint
+countPoints =
+    partsPoint (0 ∷ 48 ∷ []) 2 5 (at 0 0 ∷ []) (eight 5 0 0) (eight 0 0 0) (at 4 0 ∷ [])
+    ∷ partsPoint (replicate 16 0) 1 10 (replicate 8 (at 0 0)) (2 ∷ 2 ∷ replicate 6 1) (eight 0 0 0) (at 0 0 ∷ at 0 0 ∷ replicate 6 (at 4 0)) ∷ []
 
 -- ---- 32: two tasks, the first on octabytes 1 and 2 of B, the second on 3 and 4; 0 and 5 are in no part
 
@@ -115,7 +124,7 @@ edgePoints =
     ∷ asks (at 16 2) 0 32 (at 16 2) empty
     ∷ asks (at 16 0) 0 32 (at 16 0) empty
     ∷ asks (at 16 3) 0 32 (at 16 3) empty
-    -- "32 wins where one octabyte is foreign and another missing"
+    -- 32 wins where one octabyte is foreign and another missing
     ∷ asks (at 16 5) 0 32 (at 16 5) empty
     ∷ asks (at 16 6) 0 6 (at 16 6) empty
     -- the fetch: another's part, nobody's, no window; its own part has TRAP 0,0,0 in it
@@ -172,12 +181,12 @@ wholePoints =
     -- an octabyte split, by start and by length
     ∷ parted (4 ∷ 0 ∷ 24 ∷ 16 ∷ [])
     ∷ parted (8 ∷ 4 ∷ 24 ∷ 16 ∷ [])
-    -- beyond the window: "2^64 − 8 and 16 leave the window"
+    -- beyond the window: 2^64 − 8 and 16 leave the window
     ∷ parted (8 ∷ 16 ∷ 40 ∷ 16 ∷ [])
     ∷ parted (8 ∷ 16 ∷ (2 ^ 64 - 8) ∷ 16 ∷ [])
     ∷ parted (8 ∷ 16 ∷ 56 ∷ 0 ∷ []) ∷ []
 
--- "an empty part, its start a multiple of 8 from 0 to B's length, is fine and overlaps nothing"
+-- an empty part, its start a multiple of 8 from 0 to B's length, is fine and overlaps nothing
 abbrev emptyPoint : List ℕ → TaskPoint
 emptyPoint ns = record {
   begin = two;
@@ -196,7 +205,7 @@ abbrev emptyPoints : List TaskPoint
 emptyPoints = emptyPoint (0 ∷ 48 ∷ 16 ∷ 0 ∷ []) ∷ emptyPoint (16 ∷ 0 ∷ 0 ∷ 48 ∷ []) ∷ emptyPoint (48 ∷ 0 ∷ 48 ∷ 0 ∷ []) ∷ emptyPoint (0 ∷ 0 ∷ 0 ∷ 0 ∷ []) ∷ []
 
 unfoldable pub taskPoints : List TaskPoint
-taskPoints = turnPoints ++ (edgePoints ++ (wholePoints ++ emptyPoints))
+taskPoints = turnPoints ++ (countPoints ++ (edgePoints ++ (wholePoints ++ emptyPoints)))
 
 abbrev pub TaskPointsMet : Type 0
 TaskPointsMet = allWork taskPoints ≡ true

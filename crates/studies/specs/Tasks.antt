@@ -14,7 +14,7 @@ use Rattle.model.specs.declared.State.{State}
 
 -- ---- one task
 
--- a task's own part of window B, "(start, length) in bytes from B's base"
+-- a task's own part of window B, (start, length) in bytes from B's base
 pub record Own : Type 0 where
   pub start : ℕ
   pub size : ℕ
@@ -68,6 +68,6 @@ unfoldable pub without32 : (ℕ → ℕ) → List ℕ → List ℕ
 without32 j [] = []
 without32 j (a ∷ rest) = cond (eqb (j a) 32) (without32 j rest) (a ∷ without32 j rest)
 
--- "Needs of a step that 32 refuses are its needs less the octabytes that 32 refuses"
+-- Needs of a step that 32 refuses are its needs less the octabytes that 32 refuses
 unfoldable pub turnNeeds : List State → Windows → Turn → List ℕ
 turnNeeds ss m t = without32 (studies .judge ss (both .shape m) t) (needsOf both studies ss m t)
