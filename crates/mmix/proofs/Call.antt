@@ -1,10 +1,8 @@
 -- One call of a C function on what a host holds: it is no or one step or exception, or a run's fetched instructions, on the state that is held.
 use mathlib.Core.Path.{_≡_, refl, sym, ap, subst, _∙_}
-use mathlib.Core.Logic.{_⊎_, inl, inr}
 use mathlib.Core.Bool.{true}
 use mathlib.Core.List.{List, [], _∷_}
-use Prim.Native.Nat.{ℕ, _≤_}
-use native.Mathlib.Omega.{arith}
+use Prim.Native.Nat.{ℕ}
 use lib.ListN.{length}
 use Rattle.model.specs.Memory.{Windows, both}
 use Rattle.model.specs.Plan.{perform, worst, puts}
@@ -14,10 +12,8 @@ use Rattle.model.specs.NoMemory.{tell}
 use Rattle.model.specs.Step.{Item, step, exception, fetched, stepOf, itemPlan, mmix}
 use Rattle.model.specs.Run.{runOf}
 use Rattle.model.specs.declared.State.{State}
-use Rattle.model.proofs.Numbers.{step-number, run-number}
-use Rattle.model.proofs.Leaves.{replies-leave}
 use Rattle.image.specs.Image.{isImage, hasRoom, imageAs, stateOf}
-use Rattle.mmix.specs.Calls.{Held, image, struct, heldState, HeldIs, HeldFits, Entry, on-image, run-image, on-lent, on-parts, run-parts, decode, encode, triedItems, triedAnswers, askedBy, answeredBy, MovedBy, ImageCall, StateCall, AsImage, AsStruct, MeetsBy}
+use Rattle.mmix.specs.Calls.{Held, image, struct, heldState, HeldIs, HeldFits, Entry, on-image, run-image, on-lent, on-parts, run-parts, decode, encode, looking, triedItems, triedAnswers, askedBy, answeredBy, MovedBy, ImageCall, StateCall, AsImage, AsStruct, MeetsBy}
 use Rattle.mmix.specs.Entries.{RanImage, RanState}
 use Rattle.model.proofs.Invariants.{items-keep}
 use Rattle.image.proofs.RoundTrips.{round-trips, keeps-length}
@@ -70,24 +66,11 @@ pub record Left (s : State) (w : Windows) (i : Item) (r : ℕ) (k : Held) (v : W
   pub held-is : HeldIs k (stepOn both mmix s w i .state)
   pub window-is : v ≡ stepOn both mmix s w i .memory
 
-pub few : (n : ℕ) → (n ≡ 0) ⊎ ((n ≡ 1) ⊎ (n ≡ 19)) → (n ≤ 20) ⊎ ((n ≡ 22) ⊎ ((n ≡ 29) ⊎ (n ≡ 31)))
-few n (inl e) = inl (omega arith)
-few n (inr (inl e)) = inl (omega arith)
-few n (inr (inr e)) = inl (omega arith)
-
-state-left : (s : State) (w : Windows) (i : Item) (r : ℕ) (t : State) (v : Windows) → Sized s → StateCall s w i r t v → Left s w i r (struct t) v
+state-left : (s : State) (w : Windows) (i : Item) (r : ℕ) (t : State) (v : Windows) → StateCall s w i r t v → Left s w i r (struct t) v
 unfolding StateCall HeldIs stepOn mmix itemPlan both stepOf tell perform worst puts
-state-left s w (step op x y z) r t v n g = record {
-  reply-is = g .reply-is ∙ step-number _ (replies-leave .by-step w s op x y z n .most);
-  held-is = g .state-is;
-  window-is = g .window-is;
-}
-state-left s w (exception f op x y z a b) r t v n g = record {
-  reply-is = g .0 .reply-is ∙ step-number _ (few _ (replies-leave .by-exception s f op x y z a b n .among));
-  held-is = g .0 .state-is;
-  window-is = g .1;
-}
-state-left s w fetched r t v n g = absurd g
+state-left s w (step op x y z) r t v g = record { reply-is = g .reply-is; held-is = g .state-is; window-is = g .window-is }
+state-left s w (exception f op x y z a b) r t v g = record { reply-is = g .0 .reply-is; held-is = g .0 .state-is; window-is = g .1 }
+state-left s w fetched r t v g = absurd g
 
 -- a call on an image is one on its state
 image-state : (l : List ℕ) (w : Windows) (i : Item) (r : ℕ) (m : List ℕ) (v : Windows) → isImage l ≡ true → ImageCall l w i r m v
@@ -107,7 +90,7 @@ pub image-left : (l : List ℕ) (w : Windows) (i : Item) (r : ℕ) (m : List ℕ
 unfolding HeldIs
 image-left l w i r m v n g =
     let e = image-state l w i r m v n g in
-    let h = state-left (stateOf l) w i r _ v (round-trips .state-sized l) (e .0) in
+    let h = state-left (stateOf l) w i r _ v (e .0) in
     let t : State = stepOn both mmix (stateOf l) w i .state in
     let z : Sized t = items-keep .sized w (stateOf l) i (round-trips .state-sized l) in
     record {
@@ -127,8 +110,8 @@ pub record Counted (s : State) (w : Windows) (grant r n : ℕ) : Type 0 where
   pub reply-is : r ≡ runOf w s grant .reply
   pub count-is : n ≡ runOf w s grant .done
 
-pub state-counted : (s : State) (w : Windows) (grant r n : ℕ) (t : State) (v : Windows) → Sized s → RanState w s grant r n t v → Counted s w grant r n
-state-counted s w grant r n t v z g = record { reply-is = g .reply-is ∙ run-number _ (replies-leave .by-run w s grant z .most); count-is = g .count-is }
+pub state-counted : (s : State) (w : Windows) (grant r n : ℕ) (t : State) (v : Windows) → RanState w s grant r n t v → Counted s w grant r n
+state-counted s w grant r n t v g = record { reply-is = g .reply-is; count-is = g .count-is }
 
 -- a run on an image is one on its state
 pub image-ran : (l : List ℕ) (w : Windows) (grant r n : ℕ) (m : List ℕ) (v : Windows) → isImage l ≡ true → RanImage l w grant r n m v
@@ -201,24 +184,24 @@ after-call (struct s) w (on-image b i) r n k v h c = absurd c
 after-call (image l) w (run-image b grant) r n (image m) v h c =
     let e = image-ran l w grant r n m v (long-of l h) (c .1) in
     let t : AfterRun (stateOf l) w r n (image m) v
-    = after-run (stateOf l) w grant r n (image m) v (h .sized) (state-counted _ w grant r n _ v (h .sized) (e .0)) (ran-held l w grant m (long-of l h) (e .1)) (e .0 .window-is) in
+    = after-run (stateOf l) w grant r n (image m) v (h .sized) (state-counted _ w grant r n _ v (e .0)) (ran-held l w grant m (long-of l h) (e .1)) (e .0 .window-is) in
     record { answers-are = t .answers-are; moved = tt; held-is = t .held-is; window-is = t .window-is }
 after-call (image l) w (run-image b grant) r n (struct t) v h c = absurd (c .1)
 after-call (struct s) w (run-image b grant) r n k v h c = absurd c
 after-call (image l) w (on-lent op x y z) r n k v h c = absurd c
 after-call (struct s) w (on-lent op x y z) r n (image m) v h c = absurd c
 after-call (struct s) w (on-lent op x y z) r n (struct t) v h c =
-    let t = state-left s w (step op x y z) r t v (h .sized) c in
+    let t = state-left s w (step op x y z) r t v c in
     record { answers-are = ap (λ (q : ℕ). q ∷ []) (t .reply-is); moved = tt; held-is = t .held-is; window-is = t .window-is }
 after-call (image l) w (on-parts i) r n k v h c = absurd c
 after-call (struct s) w (on-parts i) r n (image m) v h c = absurd c
 after-call (struct s) w (on-parts i) r n (struct t) v h c =
-    let t = state-left s w i r t v (h .sized) c in
+    let t = state-left s w i r t v c in
     record { answers-are = ap (λ (q : ℕ). q ∷ []) (t .reply-is); moved = tt; held-is = t .held-is; window-is = t .window-is }
 after-call (image l) w (run-parts grant) r n k v h c = absurd c
 after-call (struct s) w (run-parts grant) r n (image m) v h c = absurd c
 after-call (struct s) w (run-parts grant) r n (struct t) v h c =
-    let t : AfterRun s w r n (struct t) v = after-run s w grant r n (struct t) v (h .sized) (state-counted s w grant r n t v (h .sized) c) (c .state-is) (c .window-is) in
+    let t : AfterRun s w r n (struct t) v = after-run s w grant r n (struct t) v (h .sized) (state-counted s w grant r n t v c) (c .state-is) (c .window-is) in
     record { answers-are = t .answers-are; moved = tt; held-is = t .held-is; window-is = t .window-is }
 after-call (image l) w decode r n (image m) v h c = absurd (c .0)
 after-call (image l) w decode r n (struct t) v h c = record {
@@ -237,16 +220,18 @@ after-call (struct s) w (encode b) r n (image m) v h c =
       held-is = held-as (c .0 .before) m s (c .0 .room) (h .sized) (c .0 .contract .image-is ∙ stored-is (c .0 .before) s (c .0 .room));
       window-is = c .1;
     }
+after-call g w (looking l) r n k v h c =
+    record { answers-are = refl; moved = tt; held-is = subst (λ (q : Held). HeldIs q (heldState g)) (sym (c .1 .0)) (h .back); window-is = c .1 .1 }
 
 -- a run's reply and count
 pub image-counted : (g : Held) (w : Windows) (b grant r n : ℕ) (k : Held) (v : Windows) → Intact g → MeetsBy g w (run-image b grant) r n k v → Counted (heldState g) w grant r n
 unfolding MeetsBy AsImage heldState
-image-counted (image l) w b grant r n (image m) v h c = state-counted (stateOf l) w grant r n _ v (h .sized) (image-ran l w grant r n m v (long-of l h) (c .1) .0)
+image-counted (image l) w b grant r n (image m) v h c = state-counted (stateOf l) w grant r n _ v (image-ran l w grant r n m v (long-of l h) (c .1) .0)
 image-counted (image l) w b grant r n (struct t) v h c = absurd (c .1)
 image-counted (struct s) w b grant r n k v h c = absurd c
 
-pub parts-counted : (g : Held) (w : Windows) (grant r n : ℕ) (k : Held) (v : Windows) → Intact g → MeetsBy g w (run-parts grant) r n k v → Counted (heldState g) w grant r n
+pub parts-counted : (g : Held) (w : Windows) (grant r n : ℕ) (k : Held) (v : Windows) → MeetsBy g w (run-parts grant) r n k v → Counted (heldState g) w grant r n
 unfolding MeetsBy AsStruct heldState
-parts-counted (struct s) w grant r n (struct t) v h c = state-counted s w grant r n t v (h .sized) c
-parts-counted (struct s) w grant r n (image m) v h c = absurd c
-parts-counted (image l) w grant r n k v h c = absurd c
+parts-counted (struct s) w grant r n (struct t) v c = state-counted s w grant r n t v c
+parts-counted (struct s) w grant r n (image m) v c = absurd c
+parts-counted (image l) w grant r n k v c = absurd c

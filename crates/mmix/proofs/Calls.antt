@@ -8,22 +8,26 @@ use native.Mathlib.Omega.{arith}
 use lib.Dec.{eqb}
 use lib.ListN.{length, replicate}
 use borrow.Author.Tests.{eqb-true}
-use Rattle.model.specs.Memory.{Windows, shapeOf, shapesOf, both}
+use Rattle.model.specs.Memory.{Windows, shapesOf, both}
 use Rattle.model.specs.Plan.{Outcome, All, Off}
 use Rattle.model.specs.Lists.{Ran, stepOn, needsOf, runs, runNeedsBy, runNeeds}
 use Rattle.model.specs.Registers.{rO, sp, reg}
 use Rattle.model.specs.Frames.{hole}
-use Rattle.model.specs.Step.{Item, step, exception, fetched, stepOf, itemPlan, mmix}
+use Rattle.model.specs.Opcodes.{opPOP}
+use Rattle.model.specs.Step.{Item, step, exception, fetched, refusing, stepOf, itemPlan, mmix}
+use Rattle.model.specs.Ways.{Way, itemBy, MetBy}
 use Rattle.model.specs.Invariants.{InstructionFits, Fits, Bytes}
-use Rattle.model.specs.Demand.{Within, opcodeOf, SameOutside, AtPop, GivesBack, Private, after, popAfter}
+use Rattle.model.specs.Demand.{Within, opcodeOf, SameOutside, AtPop, GivesBack, Private, after, popAfter, PopMet}
 use Rattle.model.specs.declared.State.{State}
 use Rattle.model.proofs.Bools.{on}
 use Rattle.model.proofs.Plan.{All-left, All-right, All-both}
+use Rattle.model.proofs.Ways.{done-is}
+use Rattle.model.proofs.Agrees.{shapes-outside}
 use Rattle.model.proofs.Demand.{demand3}
-use Rattle.mmix.specs.Calls.{Held, heldState, HeldIs, Entry, on-image, run-image, on-lent, on-parts, run-parts, decode, encode, triedItems, triedAnswers, askedBy, asked, answeredBy, Meets, Made, Chain, lastHeld, lastWindow, items, AllFit, Carried, Returns, Demand3Calls}
+use Rattle.mmix.specs.Calls.{Held, heldState, HeldIs, Entry, on-image, run-image, on-lent, on-parts, run-parts, decode, encode, looking, triedItems, triedAnswers, askedBy, asked, answeredBy, Meets, Made, Chain, lastHeld, lastWindow, items, AllFit, Carried, Returns, Demand3Calls}
 use Rattle.mmix.proofs.Tried.{Alongside, twins}
 use Rattle.mmix.proofs.Call.{Intact, intact, After, after-call}
-use Rattle.mmix.proofs.Forms.{formAfter, form-after, same-held}
+use Rattle.mmix.proofs.Forms.{form, formAfter, form-after, form-asked, same-held}
 use Rattle.mmix.proofs.Chains.{Kept, kept, Ended, SameCalls, same-calls, twins-at, same-form, chain-ended}
 
 -- one call that asks for one item; for a step
@@ -66,6 +70,7 @@ asked-step (on-parts i) r n q m op x y z a = a
 asked-step (run-parts g) r n q m op x y z a = absurd (no-step r n op x y z a)
 asked-step decode r n q m op x y z a = a
 asked-step (encode b) r n q m op x y z a = a
+asked-step (looking l) r n q m op x y z a = a
 
 -- a run of one instruction is answered by its reply too
 answered-run : (r n : ℕ) (i : Item) → triedItems r n ≡ i ∷ [] → triedAnswers r n ≡ r ∷ []
@@ -89,6 +94,7 @@ answered-one (on-parts j) r n i a = refl
 answered-one (run-parts g) r n i a = answered-run r n i a
 answered-one decode r n i a = absurd (omega (arith, ap length a))
 answered-one (encode b) r n i a = absurd (omega (arith, ap length a))
+answered-one (looking l) r n i a = absurd (omega (arith, ap length a))
 
 pub item-made : (g : Held) (w : Windows) (c : Made) (i : Item) → Intact g → Bytes w → asked c ≡ i ∷ [] → Fits i → Meets g w c
     → ItemMade g w i (c .reply) (c .held) (c .window)
@@ -114,13 +120,16 @@ step-made g w c op x y z h b a f m =
 
 -- a POP on what is held and windows that are those of r
 pub returns : (h : ℕ) (s : State) (g : Held) (v : Windows) (r : Ran State Windows) → Intact g → Bytes v → heldState g ≡ r .state → v ≡ r .memory
-    → ((x y z : ℕ) → GivesBack h s (popAfter r x y z)) → Returns h s g v
-returns h s g v r i b es ev back c x y z a f m =
-    let t : StepMade g v 0xF8 x y z (c .reply) (c .held) (c .window) = step-made g v c 0xF8 x y z i b a f m in
-    let o : stepOf v (heldState g) 0xF8 x y z ≡ popAfter r x y z
-    = ap (λ (t : State). stepOf v t 0xF8 x y z) es ∙ ap (λ (t : Windows). stepOf t (r .state) 0xF8 x y z) ev in (
-      t .reply-is ∙ ap (λ (o : Outcome State Windows). o .reply) o ∙ back x y z .done,
-      λ i less. ap (λ (t : State). reg t i) (t .state-is ∙ ap (λ (o : Outcome State Windows). o .state) o) ∙ back x y z .locals i less,
+    → ((u : Way) → PopMet r u → GivesBack h s (popAfter r u)) → Returns h s g v
+returns h s g v r i b es ev back c u a f met m =
+    let t : ItemMade g v (itemBy u opPOP) (c .reply) (c .held) (c .window) = item-made g v c (itemBy u opPOP) i b a f m in
+    let o : stepOn both mmix (heldState g) v (itemBy u opPOP) ≡ popAfter r u
+    = (λ j. stepOn both mmix (es j) (ev j) (itemBy u opPOP)) ∙ done-is u opPOP (r .memory) (r .state) in
+    let n : PopMet r u
+    = subst (λ (x : Windows). MetBy opPOP (refusing (shapesOf x)) x (r .state) u) ev
+    (subst (λ (x : State). MetBy opPOP (refusing (shapesOf v)) v x u) es met) in (
+      t .reply-is ∙ ap (λ (o : Outcome State Windows). o .reply) o ∙ back u n .done,
+      λ i less. ap (λ (t : State). reg t i) (t .state-is ∙ ap (λ (o : Outcome State Windows). o .state) o) ∙ back u n .locals i less,
     )
 
 -- the rest of a list after its first call's outcome
@@ -141,13 +150,6 @@ needs-first P [] js s w h = tt
 needs-first P (i ∷ is) js s w h =
     All-both P (needsOf both mmix s w i) _ (All-left P (needsOf both mmix s w i) _ h)
     (needs-first P is js (stepOn both mmix s w i .state) (stepOn both mmix s w i .memory) (All-right P (needsOf both mmix s w i) _ h))
-
-pub shapes-outside : (F : ℕ → Type 0) (v w : Windows) → SameOutside F v w → shapesOf v ≡ shapesOf w
-unfolding shapesOf shapeOf
-shapes-outside F v w h = λ i. record {
-  a = record { from = h .in-a .base-same i; size = h .in-a .length-same i };
-  b = record { from = h .in-b .base-same i; size = h .in-b .length-same i };
-}
 
 pub demand3-calls : Demand3Calls
 unfolding Chain
@@ -191,7 +193,8 @@ demand3-calls w g k c x y z a b cs ds hg hk hw f fs alike ea eb es ga gb done pc
       counts-same = same .counts-same;
       held-same = same-held _ _ _ (ca .held-is) (subst (HeldIs (lastHeld (b .held) ds)) (sym (d .state-same)) (cb .held-is))
           (same-form (a .held) (b .held) (a .window) (b .window) cs ds (p .whole) (q .whole) (p .bytes) (q .bytes) fs (subst AllFit (same .items-same) fs) es (ga .1) (gb .1)
-          (form-after g w (a .entry) _ _ _ _ (intact g hg .sized) (ga .0) ∙ ap formAfter (sym eb) ∙ sym (form-after k w (b .entry) _ _ _ _ (intact k hk .sized) (gb .0))));
+          (form-after g w (a .entry) _ _ _ _ (intact g hg .sized) (ga .0) ∙ form-asked (a .entry) (form g) (form k) _ _ _ ea
+          ∙ ap (formAfter (form k)) (sym eb) ∙ sym (form-after k w (b .entry) _ _ _ _ (intact k hk .sized) (gb .0))));
       window-same = subst (λ (v : Windows). SameOutside (Within (sp s rO) h) v (lastWindow (b .window) ds)) (sym (ca .window-is))
           (subst (λ (v : Windows). SameOutside (Within (sp s rO) h) (after o is .memory) v) (sym (cb .window-is)) (d .window-same));
       first-back = λ l. returns h s _ _ (after o is) (ra .whole) (ra .bytes) (ca .state-is) (ca .window-is) (d .first-back (at-pop l));

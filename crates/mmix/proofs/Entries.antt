@@ -2,18 +2,22 @@
 use mathlib.Core.Path.{_≡_, sym, ap, subst, _∙_}
 use mathlib.Core.Bool.{true, false}
 use mathlib.Core.List.{List}
-use Prim.Native.Nat.{ℕ}
+use Prim.Native.Nat.{ℕ, _≤_}
+use native.Mathlib.Omega.{arith}
 use Rattle.model.specs.Registers.{fresh}
 use Rattle.model.specs.Memory.{Windows}
 use Rattle.model.specs.NoMemory.{Said}
 use Rattle.model.specs.Plan.{Outcome}
 use Rattle.model.specs.Step.{stepOf, exceptionOf}
 use Rattle.model.specs.Run.{Stopped, runOf}
-use Rattle.model.specs.Numbers.{numberOf, replyOf}
+use Rattle.model.specs.Numbers.{numberOf}
 use Rattle.model.specs.Field.{answerOf}
 use Rattle.model.specs.declared.State.{State}
 use Rattle.model.specs.declared.Reply.{Reply}
 use Rattle.model.specs.declared.Reach.{Reach}
+use Rattle.model.proofs.Numbers.{numbered}
+use Rattle.model.proofs.ItemInvariant.{Any}
+use Rattle.model.proofs.ArmAnswers.{exception-meets}
 use Rattle.exceptions.specs.Told.{Told}
 use Rattle.instruction.specs.StepAnswer.{Numbered, RunNumbered}
 use Rattle.image.specs.Image.{isImage, imageAs, storedIn, stateOf, Encoded}
@@ -30,9 +34,17 @@ stepped-state w s op x y z r t v g = record { reply-is = g .reply-is; state-is =
 pub ran-state : (w : Windows) (s : State) (grant r n : ℕ) (t : State) (v : Windows) → RunNumbered (runOf w s grant) r n t v → RanState w s grant r n t v
 ran-state w s grant r n t v g = record { reply-is = g .reply-is; count-is = g .count-is; state-is = g .state-is; window-is = g .window-is }
 
+-- an exception's reply, of any state, is 19 at most
+exception-most : (s : State) (f op x y z u v : ℕ) → exceptionOf s f op x y z u v .reply ≤ 19
+exception-most s f op x y z u v =
+    exception-meets s Any (λ r t. r ≤ 19) f op x y z u v (λ k b. tt) (omega arith)
+    (λ a. record { adds = λ k w. omega arith; takes = record { trips = λ k w. omega arith; trips-not = omega arith } })
+
 pub raised-state : (s : State) (f op x y z u v : ℕ) (q : Reply) (t : State) → Told (exceptionOf s f op x y z u v) q t
     → (r : ℕ) → r ≡ numberOf q → RaisedState s f op x y z u v r t
-raised-state s f op x y z u v q t g r e = record { reply-is = e ∙ ap numberOf (g .reply-is); state-is = g .state-is }
+raised-state s f op x y z u v q t g r e =
+    let most : exceptionOf s f op x y z u v .reply ≤ 19 = exception-most s f op x y z u v in
+    record { reply-is = e ∙ ap numberOf (g .reply-is) ∙ numbered .number-reply (exceptionOf s f op x y z u v .reply) (omega arith); state-is = g .state-is }
 
 pub set-numbered : (s : State) (ps : List Pair) (q : Reply) (i : ℕ) (t : State) → PutSet s ps (numberOf q) i t → (r : ℕ) → r ≡ numberOf q → PutSet s ps r i t
 set-numbered s ps q i t g r e = rw e g
@@ -65,7 +77,7 @@ module _ (l : List ℕ) (n : isImage l ≡ true) where
   stepped w op x y z s e r t v g q m k =
       let d : stepOf w s op x y z ≡ stepOf w (stateOf l) op x y z = ap (λ (a : State). stepOf w a op x y z) e in
       record {
-        reply-is = g .reply-is ∙ ap (λ (o : Outcome State Windows). numberOf (replyOf (o .reply))) d ∙ if-image l n _ _;
+        reply-is = g .reply-is ∙ ap (λ (o : Outcome State Windows). o .reply) d ∙ if-image l n _ _;
         image-is = again s t e q m k ∙ ap (imageAs l) (g .state-is) ∙ ap (λ (o : Outcome State Windows). imageAs l (o .state)) d ∙ if-image l n _ _;
         window-is = g .window-is ∙ ap (λ (o : Outcome State Windows). o .memory) d ∙ if-image l n _ _;
       }
@@ -76,7 +88,7 @@ module _ (l : List ℕ) (n : isImage l ≡ true) where
   ran w grant s e r i t v g q m k =
       let d : runOf w s grant ≡ runOf w (stateOf l) grant = ap (λ (a : State). runOf w a grant) e in
       record {
-        reply-is = g .reply-is ∙ ap (λ (o : Stopped State Windows). numberOf (replyOf (o .reply))) d ∙ if-image l n _ _;
+        reply-is = g .reply-is ∙ ap (λ (o : Stopped State Windows). o .reply) d ∙ if-image l n _ _;
         count-is = g .count-is ∙ ap (λ (o : Stopped State Windows). o .done) d ∙ if-image l n _ _;
         image-is = again s t e q m k ∙ ap (imageAs l) (g .state-is) ∙ ap (λ (o : Stopped State Windows). imageAs l (o .state)) d ∙ if-image l n _ _;
         window-is = g .window-is ∙ ap (λ (o : Stopped State Windows). o .memory) d ∙ if-image l n _ _;
@@ -88,7 +100,7 @@ module _ (l : List ℕ) (n : isImage l ≡ true) where
   raised c op x y z a b s e r t g q m k =
       let d : exceptionOf s c op x y z a b ≡ exceptionOf (stateOf l) c op x y z a b = ap (λ (u : State). exceptionOf u c op x y z a b) e in
       record {
-        reply-is = g .reply-is ∙ ap (λ (o : Said). numberOf (replyOf (o .reply))) d ∙ if-image l n _ _;
+        reply-is = g .reply-is ∙ ap (λ (o : Said). o .reply) d ∙ if-image l n _ _;
         image-is = again s t e q m k ∙ ap (imageAs l) (g .state-is) ∙ ap (λ (o : Said). imageAs l (o .state)) d ∙ if-image l n _ _;
       }
 

@@ -1,7 +1,7 @@
 -- What is held after a call, a struct or an image of which length: that depends on the function alone, and its state says the rest.
 use mathlib.Core.Path.{_≡_, refl, sym, ap, _∙_}
 use mathlib.Core.Bool.{Bool, true, false, cond}
-use mathlib.Core.List.{List}
+use mathlib.Core.List.{List, [], _∷_}
 use Prim.Native.Nat.{ℕ, suc}
 use native.Mathlib.Omega.{arith}
 use lib.ListN.{length}
@@ -16,7 +16,7 @@ use Rattle.model.proofs.Invariants.{items-keep}
 use Rattle.image.specs.Image.{isImage, imageAs, stateOf}
 use Rattle.image.proofs.RoundTrips.{round-trips, keeps-length}
 use Rattle.image.proofs.Coded.{room-image, if-other, of-image, stored-is, as-same}
-use Rattle.mmix.specs.Calls.{Held, image, struct, heldState, HeldIs, Entry, on-image, run-image, on-lent, on-parts, run-parts, decode, encode, ImageCall, EncodedInto, AsImage, AsStruct, MeetsBy}
+use Rattle.mmix.specs.Calls.{Held, image, struct, heldState, HeldIs, Entry, on-image, run-image, on-lent, on-parts, run-parts, decode, encode, looking, askedBy, ImageCall, EncodedInto, AsImage, AsStruct, MeetsBy}
 use Rattle.mmix.specs.Entries.{RanImage}
 use Rattle.mmix.proofs.Call.{run-sized}
 
@@ -25,14 +25,16 @@ unfoldable pub form : Held → ℕ
 form (image l) = suc (length l)
 form (struct s) = 0
 
-unfoldable pub formAfter : Entry → ℕ
-formAfter (on-image b i) = suc b
-formAfter (run-image b grant) = suc b
-formAfter (on-lent op x y z) = 0
-formAfter (on-parts i) = 0
-formAfter (run-parts grant) = 0
-formAfter decode = 0
-formAfter (encode b) = suc b
+-- after a call that found form f
+unfoldable pub formAfter : ℕ → Entry → ℕ
+formAfter f (on-image b i) = suc b
+formAfter f (run-image b grant) = suc b
+formAfter f (on-lent op x y z) = 0
+formAfter f (on-parts i) = 0
+formAfter f (run-parts grant) = 0
+formAfter f decode = 0
+formAfter f (encode b) = suc b
+formAfter f (looking l) = f
 
 on-struct-form : (k : Held) (P : State → Type 0) → AsStruct k P → form k ≡ 0
 unfolding AsStruct form
@@ -61,7 +63,7 @@ encoded-length b s r m z g =
     let e : m ≡ imageAs (g .before) s = g .contract .image-is ∙ stored-is (g .before) s (g .room) in
     ap length e ∙ keeps-length .as-length (g .before) s (room-image (g .before) (s .mask) (g .room)) z ∙ g .long
 
-pub form-after : (g : Held) (w : Windows) (e : Entry) (r n : ℕ) (k : Held) (v : Windows) → Sized (heldState g) → MeetsBy g w e r n k v → form k ≡ formAfter e
+pub form-after : (g : Held) (w : Windows) (e : Entry) (r n : ℕ) (k : Held) (v : Windows) → Sized (heldState g) → MeetsBy g w e r n k v → form k ≡ formAfter (form g) e
 unfolding MeetsBy AsImage AsStruct heldState form formAfter
 form-after (image l) w (on-image b i) r n (image m) v z c = ap suc (item-length l w i r m v (c .1) ∙ c .0)
 form-after (image l) w (on-image b i) r n (struct t) v z c = absurd (c .1)
@@ -80,6 +82,19 @@ form-after (struct s) w decode r n k v z c = absurd (c .0)
 form-after (image l) w (encode b) r n k v z c = absurd (c .0)
 form-after (struct s) w (encode b) r n (image m) v z c = ap suc (encoded-length b s r m z (c .0))
 form-after (struct s) w (encode b) r n (struct t) v z c = absurd (c .0)
+form-after g w (looking l) r n k v z c = ap form (c .1 .0)
+
+-- after a call that asks for an item, what was found does not count
+pub form-asked : (e : Entry) (f g r n : ℕ) (i : Item) → askedBy e r n ≡ i ∷ [] → formAfter f e ≡ formAfter g e
+unfolding formAfter askedBy
+form-asked (on-image b j) f g r n i a = refl
+form-asked (run-image b grant) f g r n i a = refl
+form-asked (on-lent op x y z) f g r n i a = refl
+form-asked (on-parts j) f g r n i a = refl
+form-asked (run-parts grant) f g r n i a = refl
+form-asked decode f g r n i a = refl
+form-asked (encode b) f g r n i a = refl
+form-asked (looking l) f g r n i a = absurd (omega (arith, ap length a))
 
 pub same-held : (g k : Held) (s : State) → HeldIs g s → HeldIs k s → form g ≡ form k → g ≡ k
 unfolding HeldIs form

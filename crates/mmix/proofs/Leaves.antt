@@ -19,7 +19,7 @@ use Rattle.model.specs.Numbers.{Early, Halting}
 use Rattle.model.specs.Leaves.{StepLeaves, ExceptionLeaves, ReaderLeaves, FieldLeaves}
 use Rattle.model.proofs.Leaves.{replies-leave}
 use Rattle.model.proofs.Invariants.{items-keep}
-use Rattle.model.proofs.Numbers.{unhalting, step-number}
+use Rattle.model.proofs.Numbers.{unhalting}
 use Rattle.model.specs.declared.State.{State}
 use Rattle.image.specs.Image.{isImage, imageAs, stateOf}
 use Rattle.mmix.specs.Entries.{lentAt, Stepped, Raised, SteppedState, RaisedState, ContextAt, FieldTold}
@@ -27,7 +27,7 @@ use Rattle.mmix.specs.Leaves.{StepCallLeaves, ExceptionCallLeaves, Conte
 use Rattle.mmix.specs.Calls.{image, ImageCall}
 use Rattle.image.proofs.RoundTrips.{round-trips, keeps-length}
 use Rattle.image.proofs.Coded.{if-other}
-use Rattle.mmix.proofs.Call.{Left, image-left, image-as, few}
+use Rattle.mmix.proofs.Call.{Left, image-left, image-as}
 use Rattle.mmix.proofs.ImageLeaves.{halt-same, halted-same, tripped-image, not-loaded, trapped-image}
 use Rattle.mmix.proofs.RunLeaves.{by-run, by-state-run}
 use Rattle.mmix.proofs.SetLeaves.{by-set, by-state-set}
@@ -128,13 +128,13 @@ by-state-step : (w : Windows) (s : State) (op x y z r : ℕ) (t : State) (v : Wi
     → StepLeaves w s op x y z (record { reply = r; state = t; memory = v })
 by-state-step w s op x y z r t v h g =
     let k : StepLeaves w s op x y z (stepOf w s op x y z) = replies-leave .by-step w s op x y z h in
-    subst (StepLeaves w s op x y z) (sym (λ i. record { reply = (g .reply-is ∙ step-number _ (k .most)) i; state = g .state-is i; memory = g .window-is i })) k
+    subst (StepLeaves w s op x y z) (sym (λ i. record { reply = g .reply-is i; state = g .state-is i; memory = g .window-is i })) k
 
 by-state-exception : (s : State) (f op x y z u v r : ℕ) (t : State) → Sized s → RaisedState s f op x y z u v r t
     → ExceptionLeaves s f op x y z u v (say r t)
 by-state-exception s f op x y z u v r t h g =
     let k : ExceptionLeaves s f op x y z u v (exceptionOf s f op x y z u v) = replies-leave .by-exception s f op x y z u v h in
-    subst (ExceptionLeaves s f op x y z u v) (sym (λ i. record { reply = (g .reply-is ∙ step-number _ (few _ (k .among))) i; state = g .state-is i })) k
+    subst (ExceptionLeaves s f op x y z u v) (sym (λ i. record { reply = g .reply-is i; state = g .state-is i })) k
 
 by-context : (w : Windows) (p r which start length : ℕ) → ContextAt w p r which start length → ContextCallLeaves w r which start length
 by-context w p r which start length g =

@@ -13,3 +13,4 @@ pub mod Leaves
 pub mod Chains
 pub mod Calls
 pub mod Points
+pub mod Instance

@@ -15,14 +15,13 @@ use Rattle.model.specs.RunMeant.{CallPasses}
 use Rattle.model.specs.Order.{Passes}
 use Rattle.model.specs.Invariants.{Bytes}
 use Rattle.model.specs.Trips.{wordOf}
-use Rattle.model.specs.Numbers.{Early, Missed, Halting, numberOf, replyOf}
+use Rattle.model.specs.Numbers.{Early, Missed, Halting}
 use Rattle.model.specs.Leaves.{TripLeaves, StoreLeaves, ArithmeticLeaves, TetraLeaves, LastLeaves, RunLeaves}
 use Rattle.model.specs.declared.State.{State}
 use Rattle.model.proofs.Bools.{on}
 use Rattle.model.proofs.Entry.{unruled-is}
 use Rattle.model.proofs.AdmissibleKept.{adm, claim-good}
 use Rattle.model.proofs.WordsKept.{claim-words}
-use Rattle.model.proofs.Numbers.{run-number}
 use Rattle.model.proofs.RunMeant.{Ready, run-open, run-ready, run-is-meant, call-by}
 use Rattle.model.proofs.Leaves.{replies-leave}
 use Rattle.image.specs.Image.{isImage, hasRoom, imageAs, stateOf}
@@ -135,7 +134,7 @@ module _ (l : List ℕ) (n : isImage l ≡ true) (b : (i : ℕ) → getD l i 0 <
         reached = i;
         lent = k .lent;
         reached-is = ran l n w d s refl 0 d (k .reached) (k .lent) (record {
-          reply-is = sym (run-number 0 (inl (omega arith))) ∙ ap (λ (p : Stopped State Windows). numberOf (replyOf (p .reply))) (sym at);
+          reply-is = ap (λ (p : Stopped State Windows). p .reply) (sym at);
           count-is = ed ∙ ap (λ (p : Stopped State Windows). p .done) (sym at);
           state-is = ap (λ (p : Stopped State Windows). p .state) (sym at);
           window-is = ap (λ (p : Stopped State Windows). p .memory) (sym at);
@@ -156,7 +155,7 @@ module _ (l : List ℕ) (n : isImage l ≡ true) (b : (i : ℕ) → getD l i 0 <
   run-leaves : (r d : ℕ) (m : List ℕ) (v : Windows) → RanImage l w grant r d m v → RunCallLeaves l w grant r d m v
   run-leaves r d m v g =
       let e = image-ran l w grant r d m v n g in
-      let c : Counted s w grant r d = state-counted s w grant r d (stop .state) v (range .sized) (e .0) in
+      let c : Counted s w grant r d = state-counted s w grant r d (stop .state) v (e .0) in
       let k : RunLeaves w s grant stop = replies-leave .by-run w s grant (range .sized) in
       record {
         most = subst (λ (q : ℕ). (q ≤ 20) ⊎ ((q ≡ 22) ⊎ ((q ≡ 24) ⊎ ((q ≡ 25) ⊎ ((q ≡ 29) ⊎ (q ≡ 31)))))) (sym (c .reply-is)) (k .most);
@@ -206,4 +205,4 @@ pub by-state-run : (w : Windows) (s : State) (grant r n : ℕ) (t : State) (v : 
 by-state-run w s grant r n t v h g =
     let k : RunLeaves w s grant (runOf w s grant) = replies-leave .by-run w s grant h in
     subst (RunLeaves w s grant)
-    (sym (λ i. record { done = g .count-is i; reply = (g .reply-is ∙ run-number _ (k .most)) i; state = g .state-is i; memory = g .window-is i })) k
+    (sym (λ i. record { done = g .count-is i; reply = g .reply-is i; state = g .state-is i; memory = g .window-is i })) k

@@ -96,14 +96,14 @@ run-range w s grant h =
 
 -- ---- two lists that answer alike
 
--- from s and v and from t and u the items find one state and windows of one shape, and have one reply each
+-- from s and v and from t and u the items find states of which both are admissible or neither, and windows of one shape, and have one reply each
 unfoldable pub Twins : State → Windows → State → Windows → List Item → Type 0
-Twins s v t u [] = (s ≡ t) × (shapesOf v ≡ shapesOf u)
+Twins s v t u [] = (admissible s ≡ admissible t) × (shapesOf v ≡ shapesOf u)
 Twins s v t u (i ∷ is) =
-    ((s ≡ t) × (shapesOf v ≡ shapesOf u)) × (stepOn both mmix s v i .reply ≡ stepOn both mmix t u i .reply)
+    ((admissible s ≡ admissible t) × (shapesOf v ≡ shapesOf u)) × (stepOn both mmix s v i .reply ≡ stepOn both mmix t u i .reply)
     × Twins (stepOn both mmix s v i .state) (stepOn both mmix s v i .memory) (stepOn both mmix t u i .state) (stepOn both mmix t u i .memory) is
 
-pub twins-now : (is : List Item) (s : State) (v : Windows) (t : State) (u : Windows) → Twins s v t u is → (s ≡ t) × (shapesOf v ≡ shapesOf u)
+pub twins-now : (is : List Item) (s : State) (v : Windows) (t : State) (u : Windows) → Twins s v t u is → (admissible s ≡ admissible t) × (shapesOf v ≡ shapesOf u)
 unfolding Twins
 twins-now [] s v t u h = h
 twins-now (i ∷ is) s v t u h = h .0
@@ -135,9 +135,9 @@ pub record Alongside (s : State) (v : Windows) (t : State) (u : Windows) (is : L
 pub twins : (is : List Item) (s : State) (v : Windows) (t : State) (u : Windows)
     → ((js ks : List Item) → is ≡ js ++ ks → Alongside s v t u js) → Twins s v t u is
 unfolding Twins runs
-twins [] s v t u h = (h [] [] refl .state-same, h [] [] refl .shapes-same)
+twins [] s v t u h = (ap admissible (h [] [] refl .state-same), h [] [] refl .shapes-same)
 twins (i ∷ is) s v t u h = (
-  (h [] (i ∷ is) refl .state-same, h [] (i ∷ is) refl .shapes-same),
+  (ap admissible (h [] (i ∷ is) refl .state-same), h [] (i ∷ is) refl .shapes-same),
   head-eq-of-cons-eq (h (i ∷ []) is refl .answers-same),
   twins is _ _ _ _ (λ js ks e. let k = h (i ∷ js) ks (ap (λ (l : List Item). i ∷ l) e) in
       record { answers-same = tail-eq-of-cons-eq (k .answers-same); state-same = k .state-same; shapes-same = k .shapes-same }),
@@ -184,14 +184,14 @@ running-same (suc g) s v t u =
         let e : stepOn both mmix s v fetched .reply ≡ stepOn both mmix t u fetched .reply = twins-next [] fetched s v t u n .0 in
         rw (run-refused both mmix fetched g t u (λ q. eqb-false _ _ b (e ∙ q))) (record { reply-same = e; count-same = refl })
 
-passes-too : (v u : Windows) (s t : State) → s ≡ t → shapesOf v ≡ shapesOf u → Passes v s → Passes u t
+passes-too : (v u : Windows) (s t : State) → admissible s ≡ admissible t → shapesOf v ≡ shapesOf u → Passes v s → Passes u t
 passes-too v u s t e f h = record {
-  admitted = ap admissible (sym e) ∙ h .admitted;
+  admitted = sym e ∙ h .admitted;
   windowed = ap ruled (sym f) ∙ h .windowed;
   apart = ap shares (sym f) ∙ h .apart;
 }
 
-passed-same : (grant : ℕ) (s : State) (v : Windows) (t : State) (u : Windows) → Sized s → s ≡ t → shapesOf v ≡ shapesOf u → CallPasses v s grant
+passed-same : (grant : ℕ) (s : State) (v : Windows) (t : State) (u : Windows) → Sized s → admissible s ≡ admissible t → shapesOf v ≡ shapesOf u → CallPasses v s grant
     → Twins s v t u (triedItems (running grant s v .reply) (running grant s v .done)) → SameEnd (running grant s v) (runOf u t grant)
 unfolding triedItems
 passed-same grant s v t u n e f c h =
@@ -205,11 +205,11 @@ pub run-same : (grant : ℕ) (s : State) (v : Windows) (t : State) (u : Windows)
     → SameEnd (runOf v s grant) (runOf u t grant)
 run-same grant s v t u n h =
     let now = twins-now _ s v t u h in
-    let e : s ≡ t = now .0 in
+    let e : admissible s ≡ admissible t = now .0 in
     let f : shapesOf v ≡ shapesOf u = now .1 in
     let rules : unruledBy (shapesOf u) ≡ unruledBy (shapesOf v) = ap unruledBy (sym f) in
     call-by (λ r. Twins s v t u (triedItems (r .reply) (r .done)) → SameEnd r (runOf u t grant)) v s grant
-    (λ a k. rw (runs-in-order .one-first u t grant (ap admissible (sym e) ∙ a)) (record { reply-same = refl; count-same = refl }))
-    (λ a b k. rw (run-unruled u t grant (ap admissible (sym e) ∙ a) (λ q. b (sym rules ∙ q))) (record { reply-same = sym rules; count-same = refl }))
+    (λ a k. rw (runs-in-order .one-first u t grant (sym e ∙ a)) (record { reply-same = refl; count-same = refl }))
+    (λ a b k. rw (run-unruled u t grant (sym e ∙ a) (λ q. b (sym rules ∙ q))) (record { reply-same = sym rules; count-same = refl }))
     (λ p l k. rw (runs-in-order .twenty-five u t grant (passes-too v u s t e f p) l) (record { reply-same = refl; count-same = refl }))
     (λ c k. passed-same grant s v t u n e f c k) h

@@ -1,26 +1,31 @@
 -- Demand 3 as a host meets it: lists of calls of the C functions, in any mix, each on what the one before left. A host holds the machine as
--- an image or as a struct, goes from one to the other by mmix_decode and mmix_encode, and lends two windows. (mmix_initialize starts another
--- run, mmix_put_set and mmix_put_set_parts are the host's own change of the state, mmix_context changes nothing, and mmix_branch_field and
--- mmix_jump_field are given neither state nor window: none of them is in a list.)
--- `Stepped`, `Raised`, `RanImage`, `SteppedState`, `RaisedState`, `RanState`, `Decoded` and `Encoded` are the functions' contracts.
+-- an image or as a struct, goes from one to the other by mmix_decode and mmix_encode, and lends two windows.
+-- In a list: mmix_step, mmix_step_lent, mmix_step_parts, mmix_exceptions, mmix_exceptions_parts, mmix_run, mmix_run_parts, mmix_decode, mmix_encode; and
+-- mmix_take and mmix_context, which leave state and windows as they are. mmix_tasks: crate calls.
+-- In none: mmix_initialize starts another run; mmix_put_set and mmix_put_set_parts are the host's own change of the state; mmix_go_back rewinds history;
+-- mmix_branch_field and mmix_jump_field are given neither state nor window.
+-- `Stepped`, `Raised`, `RanImage`, `SteppedState`, `RaisedState`, `RanState`, `Decoded`, `Encoded`, `Took` and `ContextAt` are the functions' contracts.
 use Prim.Native.Nat.{ℕ, suc, _+_, _<_}
 use mathlib.Core.Path.{_≡_}
-use mathlib.Core.Bool.{true, cond}
+use mathlib.Core.Bool.{true, false, cond}
 use mathlib.Core.List.{List, [], _∷_, _++_}
 use lib.Dec.{eqb}
 use lib.ListN.{length, getD, replicate}
-use Rattle.model.specs.Memory.{Windows, both}
+use Rattle.model.specs.Memory.{Windows, shapesOf, both}
 use Rattle.model.specs.Opcodes.{opPOP}
 use Rattle.model.specs.Plan.{All, Off}
 use Rattle.model.specs.Lists.{Ran, runs, runNeeds}
 use Rattle.model.specs.Registers.{rO, sp, reg, Sized, Words}
 use Rattle.model.specs.Frames.{hole}
-use Rattle.model.specs.Step.{Item, step, exception, fetched, mmix}
+use Rattle.model.specs.Step.{Item, step, exception, fetched, refusing, mmix}
+use Rattle.model.specs.Ways.{Way, itemBy, MetBy}
+use Rattle.model.specs.Kept.{pointIn}
 use Rattle.model.specs.Invariants.{InstructionFits, Fits, Bytes}
 use Rattle.model.specs.Demand.{Within, Call, opcodeOf, Alike, SameOutside, AtPop}
 use Rattle.model.specs.declared.State.{State}
 use Rattle.image.specs.Image.{isImage, hasRoom, imageAs, stateOf, Decoded, Encoded}
-use Rattle.mmix.specs.Entries.{Stepped, Raised, RanImage, SteppedState, RaisedState, RanState}
+use Rattle.store.specs.Store.{Took}
+use Rattle.mmix.specs.Entries.{Stepped, Raised, RanImage, SteppedState, RaisedState, RanState, ContextAt}
 
 -- ---- what a host holds
 
@@ -49,8 +54,15 @@ HeldFits (struct s) = Sized s × Words s
 
 -- ---- one call
 
+-- a call that leaves what is held and the windows as they are: mmix_take, with the image's length, the name and the store's length; mmix_context, with the
+-- address; mmix_encode into an image of so many bytes that has no room for the mask
+pub data Look : Type 0 where
+  take-point : ℕ → ℕ → ℕ → Look
+  read-context : ℕ → Look
+  encode-refused : ℕ → Look
+
 -- which function is called, and with what beside what is held: mmix_step or mmix_exceptions, with the image's length; mmix_run, with that and its
--- grant; mmix_step_lent; mmix_step_parts or mmix_exceptions_parts; mmix_run_parts, with its grant; mmix_decode; mmix_encode, with the length
+-- grant; mmix_step_lent; mmix_step_parts or mmix_exceptions_parts; mmix_run_parts, with its grant; mmix_decode; mmix_encode, with the length; one that looks
 pub data Entry : Type 0 where
   on-image : ℕ → Item → Entry
   run-image : ℕ → ℕ → Entry
@@ -59,6 +71,7 @@ pub data Entry : Type 0 where
   run-parts : ℕ → Entry
   decode : Entry
   encode : ℕ → Entry
+  looking : Look → Entry
 
 -- a call that was made: the function with its arguments, its reply and, of a run, its count, and what is held and the windows after it
 pub record Made : Type 0 where
@@ -77,8 +90,8 @@ triedItems r n = cond (eqb r 25) [] (replicate (cond (eqb r 0) n (suc n)) fetche
 unfoldable pub triedAnswers : ℕ → ℕ → List ℕ
 triedAnswers r n = cond (eqb r 25) [] (replicate n 0 ++ cond (eqb r 0) [] (r ∷ []))
 
--- what function e asks for where it replies r, with the count n of a run: a step, an exception, fetched instructions; mmix_decode and
--- mmix_encode ask for nothing
+-- what function e asks for where it replies r, with the count n of a run: a step, an exception, fetched instructions; mmix_decode,
+-- mmix_encode and one that looks ask for nothing
 unfoldable pub askedBy : Entry → ℕ → ℕ → List Item
 askedBy (on-image b i) r n = i ∷ []
 askedBy (run-image b g) r n = triedItems r n
@@ -87,6 +100,7 @@ askedBy (on-parts i) r n = i ∷ []
 askedBy (run-parts g) r n = triedItems r n
 askedBy decode r n = []
 askedBy (encode b) r n = []
+askedBy (looking l) r n = []
 
 abbrev pub asked : Made → List Item
 asked c = askedBy (c .entry) (c .reply) (c .count)
@@ -100,6 +114,7 @@ answeredBy (on-parts i) r n = r ∷ []
 answeredBy (run-parts g) r n = triedAnswers r n
 answeredBy decode r n = []
 answeredBy (encode b) r n = []
+answeredBy (looking l) r n = []
 
 -- mmix_decode and mmix_encode reply 0
 unfoldable pub MovedBy : Entry → ℕ → Type 0
@@ -110,6 +125,7 @@ MovedBy (on-parts i) r = Unit {0}
 MovedBy (run-parts g) r = Unit {0}
 MovedBy decode r = r ≡ 0
 MovedBy (encode b) r = r ≡ 0
+MovedBy (looking l) r = Unit {0}
 
 -- the count, of a run
 unfoldable pub countedBy : Entry → ℕ → List ℕ
@@ -120,6 +136,23 @@ countedBy (on-parts i) n = []
 countedBy (run-parts g) n = n ∷ []
 countedBy decode n = []
 countedBy (encode b) n = []
+countedBy (looking l) n = []
+
+-- the reply, as far as the windows' shapes and the state outside what a call pushed determine it: not that of mmix_context, which tells of any octabyte
+unfoldable pub toldBy : Look → ℕ → List ℕ
+toldBy (take-point b k n) r = r ∷ []
+toldBy (read-context p) r = []
+toldBy (encode-refused b) r = r ∷ []
+
+unfoldable pub repliedBy : Entry → ℕ → List ℕ
+repliedBy (on-image b i) r = r ∷ []
+repliedBy (run-image b g) r = r ∷ []
+repliedBy (on-lent op x y z) r = r ∷ []
+repliedBy (on-parts i) r = r ∷ []
+repliedBy (run-parts g) r = r ∷ []
+repliedBy decode r = r ∷ []
+repliedBy (encode b) r = r ∷ []
+repliedBy (looking l) r = toldBy l r
 
 -- what a function's contract says of a call on an image, and of one on a struct; an exception is given no window, and no function fetches one
 -- instruction but a run
@@ -144,6 +177,26 @@ pub record EncodedInto (b : ℕ) (s : State) (r : ℕ) (m : List ℕ) : Type 0 w
   pub room : hasRoom before (s .mask) ≡ true
   pub contract : Encoded s before r m
 
+-- mmix_take of the image l into a store of n bytes, whatever they were; mmix_context, whatever it tells; mmix_encode where there is no room
+pub record TakenInto (l : List ℕ) (w : Windows) (name n r : ℕ) : Type 0 where
+  pub before : List ℕ
+  pub after : List ℕ
+  pub long : length before ≡ n
+  pub contract : Took before name (pointIn l (w .a .base) (w .b .base) (w .a .bytes) (w .b .bytes)) r after
+
+pub record ContextRead (w : Windows) (p r : ℕ) : Type 0 where
+  pub which : ℕ
+  pub start : ℕ
+  pub size : ℕ
+  pub contract : ContextAt w p r which start size
+
+pub record NotEncoded (b : ℕ) (s : State) (r : ℕ) : Type 0 where
+  pub before : List ℕ
+  pub after : List ℕ
+  pub long : length before ≡ b
+  pub room : hasRoom before (s .mask) ≡ false
+  pub contract : Encoded s before r after
+
 -- what is held is an image of which P holds, or a struct
 unfoldable pub AsImage : Held → (List ℕ → Type 0) → Type 0
 AsImage (image l) P = P l
@@ -152,6 +205,11 @@ AsImage (struct s) P = ⊥
 unfoldable pub AsStruct : Held → (State → Type 0) → Type 0
 AsStruct (image l) P = ⊥
 AsStruct (struct s) P = P s
+
+unfoldable pub LookMet : Held → Windows → Look → ℕ → Type 0
+LookMet g w (take-point b k n) r = AsImage g (λ l. (length l ≡ b) × TakenInto l w k n r)
+LookMet g w (read-context p) r = ContextRead w p r
+LookMet g w (encode-refused b) r = AsStruct g (λ s. NotEncoded b s r)
 
 -- the contract of a call that found g and w, replied r with the count n and left k and v
 unfoldable pub MeetsBy : Held → Windows → Entry → ℕ → ℕ → Held → Windows → Type 0
@@ -162,6 +220,7 @@ MeetsBy g w (on-parts i) r n k v = AsStruct g (λ s. AsStruct k (λ t. StateCall
 MeetsBy g w (run-parts grant) r n k v = AsStruct g (λ s. AsStruct k (λ t. RanState w s grant r n t v))
 MeetsBy g w decode r n k v = AsImage g (λ l. AsStruct k (λ t. DecodedInto l r t)) × (v ≡ w)
 MeetsBy g w (encode b) r n k v = AsStruct g (λ s. AsImage k (λ m. EncodedInto b s r m)) × (v ≡ w)
+MeetsBy g w (looking l) r n k v = LookMet g w l r × ((k ≡ g) × (v ≡ w))
 
 abbrev pub Meets : Held → Windows → Made → Type 0
 Meets g w c = MeetsBy g w (c .entry) (c .reply) (c .count) (c .held) (c .window)
@@ -179,7 +238,7 @@ entries (c ∷ cs) = c .entry ∷ entries cs
 
 unfoldable pub replies : List Made → List ℕ
 replies [] = []
-replies (c ∷ cs) = c .reply ∷ replies cs
+replies (c ∷ cs) = repliedBy (c .entry) (c .reply) ++ replies cs
 
 unfoldable pub lastHeld : Held → List Made → Held
 lastHeld g [] = g
@@ -228,9 +287,9 @@ ListsOfCalls = (g : Held) (w : Windows) (cs : List Made) → HeldFits g → Byte
 -- ---- demand 3
 
 -- "a POP as the next step, whatever its X and YZ, succeeds, and those locals hold exactly what they held before the call": POP by any function
--- as the next call on g and v is done, and $0 to $(h − 1) are those of s
+-- as the next call on g and v, by step or, by a run of one instruction, fetched, is done, and $0 to $(h − 1) are those of s
 abbrev pub Returns : ℕ → State → Held → Windows → Type 0
-Returns h s g v = (c : Made) (x y z : ℕ) → asked c ≡ step opPOP x y z ∷ [] → InstructionFits opPOP x y z → Meets g v c
+Returns h s g v = (c : Made) (u : Way) → asked c ≡ itemBy u opPOP ∷ [] → Fits (itemBy u opPOP) → MetBy opPOP (refusing (shapesOf v)) v (heldState g) u → Meets g v c
     → (c .reply ≡ 0) × ((i : ℕ) → i < h → reg (heldState (c .held)) i ≡ reg s i)
 
 -- what holds of two lists of calls after a call, a and b: on g and on k; "the same answers in the same order, the same registers, PC, halt

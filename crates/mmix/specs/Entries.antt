@@ -10,7 +10,6 @@ use Rattle.model.specs.Parts.{lent}
 use Rattle.model.specs.Step.{stepOf, exceptionOf}
 use Rattle.model.specs.Run.{runOf}
 use Rattle.model.specs.Reader.{readContext}
-use Rattle.model.specs.Numbers.{numberOf, replyOf}
 use Rattle.model.specs.Field.{FieldAnswer}
 use Rattle.model.specs.declared.State.{State}
 use Rattle.image.specs.Image.{isImage, stateOf, imageAs, Encoded}
@@ -24,19 +23,19 @@ abbrev pub Initialized : List ℕ → ℕ → List ℕ → Type 0
 Initialized l r m = Encoded fresh l r m
 
 pub record Stepped (l : List ℕ) (w : Windows) (op x y z r : ℕ) (m : List ℕ) (v : Windows) : Type 0 where
-  pub reply-is : r ≡ cond (isImage l) (numberOf (replyOf (stepOf w (stateOf l) op x y z .reply))) 1
+  pub reply-is : r ≡ cond (isImage l) (stepOf w (stateOf l) op x y z .reply) 1
   pub image-is : m ≡ cond (isImage l) (imageAs l (stepOf w (stateOf l) op x y z .state)) l
   pub window-is : v ≡ cond (isImage l) (stepOf w (stateOf l) op x y z .memory) w
 
--- a run: the reply, and n instructions were done; "0 where the call is refused whole", an image of another length too
+-- a run: the reply, and n instructions were done; 0 where the call is refused whole, an image of another length too
 pub record RanImage (l : List ℕ) (w : Windows) (grant r n : ℕ) (m : List ℕ) (v : Windows) : Type 0 where
-  pub reply-is : r ≡ cond (isImage l) (numberOf (replyOf (runOf w (stateOf l) grant .reply))) 1
+  pub reply-is : r ≡ cond (isImage l) (runOf w (stateOf l) grant .reply) 1
   pub count-is : n ≡ cond (isImage l) (runOf w (stateOf l) grant .done) 0
   pub image-is : m ≡ cond (isImage l) (imageAs l (runOf w (stateOf l) grant .state)) l
   pub window-is : v ≡ cond (isImage l) (runOf w (stateOf l) grant .memory) w
 
 pub record Raised (l : List ℕ) (f op x y z u v r : ℕ) (m : List ℕ) : Type 0 where
-  pub reply-is : r ≡ cond (isImage l) (numberOf (replyOf (exceptionOf (stateOf l) f op x y z u v .reply))) 1
+  pub reply-is : r ≡ cond (isImage l) (exceptionOf (stateOf l) f op x y z u v .reply) 1
   pub image-is : m ≡ cond (isImage l) (imageAs l (exceptionOf (stateOf l) f op x y z u v .state)) l
 
 -- a set of pairs; the place is 0 unless a pair fails, with an image of another length too. On a state in parts: `PutSet` of crate sets
@@ -47,18 +46,18 @@ pub record SetImage (l : List ℕ) (ps : List Pair) (r place : ℕ) (m : List �
 
 -- a state lent whole or in parts
 pub record SteppedState (w : Windows) (s : State) (op x y z r : ℕ) (t : State) (v : Windows) : Type 0 where
-  pub reply-is : r ≡ numberOf (replyOf (stepOf w s op x y z .reply))
+  pub reply-is : r ≡ stepOf w s op x y z .reply
   pub state-is : t ≡ stepOf w s op x y z .state
   pub window-is : v ≡ stepOf w s op x y z .memory
 
 pub record RanState (w : Windows) (s : State) (grant r n : ℕ) (t : State) (v : Windows) : Type 0 where
-  pub reply-is : r ≡ numberOf (replyOf (runOf w s grant .reply))
+  pub reply-is : r ≡ runOf w s grant .reply
   pub count-is : n ≡ runOf w s grant .done
   pub state-is : t ≡ runOf w s grant .state
   pub window-is : v ≡ runOf w s grant .memory
 
 pub record RaisedState (s : State) (f op x y z u v r : ℕ) (t : State) : Type 0 where
-  pub reply-is : r ≡ numberOf (replyOf (exceptionOf s f op x y z u v .reply))
+  pub reply-is : r ≡ exceptionOf s f op x y z u v .reply
   pub state-is : t ≡ exceptionOf s f op x y z u v .state
 
 pub record ContextAt (w : Windows) (p r which start length : ℕ) : Type 0 where

@@ -3,19 +3,16 @@ use mathlib.Core.Path.{_≡_, sym, ap, _∙_, subst}
 use mathlib.Core.Logic.{_⊎_, ⊎-elim}
 use mathlib.Core.Bool.{true}
 use Prim.Native.Nat.{ℕ, _≤_}
-use native.Mathlib.Omega.{arith}
 use borrow.Author.Tests.{le-ltb}
 use Rattle.model.specs.Memory.{Windows, Shapes, shapesOf, both}
 use Rattle.model.specs.Plan.{Outcome}
 use Rattle.model.specs.Lists.{stepOn}
 use Rattle.model.specs.Registers.{Sized, Words, admissible}
-use Rattle.model.specs.Step.{unruledBy, fetched, fetchedOf, mmix}
+use Rattle.model.specs.Step.{unruledBy, fetched, mmix}
 use Rattle.model.specs.Run.{Stopped, grantMost, runFor}
 use Rattle.model.specs.Invariants.{Fits, Bytes}
 use Rattle.model.specs.declared.State.{State}
-use Rattle.model.proofs.Bools.{on}
 use Rattle.model.proofs.Invariants.{items-keep}
-use Rattle.model.proofs.Leaves.{replies-leave}
 use Rattle.model.proofs.RunLaws.{run-by}
 use Rattle.model.proofs.RunMeant.{fetched-on, fetched-shapes}
 use Rattle.studies.specs.Tasks.{Own, mmixIn}
@@ -36,41 +33,27 @@ pub record Held (m : ℕ) (h : Shapes) (s : State) (w : Windows) : Type 0 where
 
 module _ (m : ℕ) (h : Shapes) where
   -- what an instruction leaves
-  record Left (o : Outcome State Windows) : Type 0 where
-    held : Held m h (o .state) (o .memory)
-    small : o .reply ≤ 33
+  abbrev Left : Outcome State Windows → Type 0
+  Left o = Held m h (o .state) (o .memory)
 
   mmix-left : (s : State) (w : Windows) → Held m h s w → Left (stepOn both mmix s w fetched)
   unfolding Fits
   mmix-left s w k = record {
-    held = record {
-      sized = items-keep .sized w s fetched (k .sized);
-      words = items-keep .words w s fetched tt (k .bytes) (k .words);
-      admitted = items-keep .admitted w s fetched (k .sized) (k .admitted);
-      mask-is = items-keep .mask w s fetched ∙ k .mask-is;
-      shapes-are = ap (λ (o : Outcome State Windows). shapesOf (o .memory)) (fetched-on w s) ∙ fetched-shapes w s ∙ k .shapes-are;
-      bytes = items-keep .bytes w s fetched (k .bytes);
-    };
-    small = rw (fetched-on w s) (⊎-elim (λ b. omega arith) (⊎-elim (below 22 (omega arith)) (⊎-elim (below 24 (omega arith))
-        (⊎-elim (below 29 (omega arith)) (below 31 (omega arith))))) (replies-leave .by-fetched w s (k .sized) .most));
+    sized = items-keep .sized w s fetched (k .sized);
+    words = items-keep .words w s fetched tt (k .bytes) (k .words);
+    admitted = items-keep .admitted w s fetched (k .sized) (k .admitted);
+    mask-is = items-keep .mask w s fetched ∙ k .mask-is;
+    shapes-are = ap (λ (o : Outcome State Windows). shapesOf (o .memory)) (fetched-on w s) ∙ fetched-shapes w s ∙ k .shapes-are;
+    bytes = items-keep .bytes w s fetched (k .bytes);
   }
-    where
-      below : (n : ℕ) → n ≤ 33 → fetchedOf w s .reply ≡ n → fetchedOf w s .reply ≤ 33
-      below n b e = omega arith
 
   task-left : (p : Own) (s : State) (w : Windows) → Held m h s w → Left (stepOn both (mmixIn p) s w fetched)
-  task-left p s w k =
-      ⊎-elim (λ e. subst Left (sym e) (mmix-left s w k)) (λ e. subst Left (sym e) (record { held = k; small = omega arith })) (foreign-meant .either p w s fetched)
+  task-left p s w k = ⊎-elim (λ e. subst Left (sym e) (mmix-left s w k)) (λ e. subst Left (sym e) k) (foreign-meant .either p w s fetched)
 
-  pub record Ran (r : Stopped State Windows) : Type 0 where
-    pub held : Held m h (r .state) (r .memory)
-    pub small : r .reply ≤ 33
-
-  pub run-held : (p : Own) (g : ℕ) (s : State) (w : Windows) → Held m h s w → Ran (runFor both (mmixIn p) fetched g s w)
+  pub run-held : (p : Own) (g : ℕ) (s : State) (w : Windows) → Held m h s w → Held m h (runFor both (mmixIn p) fetched g s w .state) (runFor both (mmixIn p) fetched g s w .memory)
   run-held p =
-      run-by both (mmixIn p) fetched (Held m h) Ran (λ n r k. record { held = k .held; small = k .small }) (λ s w k. record { held = k; small = omega arith })
-      (λ s w k n. let l : Left (stepOn both (mmixIn p) s w fetched) = task-left p s w k in record { held = l .held; small = l .small })
-      (λ s w k e. task-left p s w k .held)
+      run-by both (mmixIn p) fetched (Held m h) (λ (r : Stopped State Windows). Held m h (r .state) (r .memory)) (λ n r k. k) (λ s w k. k) (λ s w k n. task-left p s w k)
+      (λ s w k e. task-left p s w k)
 
 -- where nothing refuses it whole
 pub run-in-open : (w : Windows) (s : State) (p : Own) (g : ℕ) → admissible s ≡ true → unruledBy (shapesOf w) ≡ 0 → g ≤ grantMost → partRuled (shapesOf w .b .size) p ≡ true

@@ -14,9 +14,7 @@ use Rattle.model.specs.Registers.{fresh, Words, admissible}
 use Rattle.model.specs.Step.{unruledBy, fetched}
 use Rattle.model.specs.Run.{Stopped, runFor}
 use Rattle.model.specs.Invariants.{Bytes}
-use Rattle.model.specs.Numbers.{numberOf, replyOf}
 use Rattle.model.specs.declared.State.{State}
-use Rattle.model.proofs.Numbers.{numbered}
 use Rattle.model.proofs.Octa.{length-written, part-written}
 use Rattle.model.proofs.RunLaws.{mapStopped}
 use Rattle.model.proofs.Slices.{length-part, part-apart}
@@ -32,7 +30,7 @@ use Rattle.image.proofs.Coded.{as-same}
 use Rattle.tasks.specs.Images.{imageIn, statesFrom}
 use Rattle.tasks.specs.Desks.{imageTurn, imagesTurn}
 use Rattle.tasks.proofs.ImageParts.{ends-before, length-states, state-at}
-use Rattle.tasks.proofs.Alone.{Held, Ran, run-held, run-in-open}
+use Rattle.tasks.proofs.Alone.{Held, run-held, run-in-open}
 
 -- ---- an image that is written
 
@@ -144,7 +142,7 @@ module _ (e n : ℕ) (h : Shapes) where
           opened = run-in-open w s (partAt ns k) g (r .wholes k b .admitted) (ap unruledBy (r .shapes-are) ∙ fine) (omega arith)
               (ap (λ (x : Shapes). partRuled (x .b .size) (partAt ns k)) (r .shapes-are) ∙ ruled k b)
 
-          ran : Ran (s .mask) h o
+          ran : Held (s .mask) h (o .state) (o .memory)
           ran = run-held (s .mask) h (partAt ns k) g s w (record {
             sized = round-trips .state-sized (imageIn e l k);
             words = r .wholes k b .words;
@@ -156,15 +154,15 @@ module _ (e n : ℕ) (h : Shapes) where
 
           stop : SameStop Bridged (record {
             done = o .done;
-            reply = numberOf (replyOf (o .reply));
+            reply = o .reply;
             state = written l (k * e) (storedIn (imageIn e l k) (o .state));
             memory = o .memory;
           }) (mapStopped (set ss k) o)
           stop = record {
             done-same = refl;
-            reply-same = numbered .number-reply (o .reply) (ran .small);
+            reply-same = refl;
             memory-same = refl;
-            states = rw (stored-as (imageIn e l k) (is l k) h (o .state) (o .memory) (ran .held)) (bridged l ss w k (o .state) (o .memory) b r (ran .held));
+            states = rw (stored-as (imageIn e l k) (is l k) h (o .state) (o .memory) ran) (bridged l ss w k (o .state) (o .memory) b r ran);
           }
 
       pub bridge : (grant : ℕ) (l : List ℕ) (ss : List State) (w : Windows) → Bridged l ss w

@@ -16,7 +16,6 @@ use Rattle.model.specs.Memory.{Windows, shapesOf, both}
 use Rattle.model.specs.Registers.{admissible}
 use Rattle.model.specs.Step.{unruledBy, fetched}
 use Rattle.model.specs.Run.{Stopped, grantMost}
-use Rattle.model.specs.Numbers.{numberOf, replyOf}
 use Rattle.model.specs.declared.State.{State}
 use Rattle.model.proofs.Bools.{on, and-right}
 use Rattle.model.proofs.Fill.{lt-or-le}
@@ -40,7 +39,7 @@ unfolding imageTurn
 turned l w p g s e r i t v h m k =
     let d : runIn w s p g ≡ runIn w (stateOf l) p g = ap (λ (a : State). runIn w a p g) e in
     record {
-      reply-is = h .reply-is ∙ ap (λ (o : Stopped State Windows). numberOf (replyOf (o .reply))) d;
+      reply-is = h .reply-is ∙ ap (λ (o : Stopped State Windows). o .reply) d;
       count-is = h .count-is ∙ ap (λ (o : Stopped State Windows). o .done) d;
       image-is = k ∙ ap (storedIn l) (h .state-is ∙ ap (λ (o : Stopped State Windows). o .state) d);
       windows-are = h .window-is ∙ ap (λ (o : Stopped State Windows). o .memory) d;

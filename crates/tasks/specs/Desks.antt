@@ -8,7 +8,6 @@ use Rattle.model.specs.Fill.{tab}
 use Rattle.model.specs.Octa.{written}
 use Rattle.model.specs.Memory.{Windows}
 use Rattle.model.specs.Run.{Stopped}
-use Rattle.model.specs.Numbers.{numberOf, replyOf}
 use Rattle.image.specs.Image.{stateOf, storedIn}
 use Rattle.studies.specs.Tasks.{Own}
 use Rattle.studies.specs.Schedule.{countBy, refusalBy, Desk}
@@ -20,7 +19,7 @@ use Rattle.tasks.specs.Images.{imagesFit, eachLength, imageIn}
 unfoldable pub imageTurn : Windows → List ℕ → Own → ℕ → Stopped (List ℕ) Windows
 imageTurn w l p g = record {
   done = runIn w (stateOf l) p g .done;
-  reply = numberOf (replyOf (runIn w (stateOf l) p g .reply));
+  reply = runIn w (stateOf l) p g .reply;
   state = storedIn l (runIn w (stateOf l) p g .state);
   memory = runIn w (stateOf l) p g .memory;
 }

@@ -12,7 +12,7 @@ use Rattle.model.specs.declared.State.{State}
 use Rattle.image.specs.Image.{stateOf, imageAs}
 use Rattle.studies.specs.Call.{tasksIn, Tasked, tasksOf}
 
--- "images_len is n × 2,336 or n × 2,328"
+-- images_len is n × 2,336 or n × 2,328
 unfoldable pub imagesFit : ℕ → List ℕ → Bool
 imagesFit n l = eqb (length l) (n * imageLength) || eqb (length l) (n * oldImageLength)
 
