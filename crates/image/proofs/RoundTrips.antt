@@ -36,7 +36,7 @@ part-flat (v ∷ vs) (suc k) h =
 value-flat : (vs : List ℕ) (k o : ℕ) → o ≡ 8 * k → k < length vs → getD vs k 0 < 2 ^ 64 → valueOf 0 (part (flat vs) o 8) ≡ getD vs k 0
 value-flat vs k o e h b = ap (λ (i : ℕ). valueOf 0 (part (flat vs) i 8)) e ∙ ap (valueOf 0) (part-flat vs k h) ∙ value-bytes (getD vs k 0) b
 
-getD-octas : (l : List ℕ) (o n k : ℕ) → k < n → getD (octas l o n) k 0 ≡ valueOf 0 (part l (o + 8 * k) 8)
+pub getD-octas : (l : List ℕ) (o n k : ℕ) → k < n → getD (octas l o n) k 0 ≡ valueOf 0 (part l (o + 8 * k) 8)
 unfolding octas
 getD-octas l o zero k h = absurd (omega arith)
 getD-octas l o (suc n) zero h = ap (λ (i : ℕ). valueOf 0 (part l i 8)) (omega arith)
@@ -151,7 +151,7 @@ bytes-eight v a b c d e f g h ha hb hc hd he hf hg hh q =
     rw (t7 .0, t6 .0, t5 .0, t4 .0, t3 .0, t2 .0, t1 .0, z)
 
 module _ (l : List ℕ) (b : (i : ℕ) → getD l i 0 < 256) where
-  bytes-value : (o : ℕ) → bytesOf (valueOf 0 (part l o 8)) ≡ part l o 8
+  pub bytes-value : (o : ℕ) → bytesOf (valueOf 0 (part l o 8)) ≡ part l o 8
   unfolding part
   bytes-value o = bytes-eight _ _ _ _ _ _ _ _ _ (b _) (b _) (b _) (b _) (b _) (b _) (b _) (b _) refl
 

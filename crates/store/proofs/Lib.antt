@@ -4,3 +4,4 @@ pub mod Stores
 pub mod Answers
 pub mod Returns
 pub mod Leaves
+pub mod StoreOrder

@@ -1,0 +1,10 @@
+-- The points of images, carried through the definitions by a result that antt computes.
+use mathlib.Core.Path.{refl}
+use Rattle.model.specs.Octa.{part, valueOf, bytesOf}
+use Rattle.machine.specs.Octabytes.{flat, octas}
+use Rattle.image.specs.Image.{imageOf, oldImageOf, stateOf, isImage}
+use Rattle.image.specs.ImagePoints.{imagePoints, statePoints, lengthPoints, ImagePointsMet}
+
+pub image-points-met : ImagePointsMet
+unfolding imagePoints statePoints lengthPoints imageOf oldImageOf stateOf isImage flat octas part valueOf bytesOf
+image-points-met = (refl, refl, refl)
