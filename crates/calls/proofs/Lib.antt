@@ -1,13 +1,32 @@
--- Proofs of demand 3 and of a parked context, of the C functions with several tasks, in the order in which they use each other.
-pub mod Agreed
+-- Proofs of demand 3, of a parked context and of what is hidden, of the C functions with several tasks, in the order in which they use each other.
 pub mod HeldLists
 pub mod HeldImages
+pub mod Agreed
 pub mod Ranges
 pub mod WholeTurns
 pub mod Alone
 pub mod SameDesks
 pub mod Together
+pub mod LentCalls
 pub mod TaskChains
 pub mod TaskPop
 pub mod TaskCalls
 pub mod ParkedCalls
+pub mod TaskLists
+pub mod TurnsRange
+pub mod Twins
+pub mod Begun
+pub mod BegunTurns
+pub mod CallTwins
+pub mod BegunCalls
+pub mod AnywhereCalls
+pub mod Within
+pub mod OwnCalls
+pub mod ParkedAnywhereCalls
+pub mod Shown
+pub mod HiddenCalls
+pub mod OneState
+pub mod AllLent
+pub mod Instance
+pub mod ParkedInstance
+pub mod TasksInstance

@@ -6,41 +6,35 @@ use Prim.Native.Nat.{ℕ, _<_}
 use native.Mathlib.Omega.{arith}
 use lib.ListN.{length, set}
 use lib.Seq.{getD-set-same}
-use Rattle.model.specs.Memory.{Windows, Shapes, shapeOf, shapesOf, both}
+use Rattle.model.specs.Memory.{Windows, shapesOf, both}
 use Rattle.model.specs.Opcodes.{opSAVE, opUNSAVE}
 use Rattle.model.specs.Plan.{Outcome, mapOutcome, All, Off}
 use Rattle.model.specs.Lists.{Ran, stepOn, runs, runNeedsBy}
 use Rattle.model.specs.Registers.{reg, following, fresh, Sized, Words}
-use Rattle.model.specs.Step.{Item, refusing, mmix}
+use Rattle.model.specs.Step.{Item, mmix}
+use Rattle.model.specs.Ways.{Way, by-step, by-fetch, itemBy, NamesBy, xBy}
 use Rattle.model.specs.Invariants.{Fits}
 use Rattle.model.specs.declared.State.{State}
 use Rattle.studies.specs.Tasks.{Own, refusingIn, taskOf, Turn, turn, studies, turnNeeds}
 use Rattle.studies.specs.TaskDemand.{turnOn, afterTurns}
-use Rattle.studies.specs.Parked.{ComesBack, Way, by-step, by-fetch, itemBy, NamesBy, LentBy, xBy, Asks, Context, savedBy, untilUnsave, UnparksTo}
-use Rattle.studies.proofs.Judge.{whole-judge}
+use Rattle.studies.specs.Parked.{ComesBack, Asks, Context, savedBy, untilUnsave, UnparksTo}
 use Rattle.studies.proofs.Callers.{turn-shape}
 use Rattle.studies.proofs.ParkedTasks.{parked-tasks}
 use Rattle.mmix.specs.Calls.{Held, heldState}
 use Rattle.mmix.proofs.Calls.{ItemMade, item-made}
-use Rattle.calls.specs.TaskCalls.{heldBy, statesHeld, TaskEntry, AloneMet, TaskMeetsBy, wholeOf, TaskChain, lastHeld, lastWindow}
+use Rattle.calls.specs.TaskCalls.{allTurns, heldBy, statesHeld, TaskEntry, AloneMet, TaskMeetsBy, wholeOf, TaskChain, lastHeld, lastWindow}
 use Rattle.calls.specs.ParkedCalls.{ParkedCalls}
 use Rattle.calls.proofs.HeldLists.{AllIntact, all-intact, task-held, states-length}
 use Rattle.calls.proofs.WholeTurns.{AsTurns}
-use Rattle.calls.proofs.TaskChains.{allTurns, chain-made, chain-needs}
-use Rattle.calls.proofs.TaskPop.{turned-item, CallMade, item-called, turns-shape}
+use Rattle.calls.proofs.TaskChains.{chain-made, chain-needs}
+use Rattle.calls.proofs.TaskPop.{turned-item, lent-whole, CallMade, item-called}
+use Rattle.studies.proofs.Anywhere.{turns-shape}
 
 -- X is a byte: given, or of a tetra
 x-small : (i : Way) (op : ℕ) (w : Windows) (s : State) → Fits (itemBy i op) → xBy i w s < 256
 unfolding Fits
 x-small (by-step x y z) op w s f = f .x-byte
 x-small by-fetch op w s f = omega arith
-
--- what is lent to the host is lent to a task with all of B
-lent-whole : (u : Way) (w v : Windows) (s : State) → shapesOf v ≡ shapesOf w → LentBy u (refusing (shapesOf v)) s → LentBy u (refusingIn (wholeOf w) (shapesOf v)) s
-lent-whole (by-step x y z) w v s e l = tt
-lent-whole by-fetch w v s e l =
-    subst (λ (q : Shapes). refusing q (s .pc) ≡ 0 → refusingIn (wholeOf w) q (s .pc) ≡ 0) (sym e)
-    (λ h. unfold shapesOf shapeOf in (whole-judge (shapesOf w) (s .pc) ∙ h)) l
 
 -- the tasks' theorem, of a state, states and windows that are those of the turns
 module _ (p : Own) (w : Windows) (ss : List State) (c : ℕ) (i u : Way) (is : List Turn) where

@@ -15,6 +15,7 @@ use Rattle.model.specs.Run.{Stopped, tried}
 use Rattle.model.specs.declared.State.{State}
 use Rattle.model.proofs.Plan.{All-left, All-right}
 use Rattle.model.proofs.Lists.{touchesOf, runTouches}
+use Rattle.model.proofs.Split.{needs-append}
 use Rattle.model.proofs.SeenArms.{by-test}
 use Rattle.studies.specs.Tasks.{Turn, turn, studies}
 use Rattle.studies.specs.Schedule.{Given, countBy, refusalBy, Desk, gave}
@@ -24,7 +25,7 @@ use Rattle.studies.proofs.Judge.{studies-sound}
 use Rattle.studies.proofs.Schedule.{ranBy}
 use Rattle.studies.proofs.SameCall.{Beside, call-beside}
 use Rattle.studies.proofs.Listed.{turn-listed, given-listed}
-use Rattle.calls.proofs.Agreed.{needs-append, SameStopped, run-agree}
+use Rattle.calls.proofs.Agreed.{SameStopped, run-agree}
 
 module _ (F : ℕ → Type 0) (w : Windows) (ss : List State) (ns : List ℕ) (q : ℕ) where
   -- what the turns touch that were tried

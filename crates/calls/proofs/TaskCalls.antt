@@ -16,19 +16,20 @@ use Rattle.model.specs.Demand.{Within, opcodeOf, SameOutside, AtPop}
 use Rattle.model.specs.declared.State.{State}
 use Rattle.model.proofs.Plan.{All-map}
 use Rattle.model.proofs.Entry.{step-done}
+use Rattle.model.proofs.Agrees.{agree-of}
 use Rattle.studies.specs.Tasks.{Own, taskOf, Turn, turn, studies, turnNeeds}
 use Rattle.studies.specs.TaskDemand.{turnOn, afterTurns, PrivateTo}
 use Rattle.studies.proofs.Callers.{turn-shape}
 use Rattle.studies.proofs.TaskDemand.{set-alike}
+use Rattle.studies.proofs.Anywhere.{turns-shape}
 use Rattle.mmix.specs.Calls.{Held, struct, heldState, HeldIs}
-use Rattle.mmix.proofs.Forms.{form-after, same-held}
+use Rattle.mmix.proofs.Forms.{form-after, form-asked, same-held}
 use Rattle.mmix.proofs.Calls.{asked-step}
-use Rattle.calls.specs.TaskCalls.{heldBy, statesHeld, TaskEntry, AloneMet, TaskMeetsBy, wholeOf, TaskChain, lastHeld, lastWindow, callsNeed, Demand3TaskCalls}
-use Rattle.calls.proofs.Agreed.{agree-of}
+use Rattle.calls.specs.TaskCalls.{allTurns, heldBy, statesHeld, TaskEntry, AloneMet, TaskMeetsBy, wholeOf, TaskChain, lastHeld, lastWindow, callsNeed, Demand3TaskCalls}
 use Rattle.calls.proofs.HeldLists.{AllIntact, all-intact, task-held, states-length}
 use Rattle.calls.proofs.WholeTurns.{AsTurns}
-use Rattle.calls.proofs.TaskChains.{allTurns, chain-made, chain-needs, SameCalls, same-calls}
-use Rattle.calls.proofs.TaskPop.{CallMade, item-called, turns-shape, claim-at, returns-held}
+use Rattle.calls.proofs.TaskChains.{chain-made, chain-needs, SameCalls, same-calls}
+use Rattle.calls.proofs.TaskPop.{CallMade, item-called, claim-at, returns-held}
 
 -- ---- the theorem
 
@@ -76,7 +77,7 @@ demand3-task-calls w hs ks c f x y z e a b cs ds there hf kf hw fit fs alike ea 
     let one : heldBy (a .held) c ≡ heldBy (b .held) c
     = same-held _ _ _ (pa .its .whole .back)
     (subst (HeldIs (heldBy (b .held) c)) (its-b ∙ ap (λ (q : List State). taskOf q c) (sym states) ∙ sym its-a) (pb .its .whole .back))
-    (form-after (heldBy hs c) w e _ _ _ _ (hi c there .sized) (ma .contract) ∙ sym (form-after (heldBy ks c) w e _ _ _ _ (ki c there-too .sized) (mb .contract))) in
+    (form-after (heldBy hs c) w e _ _ _ _ (hi c there .sized) (ma .contract) ∙ form-asked e _ _ _ _ _ asks ∙ sym (form-after (heldBy ks c) w e _ _ _ _ (ki c there-too .sized) (mb .contract))) in
     let held : a .held ≡ b .held
     = ma .others ∙ ap (set hs c) one ∙ set-alike (struct fresh) c hs ks (alike .count-same) (alike .others) there (heldBy (b .held) c) ∙ sym (mb .others) in
     let shape-a : shapesOf (a .window) ≡ shapesOf w = ap shapesOf (pa .window-is) ∙ turn-shape ss w (turn c p i) in

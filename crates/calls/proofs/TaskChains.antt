@@ -11,14 +11,14 @@ use Rattle.model.specs.Invariants.{Bytes}
 use Rattle.model.specs.declared.State.{State}
 use Rattle.model.proofs.Plan.{All-left, All-right}
 use Rattle.model.proofs.Lists.{runs-append}
+use Rattle.model.proofs.Split.{needs-append}
 use Rattle.studies.specs.Tasks.{Turn, studies, turnNeeds}
 use Rattle.mmix.specs.Calls.{Held, AllFit}
-use Rattle.calls.specs.TaskCalls.{statesHeld, TaskEntry, alone, together, TaskMade, TaskMeetsBy, turnsOf, turnsBy, FitsBy, talliesBy, TaskChain, taskEntries, taskReplies, tallies, lastHeld, lastWindow, AllFitIn, callsNeed}
-use Rattle.calls.proofs.Agreed.{needs-append}
+use Rattle.calls.specs.TaskCalls.{statesHeld, TaskEntry, alone, together, TaskMade, TaskMeetsBy, turnsOf, turnsBy, FitsBy, talliesBy, taskRepliedBy, TaskChain, taskEntries, taskReplies, tallies, lastHeld, lastWindow, AllFitIn, callsNeed, allTurns}
 use Rattle.calls.proofs.HeldLists.{AllIntact}
 use Rattle.calls.proofs.WholeTurns.{AsTurns}
 use Rattle.calls.proofs.Alone.{alone-made, SameAlone, alone-same}
-use Rattle.calls.proofs.Together.{together-made, SameTogether, together-same}
+use Rattle.calls.proofs.LentCalls.{lent-made, SameLent, lent-same}
 
 -- ---- one call, of any function
 
@@ -29,10 +29,10 @@ pub call-made : (hs : List Held) (w : Windows) (e : TaskEntry) (c : TaskMade) �
     → AsTurns hs w (turnsBy hs w e (c .reply) (c .count)) (c .held) (c .window)
 unfolding FitsBy TaskMeetsBy turnsBy
 call-made hs w (alone k e) c h b f m = alone-made hs w k e c h b f m
-call-made hs w (together e ns q grant) c h b f m = together-made hs w e ns q grant c m h b (c .count)
+call-made hs w (together js e ns q grant) c h b f m = lent-made hs w js e ns q grant c m h b
 
 record SameMade (F : ℕ → Type 0) (hs : List Held) (w u : Windows) (e : TaskEntry) (c d : TaskMade) : Type 0 where
-  reply-same : c .reply ≡ d .reply
+  reply-same : taskRepliedBy e (c .reply) ≡ taskRepliedBy e (d .reply)
   tallies-same : talliesBy e (c .count) (c .counts) (c .refusals) ≡ talliesBy e (d .count) (d .counts) (d .refusals)
   held-same : c .held ≡ d .held
   agree : Agree both F (c .window) (d .window)
@@ -42,7 +42,7 @@ record SameMade (F : ℕ → Type 0) (hs : List Held) (w u : Windows) (e : TaskE
 call-same : (F : ℕ → Type 0) (hs : List Held) (w u : Windows) (e : TaskEntry) (c d : TaskMade) → AllIntact hs → Agree both F w u
     → All (Off F) (runNeedsBy both studies turnNeeds (statesHeld hs) w (turnsBy hs w e (c .reply) (c .count)))
     → FitsBy e (c .reply) (c .count) → TaskMeetsBy hs w e c → TaskMeetsBy hs u e d → SameMade F hs w u e c d
-unfolding FitsBy TaskMeetsBy turnsBy talliesBy both shapesOf shapeOf
+unfolding FitsBy TaskMeetsBy turnsBy talliesBy taskRepliedBy both shapesOf shapeOf
 call-same F hs w u (alone k e) c d h a off f mc md =
     let s : SameAlone F e c d = alone-same F hs w u k e c d h a off mc md in
     record {
@@ -53,10 +53,10 @@ call-same F hs w u (alone k e) c d h a off f mc md =
       turns-same = λ i. turnsOf k (record { start = 0; size = a .shape-same i .b .size }) (s .ends-same .items-same i);
       fits-too = subst AllFit (s .ends-same .items-same) f;
     }
-call-same F hs w u (together e ns q grant) c d h a off f mc md =
-    let s : SameTogether F hs w u e ns q grant c d = together-same F hs w u e ns q grant c d a off mc md in
+call-same F hs w u (together js e ns q grant) c d h a off f mc md =
+    let s : SameLent F hs w u js ns q grant c d = lent-same F hs w u js e ns q grant c d a off mc md in
     record {
-      reply-same = s .reply-same;
+      reply-same = ap (λ (n : ℕ). n ∷ []) (s .reply-same);
       tallies-same = λ i. s .counts-same i ++ s .refusals-same i;
       held-same = s .held-same;
       agree = s .agree;
@@ -65,10 +65,6 @@ call-same F hs w u (together e ns q grant) c d h a off f mc md =
     }
 
 -- ---- a list of calls
-
-unfoldable pub allTurns : List Held → Windows → List TaskMade → List Turn
-allTurns hs w [] = []
-allTurns hs w (c ∷ cs) = turnsIn hs w c ++ allTurns (c .held) (c .window) cs
 
 as-append : (hs ks ls : List Held) (w v x : Windows) (is js : List Turn) → AsTurns hs w is ks v → AsTurns ks v js ls x → AsTurns hs w (is ++ js) ls x
 as-append hs ks ls w v x is js a b =
@@ -128,7 +124,7 @@ same-calls F hs w u (c ∷ cs) (d ∷ ds) h b a f e m n off =
     (subst (λ (g : List Held). TaskChain g (d .window) ds) (sym (one .held-same)) (n .1))
     (All-right (Off F) (runNeedsBy both studies turnNeeds (statesHeld hs) w (turnsIn hs w c)) _ off) in
     record {
-      replies-same = λ i. one .reply-same i ∷ r .replies-same i;
+      replies-same = λ i. (one .reply-same ∙ ap (λ (x : TaskEntry). taskRepliedBy x (d .reply)) (sym en)) i ++ r .replies-same i;
       tallies-same = λ i. (one .tallies-same ∙ ap (λ (x : TaskEntry). talliesBy x (d .count) (d .counts) (d .refusals)) (sym en)) i ++ r .tallies-same i;
       held-same = r .held-same ∙ ap (λ (g : List Held). lastHeld g ds) (one .held-same);
       turns-same = λ i. (one .turns-same ∙ ap (λ (x : TaskEntry). turnsBy hs u x (d .reply) (d .count)) (sym en)) i

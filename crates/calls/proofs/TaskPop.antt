@@ -6,22 +6,21 @@ use Prim.Native.Nat.{ℕ, _+_, _<_}
 use native.Mathlib.Omega.{arith}
 use lib.ListN.{length, set}
 use lib.Seq.{getD-set-same}
-use Rattle.model.specs.Memory.{Windows, shapeOf, shapesOf, both}
+use Rattle.model.specs.Memory.{Windows, Shapes, shapeOf, shapesOf, both}
 use Rattle.model.specs.Opcodes.{opPOP}
 use Rattle.model.specs.Plan.{Outcome, mapOutcome, All, Off}
 use Rattle.model.specs.Lists.{Ran, stepOn, runs, runNeedsBy}
 use Rattle.model.specs.Registers.{rO, sp, reg, fresh, Sized, Words}
 use Rattle.model.specs.Frames.{hole}
-use Rattle.model.specs.Step.{Item, step, stepOf, itemPlan, mmix}
+use Rattle.model.specs.Step.{Item, step, refusing, mmix}
+use Rattle.model.specs.Ways.{Way, by-step, by-fetch, itemBy, LentBy, doneBy, MetBy}
 use Rattle.model.specs.Invariants.{Fits, Bytes}
 use Rattle.model.specs.Demand.{Within, Call, opcodeOf, Alike, GivesBack}
 use Rattle.model.specs.declared.State.{State}
-use Rattle.model.proofs.Plan.{All-of}
-use Rattle.model.proofs.Memory.{both-lawful}
-use Rattle.model.proofs.Lists.{runTouches, runs-kept}
-use Rattle.studies.specs.Tasks.{Own, taskOf, Turn, turn, studies, turnNeeds}
-use Rattle.studies.specs.TaskDemand.{turnOn, GivesBackTo, PrivateTo}
-use Rattle.studies.proofs.Judge.{studies-sound}
+use Rattle.model.proofs.Ways.{done-is}
+use Rattle.studies.specs.Tasks.{Own, refusingIn, taskOf, Turn, turn, studies, turnNeeds}
+use Rattle.studies.specs.TaskDemand.{turnOn, popIn, PopMetIn, GivesBackTo, PrivateTo}
+use Rattle.studies.proofs.Judge.{whole-judge}
 use Rattle.studies.proofs.WithoutTasks.{turn-whole}
 use Rattle.studies.proofs.TaskDemand.{demand3-tasks}
 use Rattle.mmix.specs.Calls.{Held, heldState, Entry, askedBy, Made, AllFit, Returns}
@@ -38,12 +37,19 @@ pub turned-item : (w v : Windows) (ss : List State) (c : ℕ) (i : Item) → sha
 unfolding shapesOf shapeOf
 turned-item w v ss c i e = turn-whole (shapesOf w) c ss v i e
 
-turned : (w v : Windows) (hs : List Held) (c op x y z : ℕ) → shapesOf v ≡ shapesOf w
-    → turnOn (wholeOf w) v (statesHeld hs) c (step op x y z) ≡ mapOutcome (λ t. set (statesHeld hs) c t) (stepOf v (heldState (heldBy hs c)) op x y z)
-turned w v hs c op x y z e =
-    turned-item w v (statesHeld hs) c (step op x y z) e
-    ∙ ap (λ (s : State). mapOutcome (λ t. set (statesHeld hs) c t) (stepOn both mmix s v (step op x y z))) (task-held hs c)
-    ∙ (unfold stepOn mmix stepOf itemPlan both in refl)
+turned : (w v : Windows) (hs : List Held) (c op : ℕ) (u : Way) → shapesOf v ≡ shapesOf w
+    → turnOn (wholeOf w) v (statesHeld hs) c (itemBy u op) ≡ mapOutcome (λ t. set (statesHeld hs) c t) (doneBy u op v (heldState (heldBy hs c)))
+turned w v hs c op u e =
+    turned-item w v (statesHeld hs) c (itemBy u op) e
+    ∙ ap (λ (s : State). mapOutcome (λ t. set (statesHeld hs) c t) (stepOn both mmix s v (itemBy u op))) (task-held hs c)
+    ∙ ap (mapOutcome (λ t. set (statesHeld hs) c t)) (done-is u op v (heldState (heldBy hs c)))
+
+-- what is lent to the host is lent to a task with all of B
+pub lent-whole : (u : Way) (w v : Windows) (s : State) → shapesOf v ≡ shapesOf w → LentBy u (refusing (shapesOf v)) s → LentBy u (refusingIn (wholeOf w) (shapesOf v)) s
+lent-whole (by-step x y z) w v s e l = tt
+lent-whole by-fetch w v s e l =
+    subst (λ (q : Shapes). refusing q (s .pc) ≡ 0 → refusingIn (wholeOf w) q (s .pc) ≡ 0) (sym e)
+    (λ h. unfold shapesOf shapeOf in (whole-judge (shapesOf w) (s .pc) ∙ h)) l
 
 -- what a call of one item by task c leaves, as a turn
 pub record CallMade (hs : List Held) (w : Windows) (c : ℕ) (i : Item) (a : TaskMade) : Type 0 where
@@ -74,11 +80,6 @@ item-called hs w c i e a h b f asks met =
       its = s;
     }
 
--- no turn changes the windows' bases or lengths
-pub turns-shape : (is : List Turn) (ss : List State) (w : Windows) → shapesOf (runs both studies ss w is .memory) ≡ shapesOf w
-unfolding both
-turns-shape is ss w = runs-kept both both-lawful studies (λ o. ⊥) studies-sound is ss w (All-of _ (runTouches both studies ss w is) (λ b x. x)) .shape-kept
-
 -- ---- the demand, of states s and t that tasks c have
 
 module _ (p : Own) (w : Windows) (ss ts : List State) (c : ℕ) (f : Call) (x y z : ℕ) (is : List Turn) where
@@ -98,12 +99,12 @@ module _ (p : Own) (w : Windows) (ss ts : List State) (c : ℕ) (f : Call) (x y 
 
 -- ---- the POP
 
-gives-back : (w v : Windows) (hs : List Held) (c h : ℕ) (s : State) (x y z : ℕ) → shapesOf v ≡ shapesOf w → c < length hs
-    → GivesBackTo c h s (turnOn (wholeOf w) v (statesHeld hs) c (step opPOP x y z)) → GivesBack h s (stepOf v (heldState (heldBy hs c)) opPOP x y z)
+gives-back : (w v : Windows) (hs : List Held) (c h : ℕ) (s : State) (u : Way) → shapesOf v ≡ shapesOf w → c < length hs
+    → GivesBackTo c h s (turnOn (wholeOf w) v (statesHeld hs) c (itemBy u opPOP)) → GivesBack h s (doneBy u opPOP v (heldState (heldBy hs c)))
 unfolding mapOutcome
-gives-back w v hs c h s x y z e l g =
-    let o : Outcome State Windows = stepOf v (heldState (heldBy hs c)) opPOP x y z in
-    let b : GivesBackTo c h s (mapOutcome (λ t. set (statesHeld hs) c t) o) = subst (GivesBackTo c h s) (turned w v hs c opPOP x y z e) g in
+gives-back w v hs c h s u e l g =
+    let o : Outcome State Windows = doneBy u opPOP v (heldState (heldBy hs c)) in
+    let b : GivesBackTo c h s (mapOutcome (λ t. set (statesHeld hs) c t) o) = subst (GivesBackTo c h s) (turned w v hs c opPOP u e) g in
     record {
       done = b .done;
       locals = λ i m. sym (ap (λ (t : State). reg t i) (getD-set-same (statesHeld hs) c (o .state) fresh (omega (arith, states-length hs)))) ∙ b .locals i m;
@@ -111,9 +112,15 @@ gives-back w v hs c h s x y z e l g =
 
 -- by any function, on what task c holds, where the turns led to r
 pub returns-held : (w v : Windows) (hs : List Held) (c h : ℕ) (s : State) (r : Ran (List State) Windows) → shapesOf v ≡ shapesOf w → c < length hs → AllIntact hs → Bytes v
-    → statesHeld hs ≡ r .state → v ≡ r .memory → ((x y z : ℕ) → GivesBackTo c h s (turnOn (wholeOf w) (r .memory) (r .state) c (step opPOP x y z)))
+    → statesHeld hs ≡ r .state → v ≡ r .memory → ((u : Way) → PopMetIn (wholeOf w) r c u → GivesBackTo c h s (popIn (wholeOf w) r c u))
     → Returns h s (heldBy hs c) v
 returns-held w v hs c h s r e l i b es ev back =
     returns h s (heldBy hs c) v (record { answers = []; state = heldState (heldBy hs c); memory = v }) (i c l) b refl refl
-    (λ x y z. gives-back w v hs c h s x y z e l (subst (λ (q : List State). GivesBackTo c h s (turnOn (wholeOf w) v q c (step opPOP x y z))) (sym es)
-    (subst (λ (m : Windows). GivesBackTo c h s (turnOn (wholeOf w) m (r .state) c (step opPOP x y z))) (sym ev) (back x y z))))
+    (λ u m. gives-back w v hs c h s u e l
+    (subst (λ (q : Ran (List State) Windows). PopMetIn (wholeOf w) q c u → GivesBackTo c h s (popIn (wholeOf w) q c u))
+    (λ j. record { answers = r .answers; state = sym es j; memory = sym ev j }) (back u) (met u m)))
+  where
+    met : (u : Way) → MetBy opPOP (refusing (shapesOf v)) v (heldState (heldBy hs c)) u
+        → PopMetIn (wholeOf w) (record { answers = r .answers; state = statesHeld hs; memory = v }) c u
+    met u m = subst (λ (q : State). MetBy opPOP (refusingIn (wholeOf w) (shapesOf v)) v q u) (sym (task-held hs c))
+        (record { names = m .names; lent = lent-whole u w v (heldState (heldBy hs c)) e (m .lent) })

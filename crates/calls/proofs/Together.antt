@@ -27,7 +27,7 @@ use Rattle.studies.proofs.Callers.{turns-off}
 use Rattle.tasks.specs.Images.{eachLength, statesIn, imagesWith, Leaves}
 use Rattle.mmix.specs.Calls.{Held}
 use Rattle.mmix.proofs.Call.{Intact}
-use Rattle.calls.specs.TaskCalls.{heldBy, statesHeld, imagesHeld, together, TaskMade, TogetherMet, turnsBy}
+use Rattle.calls.specs.TaskCalls.{heldBy, statesHeld, imagesHeld, TaskMade, TogetherMet, turnsLent}
 use Rattle.calls.proofs.HeldLists.{AllIntact, AllFitting, heldWith, task-held, states-length, with-length, with-states, with-intact}
 use Rattle.calls.proofs.HeldImages.{Lengths, lengths, bytes-same, images-with}
 use Rattle.calls.proofs.Ranges.{Stays, Ranged, call-ranged}
@@ -43,7 +43,7 @@ module _ (hs : List Held) (w : Windows) (e : ℕ) (ns : List ℕ) (q grant : ℕ
   abbrev desk : Desk (List State) Windows
   desk = callOf w (statesHeld hs) ns q grant
 
-  pass-lengths : TasksPass w taken ns q grant → Lengths (tasksIn ns) e (met .before) hs
+  pub pass-lengths : TasksPass w taken ns q grant → Lengths (tasksIn ns) e (met .before) hs
   unfolding allAdmissible
   pass-lengths p =
       let r : CallRuled ns q = call-ruled (shapesOf w .b .size) ns q (p .tasks-ruled) in
@@ -111,9 +111,9 @@ module _ (hs : List Held) (w : Windows) (e : ℕ) (ns : List ℕ) (q grant : ℕ
           count = ap length same ∙ with-length hs (desk .states);
         })
 
-    pub together-made : (n : ℕ) → AsTurns hs w (turnsBy hs w (together e ns q grant) (c .reply) n) (c .held) (c .window)
-    unfolding turnsBy
-    together-made n = tasks-by w taken ns q grant (λ t. Left t → Made) refused passed (met .contract)
+    pub together-made : AsTurns hs w (turnsLent hs w ns q grant (c .reply)) (c .held) (c .window)
+    unfolding turnsLent
+    together-made = tasks-by w taken ns q grant (λ t. Left t → Made) refused passed (met .contract)
 
 -- ---- side by side
 
@@ -123,12 +123,12 @@ pub record SameTogether (F : ℕ → Type 0) (hs : List Held) (w u : Windows) (e
   pub refusals-same : c .refusals ≡ d .refusals
   pub held-same : c .held ≡ d .held
   pub agree : Agree both F (c .window) (d .window)
-  pub turns-same : turnsBy hs w (together e ns q grant) (c .reply) (c .count) ≡ turnsBy hs u (together e ns q grant) (d .reply) (d .count)
+  pub turns-same : turnsLent hs w ns q grant (c .reply) ≡ turnsLent hs u ns q grant (d .reply)
 
 pub together-same : (F : ℕ → Type 0) (hs : List Held) (w u : Windows) (e : ℕ) (ns : List ℕ) (q grant : ℕ) (c d : TaskMade) → Agree both F w u
-    → All (Off F) (runNeedsBy both studies turnNeeds (statesHeld hs) w (turnsBy hs w (together e ns q grant) (c .reply) (c .count)))
+    → All (Off F) (runNeedsBy both studies turnNeeds (statesHeld hs) w (turnsLent hs w ns q grant (c .reply)))
     → TogetherMet hs w e ns q grant c → TogetherMet hs u e ns q grant d → SameTogether F hs w u e ns q grant c d
-unfolding turnsBy
+unfolding turnsLent
 together-same F hs w u e ns q grant c d a off mc md =
     let n : ℕ = tasksIn ns in
     let l : List ℕ = mc .before in

@@ -1,5 +1,5 @@
--- Theorem (02, change 14), as a host meets it: "And of the C functions, as demand 3 is: lists of calls of steps, exceptions, runs and tasks on images and
--- windows". SAVE by any function on what task c holds; then a list of calls, mmix_tasks among them; then UNSAVE by any function on what task c holds then.
+-- Theorem (02, change 14), as a host meets it: And of the C functions, as demand 3 is: lists of calls of steps, exceptions, runs and tasks on images and
+-- windows. SAVE by any function on what task c holds; then a list of calls, mmix_tasks among them; then UNSAVE by any function on what task c holds then.
 -- A run that is granted one instruction does it fetched.
 use Prim.Native.Nat.{ℕ, _<_}
 use mathlib.Core.Path.{_≡_}
@@ -10,13 +10,14 @@ use Rattle.model.specs.Opcodes.{opSAVE, opUNSAVE}
 use Rattle.model.specs.Plan.{All, Off}
 use Rattle.model.specs.Registers.{reg, following}
 use Rattle.model.specs.Step.{refusing}
+use Rattle.model.specs.Ways.{Way, itemBy, NamesBy, xBy}
 use Rattle.model.specs.Invariants.{Fits, Bytes}
 use Rattle.model.specs.declared.State.{State}
-use Rattle.studies.specs.Parked.{ComesBack, Way, itemBy, NamesBy, xBy, Asks, Context}
+use Rattle.studies.specs.Parked.{ComesBack, Asks, Context}
 use Rattle.mmix.specs.Calls.{Held, heldState, HeldFits, Entry, askedBy, Made, asked, Meets}
 use Rattle.calls.specs.TaskCalls.{heldBy, TaskMade, alone, TaskChain, lastHeld, lastWindow, AllFitIn, callsNeed}
 
--- "it succeeds": what a call d on state e and v leaves, s the state before SAVE; "PC and halt code as UNSAVE leaves them", and the windows
+-- "it succeeds": what a call d on state e and v leaves, s the state before SAVE; PC and halt code as UNSAVE leaves them, and the windows
 pub record Unparked (s e : State) (v : Windows) (d : Made) : Type 0 where
   pub done : d .reply ≡ 0
   pub state-back : ComesBack s (heldState (d .held))

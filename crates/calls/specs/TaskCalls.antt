@@ -21,8 +21,9 @@ use Rattle.model.specs.declared.State.{State}
 use Rattle.studies.specs.Tasks.{Own, Turn, turn, studies, turnNeeds}
 use Rattle.studies.specs.Call.{callOf}
 use Rattle.studies.specs.TasksMeant.{triedTurns}
+use Rattle.studies.specs.Lent.{Once, picked, placed, renamed}
 use Rattle.tasks.specs.Images.{imageIn, TasksRan}
-use Rattle.mmix.specs.Calls.{Held, image, struct, heldState, HeldFits, Entry, askedBy, countedBy, MeetsBy, AllFit, Returns}
+use Rattle.mmix.specs.Calls.{Held, image, struct, heldState, HeldFits, Entry, askedBy, countedBy, repliedBy, MeetsBy, AllFit, Returns}
 
 -- ---- what a host holds
 
@@ -41,10 +42,10 @@ imagesHeld e l k (suc m) = image (imageIn e l k) ∷ imagesHeld e l (suc k) m
 
 -- ---- one call
 
--- a function on what task k holds; or mmix_tasks: how long each image is, the parts, q and the grant
+-- a function on what task k holds; or mmix_tasks: which tasks are lent, in this order, how long each image is, the parts, q and the grant
 pub data TaskEntry : Type 0 where
   alone : ℕ → Entry → TaskEntry
-  together : ℕ → List ℕ → ℕ → ℕ → TaskEntry
+  together : List ℕ → ℕ → List ℕ → ℕ → ℕ → TaskEntry
 
 -- a call that was made: its reply, of a run its count, of mmix_tasks counts and refusals; what is held and the windows after it
 pub record TaskMade : Type 0 where
@@ -62,7 +63,7 @@ pub record AloneMet (hs : List Held) (w : Windows) (k : ℕ) (e : Entry) (c : Ta
   pub contract : MeetsBy (heldBy hs k) w e (c .reply) (c .count) (heldBy (c .held) k) (c .window)
   pub others : c .held ≡ set hs k (heldBy (c .held) k)
 
--- the contract of mmix_tasks: all hold images of e bytes, which stand one after another in `before` and then in `after`
+-- the contract of mmix_tasks on those that are lent: they hold images of e bytes, which stand one after another in `before` and then in `after`
 pub record TogetherMet (hs : List Held) (w : Windows) (e : ℕ) (ns : List ℕ) (q grant : ℕ) (c : TaskMade) : Type 0 where
   pub before : List ℕ
   pub after : List ℕ
@@ -72,9 +73,23 @@ pub record TogetherMet (hs : List Held) (w : Windows) (e : ℕ) (ns : List ℕ) 
   pub contract : TasksRan before w ns q grant (c .reply) after (c .window) (c .counts) (c .refusals)
   pub left : c .held ≡ imagesHeld e after 0 (length hs)
 
+-- what the tasks js hold
+abbrev pub lentHeld : List Held → List ℕ → List Held
+lentHeld hs js = picked (struct fresh) hs js
+
+-- the call as those see it that are lent
+abbrev pub lentMade : List ℕ → TaskMade → TaskMade
+lentMade js c = record { entry = c .entry; reply = c .reply; count = c .count; counts = c .counts; refusals = c .refusals; held = lentHeld (c .held) js; window = c .window }
+
+-- the tasks js are lent, each once; what the others hold stays
+pub record LentMet (hs : List Held) (w : Windows) (js : List ℕ) (e : ℕ) (ns : List ℕ) (q grant : ℕ) (c : TaskMade) : Type 0 where
+  pub once : Once (length hs) js
+  pub those : TogetherMet (lentHeld hs js) w e ns q grant (lentMade js c)
+  pub others : c .held ≡ placed hs js (lentHeld (c .held) js)
+
 unfoldable pub TaskMeetsBy : List Held → Windows → TaskEntry → TaskMade → Type 0
 TaskMeetsBy hs w (alone k e) c = AloneMet hs w k e c
-TaskMeetsBy hs w (together e ns q grant) c = TogetherMet hs w e ns q grant c
+TaskMeetsBy hs w (together js e ns q grant) c = LentMet hs w js e ns q grant c
 
 -- ---- what is asked for
 
@@ -89,19 +104,22 @@ turnsOf k p (i ∷ is) = turn k p i ∷ turnsOf k p is
 
 -- the turns that a call on hs and w asks for where it replies r, with the count n of a run; of mmix_tasks those that it tried, none where it is
 -- refused whole
+unfoldable pub turnsLent : List Held → Windows → List ℕ → ℕ → ℕ → ℕ → List Turn
+turnsLent gs w ns q grant r = cond (eqb r 0) (triedTurns ns (callOf w (statesHeld gs) ns q grant .given)) []
+
 unfoldable pub turnsBy : List Held → Windows → TaskEntry → ℕ → ℕ → List Turn
 turnsBy hs w (alone k e) r n = turnsOf k (wholeOf w) (askedBy e r n)
-turnsBy hs w (together e ns q grant) r n = cond (eqb r 0) (triedTurns ns (callOf w (statesHeld hs) ns q grant .given)) []
+turnsBy hs w (together js e ns q grant) r n = renamed js (turnsLent (lentHeld hs js) w ns q grant r)
 
 -- what is given fits C's types
 unfoldable pub FitsBy : TaskEntry → ℕ → ℕ → Type 0
 FitsBy (alone k e) r n = AllFit (askedBy e r n)
-FitsBy (together e ns q grant) r n = Unit {0}
+FitsBy (together js e ns q grant) r n = Unit {0}
 
 -- the count of a run; counts and refusals of mmix_tasks
 unfoldable pub talliesBy : TaskEntry → ℕ → List ℕ → List ℕ → List ℕ
 talliesBy (alone k e) n cs rs = countedBy e n
-talliesBy (together e ns q grant) n cs rs = cs ++ rs
+talliesBy (together js e ns q grant) n cs rs = cs ++ rs
 
 -- ---- a list of calls
 
@@ -114,9 +132,14 @@ unfoldable pub taskEntries : List TaskMade → List TaskEntry
 taskEntries [] = []
 taskEntries (c ∷ cs) = c .entry ∷ taskEntries cs
 
+-- a function's reply (`repliedBy`), and that of mmix_tasks
+unfoldable pub taskRepliedBy : TaskEntry → ℕ → List ℕ
+taskRepliedBy (alone k e) r = repliedBy e r
+taskRepliedBy (together js e ns q grant) r = r ∷ []
+
 unfoldable pub taskReplies : List TaskMade → List ℕ
 taskReplies [] = []
-taskReplies (c ∷ cs) = c .reply ∷ taskReplies cs
+taskReplies (c ∷ cs) = taskRepliedBy (c .entry) (c .reply) ++ taskReplies cs
 
 unfoldable pub tallies : List TaskMade → List ℕ
 tallies [] = []
@@ -133,6 +156,11 @@ lastWindow w (c ∷ cs) = lastWindow (c .window) cs
 unfoldable pub AllFitIn : List TaskMade → Type 0
 AllFitIn [] = Unit {0}
 AllFitIn (c ∷ cs) = FitsBy (c .entry) (c .reply) (c .count) × AllFitIn cs
+
+-- all turns that the calls asked for
+unfoldable pub allTurns : List Held → Windows → List TaskMade → List Turn
+allTurns hs w [] = []
+allTurns hs w (c ∷ cs) = turnsBy hs w (c .entry) (c .reply) (c .count) ++ allTurns (c .held) (c .window) cs
 
 -- what the turns of the calls need
 unfoldable pub callsNeed : List Held → Windows → List TaskMade → List ℕ
