@@ -283,10 +283,15 @@ static void patch_a_jump(void)
 }
 
 /* Eight studies on one machine: the program, in A, sums the margins 1 to $0 of a study by a routine that calls itself, and each study has its
- * calls' stack in a part of B, from a byte of it on. One study goes too deep and asks for its neighbour's part: it is stopped, and the others are not touched. */
-static void run_eight_studies(uint64_t from)
+ * calls' stack in a part at the end of B. One study goes too deep and asks for its neighbour's part: it is stopped, and the others are not touched. */
+enum { STUDIES = MMIX_TASKS_MAX, PROGRAM_AT = 0x600, PART_LEN = 256, STUDIES_AT = STACK_LEN - STUDIES * PART_LEN, TURN = 5, GRANT = 1000 };
+
+static const uint64_t margins[STUDIES] = { 1, 2, 3, 30, 5, 6, 7, 8 };
+static uint8_t studies[STUDIES * MMIX_IMAGE_LEN];
+static uint64_t parts[2 * STUDIES], counts[STUDIES], refusals[STUDIES];
+
+static void load_eight_studies(void)
 {
-    enum { STUDIES = MMIX_TASKS_MAX, PROGRAM_AT = 0x600, PART_LEN = 256, TURN = 5, GRANT = 1000 };
     static const uint8_t program[] = {
         MMIX_OP_ADDUI, 2, 0, 0,            /* 600: the routine's argument */
         MMIX_OP_PUSHJ, 1, 0, 2,            /* 604: $0 is kept below the hole */
@@ -299,15 +304,12 @@ static void run_eight_studies(uint64_t from)
         MMIX_OP_ADDU, 0, 0, 2,
         MMIX_OP_POP, 1, 0, 0               /* 624 */
     };
-    static const uint64_t margins[STUDIES] = { 1, 2, 3, 30, 5, 6, 7, 8 };
-    static uint8_t images[STUDIES * MMIX_IMAGE_LEN];
-    uint64_t parts[2 * STUDIES], counts[STUDIES], refusals[STUDIES], total = 0;
     struct mmix_state study;
 
     memcpy(low + PROGRAM_AT, program, sizeof program);
     for (size_t k = 0; k < STUDIES; k++) {
-        uint8_t *at = images + k * MMIX_IMAGE_LEN;
-        parts[2 * k] = from + k * PART_LEN;
+        uint8_t *at = studies + k * MMIX_IMAGE_LEN;
+        parts[2 * k] = STUDIES_AT + k * PART_LEN;
         parts[2 * k + 1] = PART_LEN;
         if (mmix_initialize(at, MMIX_IMAGE_LEN) != MMIX_DONE || mmix_decode(at, MMIX_IMAGE_LEN, &study) != MMIX_DONE)
             end("no image of a study");
@@ -318,16 +320,20 @@ static void run_eight_studies(uint64_t from)
         if (mmix_encode(&study, at, MMIX_IMAGE_LEN) != MMIX_DONE)
             end("no image of a study");
     }
-    parts[1] += 8;
-    refused("eight studies, parts overlap", mmix_tasks_in(&lent, TURN, GRANT, images, sizeof images, parts, 2 * STUDIES, counts, refusals),
-            MMIX_TASKS_RULE);
-    parts[1] -= 8;
+}
 
-    uint64_t reply = mmix_tasks_in(&lent, TURN, GRANT, images, sizeof images, parts, 2 * STUDIES, counts, refusals);
-    if (reply != MMIX_DONE)
-        end(mmix_reply_text(reply));
+static uint64_t run_eight_studies(void)
+{
+    return mmix_tasks_in(&lent, TURN, GRANT, studies, sizeof studies, parts, 2 * STUDIES, counts, refusals);
+}
+
+static void show_eight_studies(void)
+{
+    struct mmix_state study;
+    uint64_t total = 0;
+
     for (size_t k = 0; k < STUDIES; k++) {
-        if (mmix_decode(images + k * MMIX_IMAGE_LEN, MMIX_IMAGE_LEN, &study) != MMIX_DONE)
+        if (mmix_decode(studies + k * MMIX_IMAGE_LEN, MMIX_IMAGE_LEN, &study) != MMIX_DONE)
             end("no study in an image");
         printf("study %zu, margins 1 to %-2" PRIu64 "      done %3" PRIu64 "  stopped by %2" PRIu64 "  sum %2" PRIu64 "  $0 %2" PRIu64 "\n", k, margins[k],
                counts[k], refusals[k], refusals[k] == MMIX_NAMED_TRAP ? study.general[1] : 0, study.general[0]);
@@ -341,18 +347,28 @@ static void run_eight_studies(uint64_t from)
         end("a study reached into another's part");
 }
 
-/* Parks the context while eight studies run in the rest of B: none of them needs an octabyte of it, so it is taken up again as it was. */
+/* Parks the context while eight studies run in the rest of B: none of them needs an octabyte of it, so it is taken up again as it was. All is loaded
+ * before SAVE: between SAVE and UNSAVE the library alone writes the windows. */
 static void park_during_studies(void)
 {
     uint8_t before[MMIX_IMAGE_LEN];
 
+    load_eight_studies();
     memcpy(before, image, sizeof image);
     step("SAVE $255: park", MMIX_OP_SAVE, 255, 0, 0);
     uint64_t parked = special(MMIX_RO) - MMIX_STACK_START;
     printf("%-28s window B, bytes 0 to %" PRIu64 "\n", "parked while studies run", parked);
-    run_eight_studies(parked);
+    if (parked > STUDIES_AT)
+        end("the parked context lies in a study's part");
+    parts[1] += 8;
+    refused("eight studies, parts overlap", run_eight_studies(), MMIX_TASKS_RULE);
+    parts[1] -= 8;
+    uint64_t reply = run_eight_studies();
+    if (reply != MMIX_DONE)
+        end(mmix_reply_text(reply));
     step("UNSAVE $255: take up", MMIX_OP_UNSAVE, 0, 0, 255);
     as_before(before);
+    show_eight_studies();
 }
 
 /* Calls and returns on numbers of the host: the struct lent whole, then its parts. */
