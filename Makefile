@@ -10,6 +10,7 @@ SCRIPT ?= examples/scripts/first.script
 FILE ?= examples/points/first.points
 PREFIX ?= /usr/local
 PROGRAMS ?= ../shared/programs
+PAPERS ?= ../shared/docs
 ORACLE = build/oracle/release
 RUST_SRC = $(or $(MMIX_RUST_SRC),../shared/docs/src)
 LIB_DIR = $(or $(MMIX_LIB_DIR),build)
@@ -23,7 +24,7 @@ WARNINGS = -Wall -Wextra -Wpedantic -Werror
 HEADERS = build/mmix.h build/mmix_text.h
 VERSION = $(shell sed -n 's/^\#define MMIX_VERSION_[MI].* //p' include/mmix.h | paste -s -d .)
 
-.PHONY: help test prove bench scripts-test points points-test lib install host host-test programs oracle oracle-test differential guards mutants speed replay-list definitions constants clean need-rt need-gcc need-script need-points
+.PHONY: help test quotes prove bench scripts-test points points-test lib install host host-test programs oracle oracle-test differential guards mutants speed replay-list definitions constants clean need-rt need-gcc need-script need-points
 
 help:
 	@echo 'make bench SCRIPT=path       the bench program on a script (examples/scripts/first.script)'
@@ -54,11 +55,19 @@ need-gcc:
 # printed there only where the rest has passed too.
 test: need-rt need-gcc
 	@docs/check_traceability
+	@docs/check_theorems
+	@$(MAKE) --no-print-directory quotes
 	@docs/check_contracts
 	@if $(MAKE) --no-print-directory -q build/ci.log; then echo 'proofs and edits: nothing has changed since they passed; make clean to repeat them'; \
 	  else $(MAKE) --no-print-directory build/ci.log; fi
 	@$(MAKE) --no-print-directory host-test programs scripts-test points-test oracle-test differential
 	@tail -n 1 build/ci.log
+
+# Only the papers are quoted. Without them, or python3, it says so, and fails only where CI is true.
+quotes:
+	@if ! command -v python3 >/dev/null 2>&1; then echo 'no check of the quotations: python3 is not on the PATH; install the package python3'; [ "$${CI:-}" != true ]; \
+	  elif ! [ -f '$(PAPERS)/01-scope.md' ]; then echo 'no check of the quotations: set PAPERS to the folder that has the papers'; [ "$${CI:-}" != true ]; \
+	  else docs/check_quotes '$(PAPERS)'; fi
 
 # It is there only where `rt ci` has passed.
 build/ci.log: $(CHECKED)
