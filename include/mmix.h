@@ -85,7 +85,7 @@ enum mmix_reply {
     MMIX_DONE = 0,                /* The step or the exception was done. */
     MMIX_NOT_ADMISSIBLE = 1,      /* rG, rL, rA, the marks or the mask are out of range, or the image has another length. */
     MMIX_WINDOW_RULE = 2,         /* A window's length or base is no multiple of 8, or it is longer than MMIX_WINDOW_MAX. */
-    MMIX_NO_ARM = 3,              /* This machine has no such instruction, or it is RESUME. */
+    MMIX_NO_ARM = 3,              /* This library does not do that instruction (below, enum mmix_opcode). */
     MMIX_NAMED_TRAP = 4,          /* TRAP 0 that names a system call, which the host must serve. */
     MMIX_NO_SPECIAL = 5,          /* GET of a special register above 31. */
     MMIX_MISSING = 6,             /* An octabyte that the step needs lies in neither window: lend more, and ask again. */
@@ -118,8 +118,10 @@ enum mmix_reply {
     MMIX_TASKS_RULE = 33          /* mmix_tasks: not 1 to 8 tasks, q not 1 to 1,000, or parts that break their rule. Judged after 25. */
 };
 
-/* The opcodes that have an arm; every other byte is MMIX_NO_ARM. Of a pair with B at the end, that one goes backward; with I
- * at the end, the last operand is Z itself. */
+/* The opcodes that have an arm. Of a pair with B at the end, that one goes backward; with I at the end, the last operand is Z itself.
+ * The other 132 are MMIX_NO_ARM: floating point (0x01 to 0x17), conditional set and zero or set (0x60 to 0x7F), LDSF to PREGO (0x90 to
+ * 0x9D), STSF to SYNCID (0xB0 to 0xBD), OR to NXOR and BDIF to MXOR (0xC0 to 0xDF), SETH to ANDNL (0xE0 to 0xEF), RESUME (0xF9). A program does without
+ * SET by ADDU $X,$Y,0, and without SETL by NEGU $X,c,0 for a constant up to 255. */
 enum mmix_opcode {
     MMIX_OP_TRAP = 0x00,
     MMIX_OP_MUL = 0x18, MMIX_OP_MULI, MMIX_OP_MULU, MMIX_OP_MULUI, MMIX_OP_DIV, MMIX_OP_DIVI, MMIX_OP_DIVU, MMIX_OP_DIVUI,

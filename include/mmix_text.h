@@ -17,7 +17,7 @@ static inline const char *mmix_reply_text(uint64_t reply)
     case MMIX_DONE: return "done";
     case MMIX_NOT_ADMISSIBLE: return "the state is not admissible, or the image has the wrong length";
     case MMIX_WINDOW_RULE: return "a window breaks its rule";
-    case MMIX_NO_ARM: return "there is no such instruction";
+    case MMIX_NO_ARM: return "this library does not do that instruction";
     case MMIX_NAMED_TRAP: return "TRAP names a system call, which the host must serve";
     case MMIX_NO_SPECIAL: return "GET of a special register above 31";
     case MMIX_MISSING: return "a needed octabyte lies in neither window";
