@@ -24,7 +24,7 @@ WARNINGS = -Wall -Wextra -Wpedantic -Werror
 HEADERS = build/mmix.h build/mmix_text.h
 VERSION = $(shell sed -n 's/^\#define MMIX_VERSION_[MI].* //p' include/mmix.h | paste -s -d .)
 
-.PHONY: help test quotes prove bench scripts-test points points-test lib install host host-test programs oracle oracle-test differential guards mutants speed replay-list definitions constants clean need-rt need-gcc need-script need-points
+.PHONY: help test quotes prove bench scripts-test points points-test lib install host host-test pop-watch programs oracle oracle-test differential guards mutants speed replay-list definitions constants clean need-rt need-gcc need-script need-points
 
 help:
 	@echo 'make bench SCRIPT=path       the bench program on a script (examples/scripts/first.script)'
@@ -32,6 +32,7 @@ help:
 	@echo 'make test                    the gate: all proofs and must-fail edits, the hosts, compiled programs, the scripts, the points, the comparison with the Rust'
 	@echo 'make lib                     build/libmmix.a with its headers, proved'
 	@echo 'make host                    build and run examples/relay_host.c and grading.c, a program that grades relays'
+	@echo 'make pop-watch               watch in which order the POP of the library writes registers'
 	@echo 'make programs                run compiled programs (PROGRAMS=folder) by grants, and compare answers and counts'
 	@echo 'make install PREFIX=dir      libmmix.a, its headers and mmix.pc under dir (/usr/local)'
 	@echo 'make prove                   prove every crate, from what is proved already'
@@ -60,7 +61,7 @@ test: need-rt need-gcc
 	@docs/check_contracts
 	@if $(MAKE) --no-print-directory -q build/ci.log; then echo 'proofs and edits: nothing has changed since they passed; make clean to repeat them'; \
 	  else $(MAKE) --no-print-directory build/ci.log; fi
-	@$(MAKE) --no-print-directory host-test programs scripts-test points-test oracle-test differential
+	@$(MAKE) --no-print-directory host-test pop-watch programs scripts-test points-test oracle-test differential
 	@tail -n 1 build/ci.log
 
 # Only the papers are quoted. Without them, or python3, it says so, and fails only where CI is true.
@@ -128,23 +129,32 @@ build/%.h: include/%.h
 	@mkdir -p build
 	@cp $< $@
 
-HOSTS = build/relay_host build/grading build/run_program
+HOSTS = build/relay_host build/grading build/run_program build/header_test build/pop_watch
 LISTING = examples/grading/grading.mms
 
 $(HOSTS): build/%: examples/%.c build/libmmix.a $(HEADERS)
-	@gcc -O2 -std=c99 $(WARNINGS) -Ibuild -o $@ $< build/libmmix.a
+	@gcc -O2 -std=c99 $(WARNINGS) -Ibuild -o $@ $(filter %.c,$^) build/libmmix.a
+
+build/header_test: examples/header_inline.c examples/header_numbers.h examples/header_test.h
 
 host: need-gcc build/relay_host build/grading
 	@build/relay_host
 	@build/grading $(LISTING)
 
-# What the hosts print is the stored text, and each header serves C99 and C++17 by itself.
-host-test: need-gcc build/relay_host build/grading
+# What the hosts print is the stored text; the headers' names and inline functions are as they should be, and each header serves C99 and C++17 by itself.
+host-test: need-gcc build/relay_host build/grading build/header_test
 	@build/relay_host | diff examples/relay_host.out - && echo 'relay_host: prints what it should'
 	@build/grading $(LISTING) | diff examples/grading.out - && echo 'grading: prints what it should'
+	@examples/header_names $(HEADERS)
+	@build/header_test
 	@for h in $(HEADERS); do gcc -std=c99 $(WARNINGS) -Ibuild -fsyntax-only -x c - < $$h || exit 1; done; echo 'the headers are C99'
 	@if ! command -v g++ >/dev/null 2>&1; then echo 'no test of the headers as C++: g++ is not on the PATH; install the package g++'; \
 	  else for h in $(HEADERS); do g++ -std=c++17 $(WARNINGS) -Ibuild -fsyntax-only -x c++ - < $$h || exit 1; done; echo 'the headers are C++17'; fi
+
+# POP's order of work, write by write; first the watcher itself.
+pop-watch: need-gcc build/pop_watch
+	@build/pop_watch --self
+	@build/pop_watch
 
 # Programs that a compiler made, each to its end. Without their images it says so, and fails only where CI is true.
 programs: need-gcc build/run_program

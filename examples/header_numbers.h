@@ -1,0 +1,109 @@
+/* The names of mmix.h, each with its number; the replies with their sentences too. For header_test.c alone. */
+#ifndef HEADER_NUMBERS_H
+#define HEADER_NUMBERS_H
+
+#include "mmix.h"
+
+struct named {
+    const char *name;
+    uint64_t value, number;     /* what the header says, and what it should say */
+};
+
+#define NAMED(name, number) { #name, name, number }
+#define COUNT(table) (sizeof (table) / sizeof *(table))
+
+/* Fascicle 1, table of opcodes. */
+static const struct named opcodes[] = {
+    NAMED(MMIX_OP_TRAP, 0x00), NAMED(MMIX_OP_MUL, 0x18), NAMED(MMIX_OP_MULI, 0x19), NAMED(MMIX_OP_MULU, 0x1A), NAMED(MMIX_OP_MULUI, 0x1B),
+    NAMED(MMIX_OP_DIV, 0x1C), NAMED(MMIX_OP_DIVI, 0x1D), NAMED(MMIX_OP_DIVU, 0x1E), NAMED(MMIX_OP_DIVUI, 0x1F), NAMED(MMIX_OP_ADD, 0x20),
+    NAMED(MMIX_OP_ADDI, 0x21), NAMED(MMIX_OP_ADDU, 0x22), NAMED(MMIX_OP_ADDUI, 0x23), NAMED(MMIX_OP_SUB, 0x24), NAMED(MMIX_OP_SUBI, 0x25),
+    NAMED(MMIX_OP_SUBU, 0x26), NAMED(MMIX_OP_SUBUI, 0x27), NAMED(MMIX_OP_2ADDU, 0x28), NAMED(MMIX_OP_2ADDUI, 0x29), NAMED(MMIX_OP_4ADDU, 0x2A),
+    NAMED(MMIX_OP_4ADDUI, 0x2B), NAMED(MMIX_OP_8ADDU, 0x2C), NAMED(MMIX_OP_8ADDUI, 0x2D), NAMED(MMIX_OP_16ADDU, 0x2E),
+    NAMED(MMIX_OP_16ADDUI, 0x2F), NAMED(MMIX_OP_CMP, 0x30), NAMED(MMIX_OP_CMPI, 0x31), NAMED(MMIX_OP_CMPU, 0x32), NAMED(MMIX_OP_CMPUI, 0x33),
+    NAMED(MMIX_OP_NEG, 0x34), NAMED(MMIX_OP_NEGI, 0x35), NAMED(MMIX_OP_NEGU, 0x36), NAMED(MMIX_OP_NEGUI, 0x37), NAMED(MMIX_OP_SL, 0x38),
+    NAMED(MMIX_OP_SLI, 0x39), NAMED(MMIX_OP_SLU, 0x3A), NAMED(MMIX_OP_SLUI, 0x3B), NAMED(MMIX_OP_SR, 0x3C), NAMED(MMIX_OP_SRI, 0x3D),
+    NAMED(MMIX_OP_SRU, 0x3E), NAMED(MMIX_OP_SRUI, 0x3F), NAMED(MMIX_OP_BN, 0x40), NAMED(MMIX_OP_BNB, 0x41), NAMED(MMIX_OP_BZ, 0x42),
+    NAMED(MMIX_OP_BZB, 0x43), NAMED(MMIX_OP_BP, 0x44), NAMED(MMIX_OP_BPB, 0x45), NAMED(MMIX_OP_BOD, 0x46), NAMED(MMIX_OP_BODB, 0x47),
+    NAMED(MMIX_OP_BNN, 0x48), NAMED(MMIX_OP_BNNB, 0x49), NAMED(MMIX_OP_BNZ, 0x4A), NAMED(MMIX_OP_BNZB, 0x4B), NAMED(MMIX_OP_BNP, 0x4C),
+    NAMED(MMIX_OP_BNPB, 0x4D), NAMED(MMIX_OP_BEV, 0x4E), NAMED(MMIX_OP_BEVB, 0x4F), NAMED(MMIX_OP_PBN, 0x50), NAMED(MMIX_OP_PBNB, 0x51),
+    NAMED(MMIX_OP_PBZ, 0x52), NAMED(MMIX_OP_PBZB, 0x53), NAMED(MMIX_OP_PBP, 0x54), NAMED(MMIX_OP_PBPB, 0x55), NAMED(MMIX_OP_PBOD, 0x56),
+    NAMED(MMIX_OP_PBODB, 0x57), NAMED(MMIX_OP_PBNN, 0x58), NAMED(MMIX_OP_PBNNB, 0x59), NAMED(MMIX_OP_PBNZ, 0x5A), NAMED(MMIX_OP_PBNZB, 0x5B),
+    NAMED(MMIX_OP_PBNP, 0x5C), NAMED(MMIX_OP_PBNPB, 0x5D), NAMED(MMIX_OP_PBEV, 0x5E), NAMED(MMIX_OP_PBEVB, 0x5F), NAMED(MMIX_OP_LDB, 0x80),
+    NAMED(MMIX_OP_LDBI, 0x81), NAMED(MMIX_OP_LDBU, 0x82), NAMED(MMIX_OP_LDBUI, 0x83), NAMED(MMIX_OP_LDW, 0x84), NAMED(MMIX_OP_LDWI, 0x85),
+    NAMED(MMIX_OP_LDWU, 0x86), NAMED(MMIX_OP_LDWUI, 0x87), NAMED(MMIX_OP_LDT, 0x88), NAMED(MMIX_OP_LDTI, 0x89), NAMED(MMIX_OP_LDTU, 0x8A),
+    NAMED(MMIX_OP_LDTUI, 0x8B), NAMED(MMIX_OP_LDO, 0x8C), NAMED(MMIX_OP_LDOI, 0x8D), NAMED(MMIX_OP_LDOU, 0x8E), NAMED(MMIX_OP_LDOUI, 0x8F),
+    NAMED(MMIX_OP_GO, 0x9E), NAMED(MMIX_OP_GOI, 0x9F), NAMED(MMIX_OP_STB, 0xA0), NAMED(MMIX_OP_STBI, 0xA1), NAMED(MMIX_OP_STBU, 0xA2),
+    NAMED(MMIX_OP_STBUI, 0xA3), NAMED(MMIX_OP_STW, 0xA4), NAMED(MMIX_OP_STWI, 0xA5), NAMED(MMIX_OP_STWU, 0xA6), NAMED(MMIX_OP_STWUI, 0xA7),
+    NAMED(MMIX_OP_STT, 0xA8), NAMED(MMIX_OP_STTI, 0xA9), NAMED(MMIX_OP_STTU, 0xAA), NAMED(MMIX_OP_STTUI, 0xAB), NAMED(MMIX_OP_STO, 0xAC),
+    NAMED(MMIX_OP_STOI, 0xAD), NAMED(MMIX_OP_STOU, 0xAE), NAMED(MMIX_OP_STOUI, 0xAF), NAMED(MMIX_OP_PUSHGO, 0xBE),
+    NAMED(MMIX_OP_PUSHGOI, 0xBF), NAMED(MMIX_OP_JMP, 0xF0), NAMED(MMIX_OP_JMPB, 0xF1), NAMED(MMIX_OP_PUSHJ, 0xF2), NAMED(MMIX_OP_PUSHJB, 0xF3),
+    NAMED(MMIX_OP_GETA, 0xF4), NAMED(MMIX_OP_GETAB, 0xF5), NAMED(MMIX_OP_PUT, 0xF6), NAMED(MMIX_OP_PUTI, 0xF7), NAMED(MMIX_OP_POP, 0xF8),
+    NAMED(MMIX_OP_SAVE, 0xFA), NAMED(MMIX_OP_UNSAVE, 0xFB), NAMED(MMIX_OP_SYNC, 0xFC), NAMED(MMIX_OP_SWYM, 0xFD), NAMED(MMIX_OP_GET, 0xFE),
+    NAMED(MMIX_OP_TRIP, 0xFF)
+};
+
+static const struct named specials[] = {
+    NAMED(MMIX_RB, 0), NAMED(MMIX_RD, 1), NAMED(MMIX_RE, 2), NAMED(MMIX_RH, 3), NAMED(MMIX_RJ, 4), NAMED(MMIX_RM, 5),
+    NAMED(MMIX_RR, 6), NAMED(MMIX_RBB, 7), NAMED(MMIX_RC, 8), NAMED(MMIX_RN, 9), NAMED(MMIX_RO, 10), NAMED(MMIX_RS, 11),
+    NAMED(MMIX_RI, 12), NAMED(MMIX_RT, 13), NAMED(MMIX_RTT, 14), NAMED(MMIX_RK, 15), NAMED(MMIX_RQ, 16), NAMED(MMIX_RU, 17),
+    NAMED(MMIX_RV, 18), NAMED(MMIX_RG, 19), NAMED(MMIX_RL, 20), NAMED(MMIX_RA, 21), NAMED(MMIX_RF, 22), NAMED(MMIX_RP, 23),
+    NAMED(MMIX_RW, 24), NAMED(MMIX_RX, 25), NAMED(MMIX_RY, 26), NAMED(MMIX_RZ, 27), NAMED(MMIX_RWW, 28), NAMED(MMIX_RXX, 29),
+    NAMED(MMIX_RYY, 30), NAMED(MMIX_RZZ, 31)
+};
+
+/* From left to right: the vector of number k is at address 16 * (k + 1). */
+static const struct named flags[] = {
+    NAMED(MMIX_FLAG_D, 0x80), NAMED(MMIX_FLAG_V, 0x40), NAMED(MMIX_FLAG_W, 0x20), NAMED(MMIX_FLAG_I, 0x10),
+    NAMED(MMIX_FLAG_O, 0x08), NAMED(MMIX_FLAG_U, 0x04), NAMED(MMIX_FLAG_Z, 0x02), NAMED(MMIX_FLAG_X, 0x01)
+};
+
+static const struct named others[] = {
+    NAMED(MMIX_VERSION_MAJOR, 6), NAMED(MMIX_VERSION_MINOR, 0), NAMED(MMIX_IMAGE_LEN, 2336), NAMED(MMIX_OLD_IMAGE_LEN, 2328),
+    NAMED(MMIX_AT_GENERAL(255), 2040), NAMED(MMIX_AT_SPECIAL(31), 2296), NAMED(MMIX_AT_PC, 2304), NAMED(MMIX_AT_HALT, 2312),
+    NAMED(MMIX_AT_MARKS, 2320), NAMED(MMIX_AT_MASK, 2328), NAMED(MMIX_HIDEABLE, 0xF047F380), NAMED(MMIX_WINDOW_MAX, 1048576),
+    NAMED(MMIX_POINTS, 16), NAMED(MMIX_ROOM_LEN, 2099528), NAMED(MMIX_STORE_LEN, 33592448), NAMED(MMIX_GRANT_MAX, 1000000),
+    NAMED(MMIX_TASKS_MAX, 8), NAMED(MMIX_TURN_MAX, 1000), NAMED(MMIX_PAIRS_MAX, 32), NAMED(MMIX_STACK_START, 0x6000000000000000),
+    NAMED(sizeof(struct mmix_state), 2336)
+};
+
+static const struct {
+    struct named reply;
+    const char *text;
+} replies[] = {
+    { NAMED(MMIX_DONE, 0), "done" },
+    { NAMED(MMIX_NOT_ADMISSIBLE, 1), "the state is not admissible, or the image has the wrong length" },
+    { NAMED(MMIX_WINDOW_RULE, 2), "a window breaks its rule" },
+    { NAMED(MMIX_NO_ARM, 3), "this library does not do that instruction" },
+    { NAMED(MMIX_NAMED_TRAP, 4), "TRAP names a system call, which the host must serve" },
+    { NAMED(MMIX_NO_SPECIAL, 5), "GET of a special register above 31" },
+    { NAMED(MMIX_MISSING, 6), "a needed octabyte lies in neither window" },
+    { NAMED(MMIX_PUT_UNKNOWN, 7), "PUT to a special register above 31" },
+    { NAMED(MMIX_PUT_PRIVILEGED, 8), "PUT to a privileged register" },
+    { NAMED(MMIX_PUT_ILLEGAL, 9), "PUT to rN, rO or rS" },
+    { NAMED(MMIX_PUT_THRESHOLD, 10), "PUT to rG out of range" },
+    { NAMED(MMIX_PUT_STATUS, 11), "PUT to rA out of range" },
+    { NAMED(MMIX_MISPLACED, 12), "POP where rO can hold no frame" },
+    { NAMED(MMIX_SAVE_LOCAL, 13), "SAVE into a register below rG" },
+    { NAMED(MMIX_SAVED_THRESHOLD, 14), "UNSAVE of a context whose rG is out of range" },
+    { NAMED(MMIX_SAVED_STATUS, 15), "UNSAVE of a context whose rA is out of range" },
+    { NAMED(MMIX_SAVED_COUNT, 16), "UNSAVE of a context with more locals than its rG" },
+    { NAMED(MMIX_SYNC_PRIVILEGED, 17), "SYNC 4 to 7 is privileged" },
+    { NAMED(MMIX_SYNC_ILLEGAL, 18), "SYNC above 7" },
+    { NAMED(MMIX_NOT_LOADED, 19), "a trip to a vector that is not loaded" },
+    { NAMED(MMIX_TRAPPED, 20), "TRAP that names no system call" },
+    { NAMED(MMIX_OUT_OF_REACH, 21), "no field of either direction reaches that address" },
+    { NAMED(MMIX_SHARED, 22), "the two windows share an octabyte" },
+    { NAMED(MMIX_ACROSS, 23), "the context lies across both windows" },
+    { NAMED(MMIX_NOT_FETCHED, 24), "the tetra at PC lies in neither window" },
+    { NAMED(MMIX_GRANT_TOO_LARGE, 25), "more than 1,000,000 instructions are granted" },
+    { NAMED(MMIX_STORE_TOO_SHORT, 26), "the store is shorter than sixteen rooms" },
+    { NAMED(MMIX_NO_POINT, 27), "no point is kept under that name" },
+    { NAMED(MMIX_OTHER_POINT, 28), "the point has other bases or lengths, or no admissible state" },
+    { NAMED(MMIX_NO_FRAME, 29), "POP where no frame is left" },
+    { NAMED(MMIX_TOO_MANY_PAIRS, 30), "a set of more than 32 pairs" },
+    { NAMED(MMIX_HIDDEN, 31), "GET or PUT of a register that the mask hides" },
+    { NAMED(MMIX_FOREIGN, 32), "an octabyte of B outside the task's own part" },
+    { NAMED(MMIX_TASKS_RULE, 33), "tasks, their parts or their turns break a rule" }
+};
+
+#endif

@@ -1,0 +1,18 @@
+/* What the parts of header_test share. */
+#ifndef HEADER_TEST_H
+#define HEADER_TEST_H
+
+#include "mmix.h"
+#include "mmix_text.h"
+
+/* A value that has to be what it should be, and a condition that has to hold; otherwise a line is printed, and the test fails in the end. */
+void is(const char *what, uint64_t value, uint64_t should);
+void holds(const char *what, int condition, const char *otherwise);
+
+uint64_t octabyte(const uint8_t *at);
+void set_octabyte(uint8_t *at, uint64_t value);
+
+/* The inline functions of mmix.h (header_inline.c). */
+void try_inline(void);
+
+#endif
