@@ -14,8 +14,9 @@ use Rattle.store.specs.Returns.{Call, took, back, other, leftBy, lastStore, Non
 use Rattle.mmix.specs.Calls.{Held, Made, Meets}
 
 -- mmix_take, with the name, what was lent, the reply and the store afterwards; mmix_go_back, with the name, what was lent, the reply and what
--- became of it; a function of Calls, on what it found; another: mmix_initialize, mmix_put_set, mmix_put_set_parts, mmix_context,
--- mmix_branch_field, mmix_jump_field
+-- became of it; a function of Calls, on what it found (mmix_step, mmix_step_lent, mmix_step_parts, mmix_exceptions, mmix_exceptions_parts, mmix_run,
+-- mmix_run_parts, mmix_decode, mmix_encode, mmix_context); another, which is not lent the store either, so that nothing of it is asked: mmix_initialize, mmix_tasks,
+-- mmix_put_set, mmix_put_set_parts, mmix_branch_field, mmix_jump_field
 pub data PointCall : Type 0 where
   taking : ℕ → Point → ℕ → List ℕ → PointCall
   going-back : ℕ → Point → ℕ → Point → PointCall
