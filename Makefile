@@ -11,6 +11,8 @@ FILE ?= examples/points/first.points
 PREFIX ?= /usr/local
 PROGRAMS ?= ../shared/programs
 PAPERS ?= ../shared/docs
+# The toolchain with which all was proved, as `rt version` prints it.
+KIT = rattle-kit-5b-plain logic 097e4c862dff5811
 ORACLE = build/oracle/release
 RUST_SRC = $(or $(MMIX_RUST_SRC),../shared/docs/src)
 LIB_DIR = $(or $(MMIX_LIB_DIR),build)
@@ -48,6 +50,7 @@ help:
 need-rt:
 	@command -v rt >/dev/null 2>&1 || { \
 	  echo 'rt is not on the PATH: install the Rattle toolchain and put its bin folder on the PATH' >&2; exit 1; }
+	@[ "$$(rt version 2>/dev/null)" = '$(KIT)' ] || echo "warning: proved with '$(KIT)'; this is '$$(rt version 2>/dev/null)'" >&2
 
 need-gcc:
 	@command -v gcc >/dev/null 2>&1 || { echo 'gcc is not on the PATH: install the package gcc' >&2; exit 1; }
@@ -164,9 +167,10 @@ programs: need-gcc build/run_program
 install: lib
 	@install -D -m 644 build/libmmix.a '$(DESTDIR)$(PREFIX)/lib/libmmix.a'
 	@install -m 644 -D -t '$(DESTDIR)$(PREFIX)/include' $(HEADERS)
+	@install -m 644 -D -t '$(DESTDIR)$(PREFIX)/share/doc/mmix' LICENSE NOTICE
 	@mkdir -p '$(DESTDIR)$(PREFIX)/lib/pkgconfig'
 	@sed 's|@PREFIX@|$(abspath $(PREFIX))|; s|@VERSION@|$(VERSION)|' include/mmix.pc.in > '$(DESTDIR)$(PREFIX)/lib/pkgconfig/mmix.pc'
-	@echo 'libmmix.a, mmix.h, mmix_text.h and mmix.pc are under $(DESTDIR)$(PREFIX)'
+	@echo 'libmmix.a, mmix.h, mmix_text.h, mmix.pc and the licence are under $(DESTDIR)$(PREFIX)'
 
 # ---- the Rust beside it
 
