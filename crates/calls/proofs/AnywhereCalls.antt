@@ -15,8 +15,9 @@ use Rattle.model.proofs.Demand.{admissible-alike}
 use Rattle.studies.specs.TaskDemand.{TasksAlike, Condition, anyParts, OwnFrame, ownNeeds}
 use Rattle.model.specs.declared.State.{State}
 use Rattle.studies.specs.Tasks.{taskOf, Turn, studies, turnNeeds}
-use Rattle.studies.specs.Anywhere.{Reading, Cut, callTurn, turnsToPop, turnsCut, atCall, atPop, callerAt, holeAt, CallerThere, CameBack, AlikeThere, PrivateThere}
-use Rattle.studies.proofs.Anywhere.{turns-shape, to-pop, to-pop-memory, pop-ends, Claimed, any-claimed, own-claimed, anywhere-by, twice-by}
+use Rattle.studies.specs.Anywhere.{Reading, Cut, callTurn, popTurn, turnsToPop, turnsCut, atCall, atPop, callerAt, holeAt, CallerThere, CameBack, AlikeThere, PrivateThere}
+use Rattle.studies.proofs.Cuts.{cut-ends}
+use Rattle.studies.proofs.Anywhere.{turns-shape, to-pop, to-pop-memory, Claimed, any-claimed, own-claimed, anywhere-by, twice-by}
 use Rattle.mmix.specs.Calls.{Held}
 use Rattle.calls.specs.TaskCalls.{statesHeld, TaskMade, lastHeld, lastWindow, AllFitIn, allTurns}
 use Rattle.calls.specs.TaskLists.{TasksCarried}
@@ -54,7 +55,7 @@ calls-by parted needed claimed hs w cs k hf b f m e l c pop =
       back = back .back;
       answer-is = ap (λ (xs : List ℕ). getD xs (length (turnsToPop k)) 1) (t .answers-are ∙ ap (λ (ts : List Turn). runs both studies ss w ts .answers) e) ∙ back .answer-is;
       held-back = λ z i n. ap (λ (q : State). reg q i) (sym (task-held (lastHeld hs cs) (k .task))
-          ∙ ap (λ (qs : List State). taskOf qs (k .task)) (t .states-are ∙ ap (λ (ts : List Turn). runs both studies ss w ts .state) e ∙ pop-ends k ss w z))
+          ∙ ap (λ (qs : List State). taskOf qs (k .task)) (t .states-are ∙ ap (λ (ts : List Turn). runs both studies ss w ts .state) e ∙ cut-ends ss w (k .before) (callTurn k) (k .list) (popTurn k) (k .rest) z))
           ∙ back .back .locals i n;
     }
 

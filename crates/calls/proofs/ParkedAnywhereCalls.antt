@@ -9,8 +9,9 @@ use Rattle.model.specs.Lists.{runs}
 use Rattle.model.specs.declared.State.{State}
 use Rattle.studies.specs.Tasks.{taskOf, Turn, studies}
 use Rattle.studies.specs.Parked.{ComesBack}
-use Rattle.studies.specs.ParkedAnywhere.{turnsToUnsave, turnsParked, atSave, SaverThere, Unparked, saverAt}
-use Rattle.studies.proofs.ParkedAnywhere.{unsave-ends, parked-anywhere}
+use Rattle.studies.specs.ParkedAnywhere.{saveTurn, unsaveTurn, turnsToUnsave, turnsParked, atSave, SaverThere, Unparked, saverAt}
+use Rattle.studies.proofs.Cuts.{cut-ends}
+use Rattle.studies.proofs.ParkedAnywhere.{parked-anywhere}
 use Rattle.calls.specs.TaskCalls.{statesHeld, lastHeld, allTurns}
 use Rattle.calls.specs.TaskLists.{TasksCarried}
 use Rattle.calls.specs.ParkedAnywhereCalls.{ParkedAnywhereCalls}
@@ -33,5 +34,5 @@ parked-anywhere-calls hs w cs k hf b f m e l sd ak =
       back = u .back;
       answer-is = ap (λ (xs : List ℕ). getD xs (length (turnsToUnsave k)) 1) (t .answers-are ∙ ap (λ (ts : List Turn). runs both studies ss w ts .answers) e) ∙ u .answer-is;
       held-back = λ z. subst (ComesBack (saverAt k ss w)) (sym (sym (task-held (lastHeld hs cs) (k .task))
-          ∙ ap (λ (qs : List State). taskOf qs (k .task)) (t .states-are ∙ ap (λ (ts : List Turn). runs both studies ss w ts .state) e ∙ unsave-ends k ss w z))) (u .back .state-back);
+          ∙ ap (λ (qs : List State). taskOf qs (k .task)) (t .states-are ∙ ap (λ (ts : List Turn). runs both studies ss w ts .state) e ∙ cut-ends ss w (k .before) (saveTurn k) (k .list) (unsaveTurn k) (k .rest) z))) (u .back .state-back);
     }

@@ -1,13 +1,13 @@
 -- A call and its POP anywhere in a list of turns: the call is DemandCore's of task c on its part, the POP that of task c on another; two runs are Demand3Tasks.
 use mathlib.Core.Path.{_≡_, sym, ap, _∙_, subst}
 use mathlib.Core.Logic.{_⊎_, ⊎-elim}
-use mathlib.Core.List.{List, [], _∷_, _++_, append-assoc}
+use mathlib.Core.List.{List, []}
 use Prim.Native.Nat.{ℕ, _+_, _*_, _<_}
 use lib.ListN.{length, getD}
 use lib.Seq.{getD-set-same}
 use Rattle.model.specs.Memory.{Windows, Shapes, shapesOf, both}
 use Rattle.model.specs.Plan.{Outcome, worst, All, Off, Agree}
-use Rattle.model.specs.Lists.{Ran, stepOn, runs, runNeedsBy}
+use Rattle.model.specs.Lists.{runs, runNeedsBy}
 use Rattle.model.specs.Registers.{rO, sp, fresh, Sized, Words}
 use Rattle.model.specs.Frames.{hole}
 use Rattle.model.specs.Step.{Item, unruledBy, tetraOf, opcodeIn, xIn}
@@ -17,7 +17,7 @@ use Rattle.model.specs.declared.State.{State}
 use Rattle.model.proofs.Plan.{All-of}
 use Rattle.model.proofs.Memory.{both-lawful}
 use Rattle.model.proofs.Runs.{of-worst}
-use Rattle.model.proofs.Lists.{runTouches, runTouches-agree, runs-append, runs-kept}
+use Rattle.model.proofs.Lists.{runTouches, runTouches-agree, runs-kept}
 use Rattle.model.proofs.AdmissibleKept.{Good, adm}
 use Rattle.model.proofs.PushPop.{called}
 use Rattle.model.proofs.DemandCore.{calledBy, narrow, back-core}
@@ -25,10 +25,11 @@ use Rattle.model.proofs.Demand.{hole-alike}
 use Rattle.model.proofs.DemandFetched.{tetra-alike}
 use Rattle.studies.specs.Tasks.{Own, refusingIn, taskOf, Turn, turn, studies, turnNeeds}
 use Rattle.studies.specs.TaskDemand.{TasksAlike, turnOn, afterTurns, popIn, PopMetIn, GivesBackTo, Condition, ClaimIn, FetchedClaimIn, anyParts, OwnFrame, ownNeeds}
+use Rattle.studies.proofs.Cuts.{cut-state, cut-memory, cut-answer}
 use Rattle.studies.proofs.Judge.{studies-sound}
 use Rattle.studies.proofs.Callers.{turn-shape, task-caller, turns-off}
 use Rattle.studies.proofs.TaskDemand.{frame-off, demand3-tasks, demand3-tasks-fetched, demand3-own, demand3-own-fetched}
-use Rattle.studies.specs.Anywhere.{TurnsSplit, Cut, callTurn, popTurn, turnsToPop, turnsCut, callerBy, atCall, calledAt, atPop, poppedAt, callerAt, holeAt, pushedAt, CallerThere, PopsThere, CameBack, Reading, AnywhereBy, Anywhere, AnywhereOwn, behind, TwiceBy, AnywhereTwice, AnywhereOwnTwice}
+use Rattle.studies.specs.Anywhere.{TurnsSplit, Cut, callTurn, popTurn, turnsToPop, callerBy, atCall, calledAt, atPop, poppedAt, callerAt, holeAt, pushedAt, CallerThere, PopsThere, CameBack, Reading, AnywhereBy, Anywhere, AnywhereOwn, behind, TwiceBy, AnywhereTwice, AnywhereOwnTwice}
 use Rattle.model.proofs.Split.{splits}
 use Rattle.model.proofs.Agrees.{agree-of}
 use Rattle.studies.proofs.CallBy.{CalledBy, by-rO, by-good, by-words, by-hole, call-leaves, was-called}
@@ -80,27 +81,10 @@ module _ (p r : Own) (w : Windows) (ss : List State) (c : ℕ) (f : Call) (i u :
 -- where the POP stands
 module _ (k : Cut) (ss : List State) (w : Windows) where
   pub to-pop : runs both studies ss w (turnsToPop k) .state ≡ atPop k ss w .state
-  unfolding runs
-  to-pop = ap (λ (r : Ran (List State) Windows). r .state) (runs-append both studies (k .before) (callTurn k ∷ k .list) ss w)
+  to-pop = cut-state ss w (k .before) (callTurn k) (k .list)
 
   pub to-pop-memory : runs both studies ss w (turnsToPop k) .memory ≡ atPop k ss w .memory
-  unfolding runs
-  to-pop-memory = ap (λ (r : Ran (List State) Windows). r .memory) (runs-append both studies (k .before) (callTurn k ∷ k .list) ss w)
-
-  pub pop-answer : (d : ℕ) → getD (runs both studies ss w (turnsCut k) .answers) (length (turnsToPop k)) d ≡ poppedAt k ss w .reply
-  pop-answer d =
-      ap (λ (ts : List Turn). getD (runs both studies ss w ts .answers) (length (turnsToPop k)) d) (sym (append-assoc (k .before) (callTurn k ∷ k .list) (popTurn k ∷ k .rest)))
-      ∙ splits both studies .answer-at ss w (turnsToPop k) (popTurn k) (k .rest) d
-      ∙ (λ i. stepOn both studies (to-pop i) (to-pop-memory i) (popTurn k) .reply)
-
-  -- where the POP is the last
-  pub pop-ends : k .rest ≡ [] → runs both studies ss w (turnsCut k) .state ≡ poppedAt k ss w .state
-  unfolding runs
-  pop-ends e =
-      ap (λ (ts : List Turn). runs both studies ss w (k .before ++ (callTurn k ∷ (k .list ++ (popTurn k ∷ ts)))) .state) e
-      ∙ ap (λ (ts : List Turn). runs both studies ss w ts .state) (sym (append-assoc (k .before) (callTurn k ∷ k .list) (popTurn k ∷ [])))
-      ∙ ap (λ (r : Ran (List State) Windows). r .state) (runs-append both studies (turnsToPop k) (popTurn k ∷ []) ss w)
-      ∙ (λ i. stepOn both studies (to-pop i) (to-pop-memory i) (popTurn k) .state)
+  to-pop-memory = cut-memory ss w (k .before) (callTurn k) (k .list)
 
   -- what the list touches suffices
   touched-back : CallerThere k ss w → NamesBy (k .how) (opcodeOf (k .kind)) (atCall k ss w .memory) (callerAt k ss w) → calledAt k ss w .reply ≡ 0
@@ -117,7 +101,7 @@ module _ (k : Cut) (ss : List State) (w : Windows) where
       (λ q. ⊎-elim (λ e. subst (λ (x : Own). worst (refusingIn x (shapesOf v)) a n ≡ 0) (sym e) (q .passed .fits))
       (λ l. of-worst (refusingIn (k .popPart) (shapesOf v)) n a (λ i m. subst (λ (x : Shapes). refusingIn (k .popPart) x (a + 8 * i) ≡ 0) same (l i m))) (pop .lets))
       off (pop .at) (pop .met) in
-      record { back = b; answer-is = pop-answer 1 ∙ b .done }
+      record { back = b; answer-is = cut-answer ss w (k .before) (callTurn k) (k .list) (popTurn k) (k .rest) 1 ∙ b .done }
 
 -- a condition and a reading for which demand 3 holds: what the list touches is then no octabyte of the frame
 pub record Claimed (parted : Condition) (needed : Reading) : Type 0 where

@@ -18,6 +18,7 @@ pub mod OthersKept
 pub mod WithoutTasks
 pub mod Parked
 pub mod ParkedTasks
+pub mod Cuts
 pub mod CallBy
 pub mod Anywhere
 pub mod ParkedAnywhere

@@ -1,53 +1,27 @@
 -- A parked context anywhere in a list of turns: SAVE is Parked's of task c on its part, UNSAVE that of task c on another.
 use mathlib.Core.Path.{_≡_, sym, ap, _∙_, subst}
 use mathlib.Core.Logic.{⊎-elim}
-use mathlib.Core.List.{List, [], _∷_, _++_, append-assoc}
+use mathlib.Core.List.{List}
 use Prim.Native.Nat.{ℕ, _+_, _*_}
-use lib.ListN.{length, getD, set}
-use Rattle.model.specs.Memory.{Windows, Shapes, shapesOf, both}
+use lib.ListN.{set}
+use Rattle.model.specs.Memory.{Windows, Shapes, shapesOf}
 use Rattle.model.specs.Opcodes.{opSAVE}
 use Rattle.model.specs.Plan.{mapOutcome, worst, Off}
-use Rattle.model.specs.Lists.{Ran, stepOn, runs}
 use Rattle.model.specs.Registers.{rO, sp}
 use Rattle.model.specs.Contexts.{extent}
 use Rattle.model.specs.Ways.{Way, itemBy}
 use Rattle.model.specs.declared.State.{State}
 use Rattle.model.proofs.Runs.{of-worst}
-use Rattle.model.proofs.Lists.{runs-append}
 use Rattle.model.proofs.SaveUnsave.{savedOn, Saves}
 use Rattle.model.proofs.DemandCore.{reply-of}
-use Rattle.studies.specs.Tasks.{Own, refusingIn, Turn, studies}
+use Rattle.studies.specs.Tasks.{Own, refusingIn, studies}
 use Rattle.studies.specs.Parked.{Context, UnparksTo}
 use Rattle.studies.proofs.Callers.{turn-does, task-caller, turns-off}
 use Rattle.studies.proofs.Parked.{SaveItem, save-item, Survives, parked, survives}
 use Rattle.studies.proofs.ParkedTasks.{task-wraps, unparks-to}
-use Rattle.studies.specs.ParkedAnywhere.{Park, saveTurn, unsaveTurn, turnsToUnsave, turnsParked, atSave, savedAt, atUnsave, unsavedAt, saverAt, saverX, ParkedAnywhere}
-use Rattle.model.proofs.Split.{splits}
+use Rattle.studies.specs.ParkedAnywhere.{saveTurn, unsaveTurn, atSave, savedAt, atUnsave, unsavedAt, saverAt, saverX, ParkedAnywhere}
+use Rattle.studies.proofs.Cuts.{cut-answer}
 use Rattle.studies.proofs.Anywhere.{after-shape}
-
-module _ (k : Park) (ss : List State) (w : Windows) where
-  to-unsave : runs both studies ss w (turnsToUnsave k) .state ≡ atUnsave k ss w .state
-  unfolding runs
-  to-unsave = ap (λ (r : Ran (List State) Windows). r .state) (runs-append both studies (k .before) (saveTurn k ∷ k .list) ss w)
-
-  to-unsave-memory : runs both studies ss w (turnsToUnsave k) .memory ≡ atUnsave k ss w .memory
-  unfolding runs
-  to-unsave-memory = ap (λ (r : Ran (List State) Windows). r .memory) (runs-append both studies (k .before) (saveTurn k ∷ k .list) ss w)
-
-  unsave-answer : (d : ℕ) → getD (runs both studies ss w (turnsParked k) .answers) (length (turnsToUnsave k)) d ≡ unsavedAt k ss w .reply
-  unsave-answer d =
-      ap (λ (ts : List Turn). getD (runs both studies ss w ts .answers) (length (turnsToUnsave k)) d) (sym (append-assoc (k .before) (saveTurn k ∷ k .list) (unsaveTurn k ∷ k .rest)))
-      ∙ splits both studies .answer-at ss w (turnsToUnsave k) (unsaveTurn k) (k .rest) d
-      ∙ (λ i. stepOn both studies (to-unsave i) (to-unsave-memory i) (unsaveTurn k) .reply)
-
-  -- where UNSAVE is the last
-  pub unsave-ends : k .rest ≡ [] → runs both studies ss w (turnsParked k) .state ≡ unsavedAt k ss w .state
-  unfolding runs
-  unsave-ends e =
-      ap (λ (ts : List Turn). runs both studies ss w (k .before ++ (saveTurn k ∷ (k .list ++ (unsaveTurn k ∷ ts)))) .state) e
-      ∙ ap (λ (ts : List Turn). runs both studies ss w ts .state) (sym (append-assoc (k .before) (saveTurn k ∷ k .list) (unsaveTurn k ∷ [])))
-      ∙ ap (λ (r : Ran (List State) Windows). r .state) (runs-append both studies (turnsToUnsave k) (unsaveTurn k ∷ []) ss w)
-      ∙ (λ i. stepOn both studies (to-unsave i) (to-unsave-memory i) (unsaveTurn k) .state)
 
 pub parked-anywhere : ParkedAnywhere
 unfolding mapOutcome
@@ -76,4 +50,4 @@ parked-anywhere k ss w sv sd ak =
     (subst (Survives studies (task-caller c r) (task-wraps r) v es i u (k .list) (sv .there) (sv .sized) (sv .words)) (sym o)
     (survives studies (task-caller c r) (task-wraps r) v es i u (k .list) (sv .there) (sv .sized) (sv .words) saves (sd .byte))
     (turns-off (Off (Context s)) (k .list) (savedAt k ss w .state) (savedAt k ss w .memory) (sd .off)) (ak .asks)) in
-    record { back = b; answer-is = unsave-answer k ss w 1 ∙ b .done }
+    record { back = b; answer-is = cut-answer ss w (k .before) (saveTurn k) (k .list) (unsaveTurn k) (k .rest) 1 ∙ b .done }
