@@ -13,6 +13,11 @@ unfoldable pub Within : Input → List ℕ → Type 0
 Within (Read got) buffer = got ≤ length buffer
 Within Failed buffer = Unit {0}
 
+-- what a read leaves that goes on after the first `done` bytes of a buffer: these stay, and what is read lies after them
+unfoldable pub Joins : List ℕ → ℕ → List ℕ → Input → Type 0
+Joins buffer done after (Read next) = (take done after ≡ take done buffer) × (done ≤ next) × (next ≤ length after)
+Joins buffer done after Failed = take done after ≡ take done buffer
+
 -- a buffer longer than the longest script, a number of bytes read into it, and a buffer with room for the longest text
 pub record Roomy (input : List ℕ) (got : ℕ) (output : List ℕ) : Type 0 where
   pub longer : scriptMost < length input

@@ -2,9 +2,10 @@
 //! standard error.
 
 ghost use mathlib.Core.Path.{_≡_};
+ghost use Prim.Native.Nat.{_≤_};
 ghost use lib.ListN.{length};
 ghost use Rattle.script.specs.Script.{inputLength, outputLength};
-ghost use Rattle.bench.specs.Answer.{Within, Roomy, Answers};
+ghost use Rattle.bench.specs.Answer.{Joins, Within, Roomy, Answers};
 use libc::STDIN_FILENO;
 use libc::STDOUT_FILENO;
 use script::script::INPUT_LEN;
@@ -28,21 +29,33 @@ enum Input {
     Failed,
 }
 
+/// One read, into what follows the first `done` bytes of `buf`; how many there are then.
+fn read_more(fd: i32, buf: &mut [u8], done: usize) -> Input
+    requires { ⌜ done ≤ length (now buf) ⌝ }
+    ensures { λ r. ⌜ Joins (now (buf .entry)) done (now (buf .exit)) r ⌝ }
+{
+    let got = libc::read(fd, &mut buf[done..]);
+    if got < 0 {
+        return Input::Failed;
+    }
+    let n = io::count(got, &buf[done..]);
+    Input::Read(done + n)
+}
+
 /// Reads until `buf` is full or the input ends.
 fn read_all(fd: i32, buf: &mut [u8]) -> Input
     ensures { λ r. ⌜ Within r (now (buf .exit)) ⌝ }
 {
     let mut done: usize = 0;
     while done < buf.len() {
-        let got = libc::read(fd, &mut buf[done..]);
-        if got < 0 {
+        let more = read_more(fd, buf, done);
+        let Input::Read(next) = more else {
             return Input::Failed;
-        }
-        let n = io::count(got, &buf[done..]);
-        if n == 0 {
+        };
+        if next == done {
             return Input::Read(done);
         }
-        done += n;
+        done = next;
     }
     Input::Read(done)
 }

@@ -1,12 +1,20 @@
--- `read_all` meets its contract: what was read lies within the buffer, and each turn leaves less of it.
-use mathlib.Core.Path.{_≡_, refl}
-use Prim.Native.Nat.{_-_, _≤_}
+-- `read_all` meets its contract: each turn reads after what is read already, so that it stays, and leaves less of the buffer.
+use mathlib.Core.Path.{_≡_, refl, _∙_, subst}
+use mathlib.Core.List.{List}
+use Prim.Native.Nat.{ℕ, _-_, _≤_}
 use native.Mathlib.Omega.{arith}
-use lib.ListN.{length}
+use lib.ListN.{length, take}
 use borrow.Author.Needs.{needs}
-use Rattle.bench.specs.Answer.{Within}
+use Rattle.bench.specs.Answer.{Joins, Within}
+use Rattle.bench.specs.declared.Input.{Input}
+use Rattle.bench.specs.declared.Input.the-variants.{Read}
 use Rattle.bench.proofs.read_all.Statement.{statement}
 use Rattle.bench.proofs.read_all.Tie as tie
+
+joined : (r : Input) (next : ℕ) (b : List ℕ) (done : ℕ) (after : List ℕ) → Joins b done after r → r ≡ Read next
+    → (take done after ≡ take done b) × (done ≤ next) × (next ≤ length after)
+unfolding Joins
+joined r next b done after j e = subst (λ (x : Input). Joins b done after x) e j
 
 abbrev Inv-loop : tie.InvT-loop
 Inv-loop fd buf₀ done₀ buf done = (done ≤ length buf) × (length buf ≡ length buf₀)
@@ -17,17 +25,14 @@ abbrev μ-loop : tie.MeasureT-loop
 loop-holds : tie.Need-loop-holds Inv-loop μ-loop
 loop-holds c = (omega arith, refl)
 
-sub-read : tie.Need-sub-read Inv-loop μ-loop
-sub-read c = search needs
+read-more-requires : tie.Need-read-more-requires Inv-loop μ-loop
+read-more-requires c κs = search needs
 
-part-read-start : tie.Need-part-read-start Inv-loop μ-loop
-part-read-start c = search needs
+enum-known-more : tie.Need-enum-known-more Inv-loop μ-loop
+enum-known-more c = search needs
 
-part-read-end : tie.Need-part-read-end Inv-loop μ-loop
-part-read-end c = search needs
-
-read-requires : tie.Need-read-requires Inv-loop μ-loop
-read-requires c κs = search needs
+enum-told : tie.Need-enum-told Inv-loop μ-loop
+enum-told c = search needs
 
 same-length : tie.Need-same-length Inv-loop μ-loop
 same-length c = search needs
@@ -36,18 +41,6 @@ returns : tie.Need-returns Inv-loop μ-loop
 unfolding Within
 returns c = search needs
 
-sub-count : tie.Need-sub-count Inv-loop μ-loop
-sub-count c = search needs
-
-part-count-start : tie.Need-part-count-start Inv-loop μ-loop
-part-count-start c = search needs
-
-part-count-end : tie.Need-part-count-end Inv-loop μ-loop
-part-count-end c = search needs
-
-count-requires : tie.Need-count-requires Inv-loop μ-loop
-count-requires c κs = search needs
-
 same-length-2 : tie.Need-same-length-2 Inv-loop μ-loop
 same-length-2 c = search needs
 
@@ -55,14 +48,21 @@ returns-2 : tie.Need-returns-2 Inv-loop μ-loop
 unfolding Within
 returns-2 c = search needs
 
-add-done : tie.Need-add-done Inv-loop μ-loop
-add-done c = search needs
-
 loop-less : tie.Need-loop-less Inv-loop μ-loop
-loop-less c = search needs
+loop-less c =
+    let told = c .before .before in
+    let reading = told .before .before .before .before in
+    let at-loop = reading .before .before .before in
+    let j = joined _ _ (at-loop .loop .buf) (at-loop .loop .done) _ (reading .read-more .ensures) (told .more .given .1) in
+    omega (arith, j .1, j .2, c .if1 .left, at-loop .loop .inv .0, at-loop .loop .inv .1, reading .read-more .kept .1 .0)
 
 loop-again : tie.Need-loop-again Inv-loop μ-loop
-loop-again c = search needs
+loop-again c =
+    let told = c .before .before in
+    let reading = told .before .before .before .before in
+    let at-loop = reading .before .before .before in
+    let j = joined _ _ (at-loop .loop .buf) (at-loop .loop .done) _ (reading .read-more .ensures) (told .more .given .1) in
+    (j .2, reading .read-more .kept .1 .0 ∙ at-loop .loop .inv .1)
 
 same-length-3 : tie.Need-same-length-3 Inv-loop μ-loop
 same-length-3 c = search needs
@@ -78,19 +78,13 @@ read-all-spec =
     Inv-loop
     μ-loop
     loop-holds
-    sub-read
-    part-read-start
-    part-read-end
-    read-requires
+    read-more-requires
+    enum-known-more
+    enum-told
     same-length
     returns
-    sub-count
-    part-count-start
-    part-count-end
-    count-requires
     same-length-2
     returns-2
-    add-done
     loop-less
     loop-again
     same-length-3
