@@ -1,17 +1,20 @@
 -- Laws of the line that is held: bytes that join it one by one, and what its front then is.
-use mathlib.Core.Path.{_≡_, refl, sym, ap, _∙_}
+use mathlib.Core.Path.{_≡_, sym, ap, _∙_}
 use mathlib.Core.List.{List, [], _∷_, _++_}
 use Prim.Native.Nat.{ℕ, zero, suc, _+_, _-_, _≤_, _<_, min}
 use native.Mathlib.Omega.{arith}
 use native.Mathlib.Decide.{decLt}
 use native.Mathlib.Numerals.{add-one}
 use native.Mathlib.Nat.{zero-add, suc-add}
+use borrow.Author.Tests.{le-leb, lt-leb}
 use lib.ListN.{length, getD, take, set}
 use lib.Seq.{set-out, take-suc, take-all, length-take-le}
 use Rattle.model.specs.Octa.{written}
 use Rattle.model.proofs.Octa.{length-written, written-nil}
 use Rattle.model.proofs.Bytes.{written-append}
+use Rattle.text.specs.Text.{badText}
 use Rattle.text.proofs.Writes.{written-one, take-written as take-front}
+use Rattle.lines.specs.Stream.{badMost, badIn}
 
 -- the next byte of a text put into a list
 pub written-next : (l t : List ℕ) (o i : ℕ) → i < length t → written (written l o (take i t)) (o + i) (getD t i 0 ∷ []) ≡ written l o (take (i + 1) t)
@@ -55,6 +58,16 @@ pub kept-all : (more first : List ℕ) (count : ℕ) (held : List ℕ) (n i : �
 kept-all more first count held n i k e =
     (k .bytes-are ∙ ap (written first count) (take-all i more (omega arith)), k .count-is ∙ ap (λ (j : ℕ). count + min j (length first - count)) e)
 
+-- ---- the text that says that a line is bad
+
+pub bad-here : (room n : ℕ) → badMost ≤ room → badText n ≡ badIn room n
+unfolding badIn
+bad-here room n h = rw (le-leb badMost room h)
+
+pub bad-none : (room n : ℕ) → room < badMost → [] ≡ badIn room n
+unfolding badIn
+bad-none room n h = rw (lt-leb badMost room h)
+
 -- ---- its front
 
 -- where there is room for the text
@@ -63,20 +76,3 @@ unfolding written
 take-written l zero t h = rw (zero-add (length t)) (take-front l t (omega arith))
 take-written [] (suc o) t h = absurd (omega arith)
 take-written (x ∷ l) (suc o) t h = rw (suc-add o (length t)) (ap (λ (r : List ℕ). x ∷ r) (take-written l o t (omega arith)))
-
--- and where there is none for its end
-full-front : (l t : List ℕ) → length l ≤ length t → written l 0 t ≡ take (length l) t
-unfolding written
-full-front [] t h = refl
-full-front (x ∷ l) [] h = absurd (omega arith)
-full-front (x ∷ l) (v ∷ t) h = ap (λ (r : List ℕ). v ∷ r) (full-front l t (omega arith))
-
-pub written-full : (l : List ℕ) (o : ℕ) (t : List ℕ) → o ≤ length l → length l ≤ o + length t → written l o t ≡ take o l ++ take (length l - o) t
-unfolding written
-written-full l zero t g h =
-    let e : length l - 0 ≡ length l = omega arith in
-    rw e (full-front l t (omega arith))
-written-full [] (suc o) t g h = absurd (omega arith)
-written-full (x ∷ l) (suc o) t g h =
-    let e : suc (length l) - suc o ≡ length l - o = omega arith in
-    rw e (ap (λ (r : List ℕ). x ∷ r) (written-full l o t (omega arith) (omega arith)))

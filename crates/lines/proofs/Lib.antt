@@ -3,6 +3,7 @@ pub mod Forms
 pub mod Formed
 pub mod Padded
 pub mod Held
+pub mod Moved
 pub mod Turns
 pub mod Splits
 pub mod Marks

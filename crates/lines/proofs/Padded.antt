@@ -1,13 +1,17 @@
 -- Laws of a line with digits 0 put in: where its parts stand, and with more after it.
 use mathlib.Core.Path.{_≡_, sym, ap, _∙_}
-use mathlib.Core.List.{List, _++_, append-assoc}
-use Prim.Native.Nat.{ℕ, _+_, _-_, _*_, _≤_}
+use mathlib.Core.Bool.{true, false}
+use mathlib.Core.List.{List, [], _++_, append-assoc}
+use Prim.Native.Nat.{ℕ, _+_, _-_, _≤_, _<_}
 use native.Mathlib.Omega.{arith}
-use lib.ListN.{length, take, drop, take-append-drop, length-append, length-drop, length-replicate}
+use borrow.Author.Tests.{le-leb, lt-leb, leb-true}
+use lib.Dec.{leb}
+use lib.ListN.{length, take, drop, take-append-drop, length-append, length-drop}
 use lib.Seq.{take-at, drop-at, take-append-le, drop-append-le, length-take-le}
-use Rattle.lines.specs.Line.{lengthDigits, stateDigits, firstAt, secondAt, stateEnd, zeros, padded, widened}
+use Rattle.model.proofs.Bools.{and-left, and-right}
+use Rattle.lines.specs.Line.{lengthDigits, stateDigits, firstAt, secondAt, stateEnd, zeros, padded, gained, widens, widened, renewedIn}
 
-padded-none : (i : ℕ) (l : List ℕ) → padded i 0 l ≡ l
+pub padded-none : (i : ℕ) (l : List ℕ) → padded i 0 l ≡ l
 unfolding padded
 padded-none i l = take-append-drop i l
 
@@ -51,7 +55,60 @@ widened-more w d p q h =
     ∙ ap (padded firstAt (lengthDigits - w)) (padded-more (secondAt w) (lengthDigits - w) p₁ q (omega arith))
     ∙ padded-more firstAt (lengthDigits - w) p₂ q (omega arith)
 
--- a line in its parts
+-- ---- where it has such widths, and room
+
+module _ (room n w d : ℕ) where
+  pub widens-here : w ≤ lengthDigits → d ≤ stateDigits → stateEnd w d ≤ n → n + gained w d ≤ room → widens room n w d ≡ true
+  unfolding widens
+  widens-here g h i j = rw (le-leb w lengthDigits g, le-leb d stateDigits h, le-leb (stateEnd w d) n i, le-leb (n + gained w d) room j)
+
+  pub widens-facts : widens room n w d ≡ true → (w ≤ lengthDigits) × (d ≤ stateDigits) × (stateEnd w d ≤ n) × (n + gained w d ≤ room)
+  unfolding widens
+  widens-facts e =
+      let r = and-right (leb w lengthDigits) _ e in
+      let q = and-right (leb d stateDigits) _ r in (
+        leb-true _ _ (and-left (leb w lengthDigits) _ e),
+        leb-true _ _ (and-left (leb d stateDigits) _ r),
+        leb-true _ _ (and-left (leb (stateEnd w d) n) _ q),
+        leb-true _ _ (and-right (leb (stateEnd w d) n) _ q),
+      )
+
+  pub many-lengths : lengthDigits < w → widens room n w d ≡ false
+  unfolding widens
+  many-lengths g = rw (lt-leb w lengthDigits g)
+
+  module _ (g : w ≤ lengthDigits) where
+    pub many-state : stateDigits < d → widens room n w d ≡ false
+    unfolding widens
+    many-state h = rw (le-leb w lengthDigits g, lt-leb d stateDigits h)
+
+    module _ (h : d ≤ stateDigits) where
+      pub state-cut : n < stateEnd w d → widens room n w d ≡ false
+      unfolding widens
+      state-cut i = rw (le-leb w lengthDigits g, le-leb d stateDigits h, lt-leb (stateEnd w d) n i)
+
+      pub little-room : stateEnd w d ≤ n → room < n + gained w d → widens room n w d ≡ false
+      unfolding widens
+      little-room i j = rw (le-leb w lengthDigits g, le-leb d stateDigits h, le-leb (stateEnd w d) n i, lt-leb (n + gained w d) room j)
+
+-- what is left of the first n bytes held
+module _ (held : List ℕ) (n w d : ℕ) where
+  pub renewed-none : widens (length held) n w d ≡ false → [] ≡ renewedIn held n w d
+  unfolding renewedIn
+  renewed-none e = rw e
+
+  pub renewed-here : widens (length held) n w d ≡ true → renewedIn held n w d ≡ widened w d (take n held)
+  unfolding renewedIn
+  renewed-here e = rw e
+
+  -- put in from the last on
+  pub renewed-by : (third second first : List ℕ) → widens (length held) n w d ≡ true → third ≡ padded (stateEnd w d) (stateDigits - d) (take n held)
+      → second ≡ padded (secondAt w) (lengthDigits - w) third → first ≡ padded firstAt (lengthDigits - w) second → first ≡ renewedIn held n w d
+  unfolding widened
+  renewed-by third second first e f g h =
+      h ∙ ap (padded firstAt (lengthDigits - w)) (g ∙ ap (padded (secondAt w) (lengthDigits - w)) f) ∙ sym (renewed-here e)
+
+-- ---- a line in its parts
 module _ (w d : ℕ) (h a s b t i f : List ℕ) (nh : length h ≡ 23) (na : length a ≡ w) (ns : length s ≡ 1) (nb : length b ≡ w) (nt : length t ≡ 51) (ni : length i ≡ d) where
   abbrev j : ℕ
   j = lengthDigits - w

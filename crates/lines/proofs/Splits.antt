@@ -3,14 +3,14 @@ use mathlib.Core.Path.{_≡_, refl, sym, ap, _∙_}
 use mathlib.Core.Logic.{⊎-elim, _⊎_, inl, inr}
 use mathlib.Core.Bool.{true, false, cond}
 use mathlib.Core.List.{List, [], _∷_, _++_, append-assoc}
-use Prim.Native.Nat.{ℕ, suc, _+_, _-_, _*_, _≤_, _<_, min}
+use Prim.Native.Nat.{ℕ, suc, _+_, _-_, _*_, _≤_, _<_}
 use native.Mathlib.Omega.{arith}
-use native.Mathlib.Decide.{decLt, decLe}
+use native.Mathlib.Decide.{decLt}
 use native.Mathlib.Numerals.{add-one}
 use borrow.Author.Tests.{ne-eqb, leb-true}
 use lib.Dec.{leb}
 use lib.ListN.{length, take, drop, length-append}
-use lib.Seq.{split-at, take-append-le, drop-append-le, take-suc, take-all, take-at, drop-at, length-take-le, append-snoc}
+use lib.Seq.{split-at, take-suc, take-all, take-at, drop-at, length-take-le, append-snoc}
 use Rattle.model.specs.Octa.{written}
 use Rattle.model.proofs.Octa.{length-written}
 use Rattle.model.proofs.Fill.{flag}
@@ -18,15 +18,15 @@ use Rattle.model.proofs.Bools.{and-left, and-right}
 use Rattle.text.specs.Text.{badText}
 use Rattle.text.specs.Pieces.{pieces, lineLength}
 use Rattle.text.proofs.Pieces.{length-line, newline-there, line-append, line-front, pieces-some, pieces-line, pieces-last}
-use Rattle.lines.specs.Line.{pointForm, octasA, octasB, isForm, isPoint, widthsOf, renewed, longestLine}
-use Rattle.lines.specs.Stream.{newline, printedLines, printedFrom, isGood, turnOf, heldAfter, Unended, Within, Tells, AnySplit, LineByLine}
+use Rattle.lines.specs.Line.{lengthDigits, stateDigits, pointForm, octasA, octasB, isForm, isPoint, widthsOf, stateEnd, gained, renewed, longestLine}
+use Rattle.lines.specs.Stream.{newline, printedLines, printedFrom, isGood, turnOf, heldAfter, Unended, Tells, AnySplit, LineByLine}
 use Rattle.lines.specs.declared.stream.Turn.{Turn}
 use Rattle.lines.proofs.Forms.{length-fits, length-form}
 use Rattle.lines.proofs.Formed.{Formed, formed, point-new}
-use Rattle.lines.proofs.Padded.{widened-more}
+use Rattle.lines.proofs.Padded.{widened-more, widens-here}
 use Rattle.lines.proofs.Renewed.{new-same}
-use Rattle.lines.proofs.Held.{take-written, written-full}
-use Rattle.lines.proofs.Turns.{good-here, not-ended, no-room, no-point, is-more, is-good, is-bad, left-good, left-other}
+use Rattle.lines.proofs.Held.{take-written}
+use Rattle.lines.proofs.Turns.{good-here, not-ended, no-room, no-point, is-more, is-full, is-good, is-bad, left-good, left-other}
 
 -- ---- no line is longer than the longest
 
@@ -43,18 +43,22 @@ form-long w d k l e =
     = length-fits (pointForm w d (octasA w l + octasB w l)) l (and-right (leb (octasB w l) k) _ r) ∙ length-form w d (octasA w l + octasB w l) in
     (omega arith, omega arith)
 
--- a point's line has the widths of its form, room for its state, and is not too long
+-- a point's line has its state, and no more digits than the form that is written; in that form it is not too long
 record Sized (l : List ℕ) : Type 0 where
-  within : Within (widthsOf l .lengths) (widthsOf l .state) (length l)
-  not-long : length l ≤ longestLine
+  few-lengths : widthsOf l .lengths ≤ lengthDigits
+  few-state : widthsOf l .state ≤ stateDigits
+  state-ends : stateEnd (widthsOf l .lengths) (widthsOf l .state) ≤ length l
+  not-long : length l + gained (widthsOf l .lengths) (widthsOf l .state) ≤ longestLine
 
 sized : (l : List ℕ) → isPoint l ≡ true → Sized l
 sized l e =
     let f : Formed l = formed l e in
     let g = form-long (f .w) (2 * f .n) (f .k) l (f .is) in
     record {
-      within = rw (f .widths-are) (record { few-lengths = f .most; few-state = omega (arith, f .image-most); but-mask = omega (arith, f .image-least); state-ends = omega (arith, g .0) });
-      not-long = omega (arith, g .1, f .few, f .most, f .image-most);
+      few-lengths = rw (f .widths-are) (f .most);
+      few-state = rw (f .widths-are) (omega (arith, f .image-most));
+      state-ends = rw (f .widths-are) (omega (arith, g .0));
+      not-long = rw (f .widths-are) (omega (arith, g .1, f .few, f .most, f .image-most));
     }
 
 long-no : (l : List ℕ) → longestLine < length l → isPoint l ≡ false
@@ -179,35 +183,25 @@ module _ (held : List ℕ) (count : ℕ) (chunk : List ℕ) (long : longestLine 
     size : length left ≡ length held
     size = ap length left-whole ∙ length-written held count chunk
 
-    abbrev Same : ℕ → Type 0
-    Same more = (printedFrom n (h ++ (chunk ++ rest)) ≡ printedFrom n (take more left ++ rest)) × (more ≤ length left) × Unended (take more left)
+    length-whole : length (h ++ chunk) ≡ count + length chunk
+    length-whole = omega (arith, length-append h chunk, length-h)
 
-    roomy : count + length chunk ≤ length held → Same (count + min (length chunk) (length held - count))
+    roomy : count + length chunk < length held → Told (turnOf held count chunk)
+    unfolding Tells
     roomy m =
-        let e : count + min (length chunk) (length held - count) ≡ count + length chunk = omega arith in
-        let f : take (count + length chunk) left ≡ h ++ chunk = ap (take (count + length chunk)) left-whole ∙ take-written held count chunk m in
-        rw (e, f) (ap (printedFrom n) (sym (append-assoc h chunk rest)), omega (arith, size), unended-both h chunk u v)
+        let f : take (count + length chunk) left ≡ h ++ chunk = ap (take (count + length chunk)) left-whole ∙ take-written held count chunk (omega arith) in
+        rw (is-more held count chunk g m, f) (ap (printedFrom n) (sym (append-assoc h chunk rest)), omega (arith, size), unended-both h chunk u v)
 
-    full : length held < count + length chunk → Same (count + min (length chunk) (length held - count))
+    full : length held ≤ count + length chunk → Told (turnOf held count chunk)
+    unfolding Tells
     full m =
-        let c : List ℕ = take (length held - count) chunk in
-        let e : count + min (length chunk) (length held - count) ≡ length held = omega arith in
-        let f : take (length held) left ≡ h ++ c = take-all (length held) left (omega (arith, size)) ∙ left-whole ∙ written-full held count chunk in-room (omega arith) in
-        let s : length c ≡ length held - count = length-take-le (length held - count) chunk (omega arith) in
-        let w : Unended (h ++ c) = unended-both h c u (line-front chunk (length held - count) (omega arith) ∙ sym s) in
-        rw (e, f) (
-          ap (printedFrom n) (sym (append-assoc h chunk rest))
-              ∙ too-long n (h ++ chunk) rest (unended-both h chunk u v) (omega (arith, length-append h chunk, length-h))
-              ∙ sym (too-long n (h ++ c) rest w (omega (arith, length-append h c, length-h))),
-          omega (arith, size),
-          w,
-        )
+        rw (is-full held count chunk g m)
+        (ap (printedFrom n) (sym (append-assoc h chunk rest)) ∙ too-long n (h ++ chunk) rest (unended-both h chunk u v) (omega (arith, length-whole)))
 
     told-more : Told (turnOf held count chunk)
-    unfolding Tells
-    told-more = rw (is-more held count chunk g) (go (decLe (count + length chunk) (length held)))
+    told-more = go (decLt (count + length chunk) (length held))
       where
-        go : Dec (count + length chunk ≤ length held) → Same (count + min (length chunk) (length held - count))
+        go : Dec (count + length chunk < length held) → Told (turnOf held count chunk)
         go (yes m) = roomy m
         go (no m) = full (omega arith)
 
@@ -238,12 +232,13 @@ module _ (held : List ℕ) (count : ℕ) (chunk : List ℕ) (long : longestLine 
         let f : take (count + k + 1) left ≡ p ++ (newline ∷ []) = ap (λ (j : ℕ). take j left) q ∙ ap (take (count + length t)) (left-good held count chunk e)
         ∙ take-written held count t (omega arith) ∙ ap (λ (x : List ℕ). h ++ x) ends ∙ sym (append-assoc h (take k chunk) (newline ∷ [])) in
         let z₁ : Sized p = sized p b in
-        rw (is-good held count chunk e, f, widened-more (widthsOf p .lengths) (widthsOf p .state) p (newline ∷ []) (z₁ .within .state-ends)) (
+        let n-p : length p ≡ count + k = omega (arith, length-append h (take k chunk), length-h, size-k) in
+        rw (is-good held count chunk e, f, widened-more (widthsOf p .lengths) (widthsOf p .state) p (newline ∷ []) (z₁ .state-ends)) (
           ap (printedFrom n) (begun h chunk rest g) ∙ good-printed n p w _ b ∙ sym (append-snoc (renewed p) newline _),
           omega (arith, z),
           omega arith,
           omega arith,
-          record { few-lengths = z₁ .within .few-lengths; few-state = z₁ .within .few-state; but-mask = z₁ .within .but-mask; state-ends = omega (arith, z₁ .within .state-ends, length-append h (take k chunk), length-h, size-k) },
+          widens-here (length left) (count + k + 1) _ _ (z₁ .few-lengths) (z₁ .few-state) (omega (arith, z₁ .state-ends, n-p)) (omega (arith, z₁ .not-long, n-p, z)),
         )
 
     told-ended : Told (turnOf held count chunk)

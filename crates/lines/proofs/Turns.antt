@@ -4,6 +4,7 @@ use mathlib.Core.Bool.{true, false}
 use mathlib.Core.List.{List, [], _∷_}
 use Prim.Native.Nat.{ℕ, _+_, _-_, _≤_, _<_, min}
 use native.Mathlib.Omega.{arith}
+use native.Mathlib.Decide.{decLt}
 use native.Mathlib.Nat.{add-zero}
 use borrow.Author.Tests.{lt-ltb, le-ltb, eq-eqb, ne-eqb}
 use lib.ListN.{length, getD, take, set}
@@ -14,7 +15,7 @@ use Rattle.text.specs.Pieces.{lineLength}
 use Rattle.text.proofs.Pieces.{length-line, newline-there}
 use Rattle.text.proofs.Writes.{written-one}
 use Rattle.lines.specs.Line.{isPoint, widthsOf}
-use Rattle.lines.specs.Stream.{newline, lineSoFar, isGood, goodTurn, turnOf, heldAfter}
+use Rattle.lines.specs.Stream.{newline, lineSoFar, isGood, isOpen, goodTurn, turnOf, heldAfter}
 use Rattle.lines.specs.declared.line.Widths.{Widths}
 use Rattle.lines.specs.declared.stream.Turn.{Turn}
 use Rattle.lines.specs.declared.stream.Turn.the-variants.{More, Bad}
@@ -44,16 +45,20 @@ module _ (held : List ℕ) (count : ℕ) (chunk : List ℕ) where
 
   -- ---- what is answered and left
 
-  pub is-more : length chunk ≤ lineLength chunk → turnOf held count chunk ≡ More (count + min (length chunk) (length held - count))
-  unfolding turnOf
-  is-more g = rw (not-ended g, eq-eqb (lineLength chunk) (length chunk) (omega (arith, length-line chunk)))
+  pub is-more : length chunk ≤ lineLength chunk → count + length chunk < length held → turnOf held count chunk ≡ More (count + length chunk)
+  unfolding turnOf isOpen
+  is-more g h = rw (not-ended g, eq-eqb (lineLength chunk) (length chunk) (omega (arith, length-line chunk)), lt-ltb (count + length chunk) (length held) h)
+
+  pub is-full : length chunk ≤ lineLength chunk → length held ≤ count + length chunk → turnOf held count chunk ≡ Bad
+  unfolding turnOf isOpen
+  is-full g h = rw (not-ended g, eq-eqb (lineLength chunk) (length chunk) (omega (arith, length-line chunk)), le-ltb (count + length chunk) (length held) h)
 
   pub is-good : isGood held count chunk ≡ true → turnOf held count chunk ≡ goodTurn (lineLength chunk + 1) (count + lineLength chunk + 1) (widthsOf line)
   unfolding turnOf
   is-good e = rw e
 
   pub is-bad : lineLength chunk < length chunk → isGood held count chunk ≡ false → turnOf held count chunk ≡ Bad
-  unfolding turnOf
+  unfolding turnOf isOpen
   is-bad g e = rw (e, ne-eqb (lineLength chunk) (length chunk) (λ h. absurd (omega arith)))
 
   pub left-good : isGood held count chunk ≡ true → heldAfter held count chunk ≡ written held count (take (lineLength chunk + 1) chunk)
@@ -84,22 +89,35 @@ module _ (held : List ℕ) (count : ℕ) (chunk left : List ℕ) (end next : ℕ
   abbrev Answered : Turn → List ℕ → Type 0
   Answered t l = (t ≡ turnOf held count chunk) × (l ≡ heldAfter held count chunk)
 
-  pub turn-more : end ≡ length chunk → Answered (More next) left
-  turn-more h =
-      let n : next ≡ count + min (length chunk) (length held - count) = g ∙ ap (λ (k : ℕ). count + min k (length held - count)) (size ∙ h) in
-      let q : length chunk ≤ lineLength chunk = omega arith in
-      (ap More n ∙ sym (is-more held count chunk q), left-is ∙ sym (left-other held count chunk (not-ended held count chunk q)))
+  pub turn-full : length left ≤ next → Answered Bad left
+  turn-full m = go (decLt (lineLength chunk) (length chunk))
+    where
+      go : Dec (lineLength chunk < length chunk) → Answered Bad left
+      go (yes q) =
+          let w : isGood held count chunk ≡ false = no-room held count chunk q (omega (arith, size, room)) in
+          (sym (is-bad held count chunk q w), left-is ∙ sym (left-other held count chunk w))
+      go (no p) =
+          let q : length chunk ≤ lineLength chunk = omega arith in
+          let o : length held ≤ count + length chunk = omega (arith, size, room, length-line chunk) in
+          (sym (is-full held count chunk q o), left-is ∙ sym (left-other held count chunk (not-ended held count chunk q)))
 
-  module _ (h : end ≡ length chunk → ⊥) where
-    ends : lineLength chunk < length chunk
-    ends = let n : lineLength chunk ≡ length chunk → ⊥ = λ q. h (e ∙ q) in omega (arith, length-line chunk)
+  module _ (m : next < length left) where
+    next-is : next ≡ count + lineLength chunk
+    next-is = omega (arith, size, room)
 
-    module _ (m : next < length left) where
-      next-is : next ≡ count + lineLength chunk
-      next-is = omega (arith, size, room)
+    fits : count + lineLength chunk < length held
+    fits = omega (arith, next-is, room)
 
-      fits : count + lineLength chunk < length held
-      fits = omega (arith, next-is, room)
+    pub turn-more : end ≡ length chunk → Answered (More next) left
+    turn-more h =
+        let n : next ≡ count + length chunk = omega (arith, next-is) in
+        let q : length chunk ≤ lineLength chunk = omega arith in
+        let o : count + length chunk < length held = omega (arith, fits) in
+        (ap More n ∙ sym (is-more held count chunk q o), left-is ∙ sym (left-other held count chunk (not-ended held count chunk q)))
+
+    module _ (h : end ≡ length chunk → ⊥) where
+      ends : lineLength chunk < length chunk
+      ends = let n : lineLength chunk ≡ length chunk → ⊥ = λ q. h (e ∙ q) in omega (arith, length-line chunk)
 
       line-is : take next left ≡ line held count chunk
       line-is =
@@ -128,8 +146,3 @@ module _ (held : List ℕ) (count : ℕ) (chunk left : List ℕ) (end next : ℕ
       turn-bad p =
           let w : isGood held count chunk ≡ false = no-point held count chunk ends fits (sym (ap isPoint line-is) ∙ p) in
           (sym (is-bad held count chunk ends w), left-is ∙ sym (left-other held count chunk w))
-
-    pub turn-full : length left ≤ next → Answered Bad left
-    turn-full m =
-        let w : isGood held count chunk ≡ false = no-room held count chunk ends (omega (arith, size, room)) in
-        (sym (is-bad held count chunk ends w), left-is ∙ sym (left-other held count chunk w))

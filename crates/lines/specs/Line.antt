@@ -6,7 +6,7 @@ use mathlib.Core.Path.{_≡_}
 use mathlib.Core.Bool.{Bool, true, false, cond, _&&_, _||_}
 use mathlib.Core.List.{List, [], _∷_, _++_}
 use lib.Dec.{leb, ltb, eqb}
-use lib.ListN.{getD, take, drop, replicate}
+use lib.ListN.{length, getD, take, drop, replicate}
 use Rattle.model.specs.Memory.{windowMax}
 use Rattle.model.specs.Kept.{imageLength, oldImageLength}
 use Rattle.text.specs.Codes.{codes}
@@ -147,6 +147,18 @@ padded i n l = take i l ++ (zeros n ++ drop i l)
 unfoldable pub widened : ℕ → ℕ → List ℕ → List ℕ
 widened w d l =
     padded firstAt (lengthDigits - w) (padded (secondAt w) (lengthDigits - w) (padded (stateEnd w d) (stateDigits - d) l))
+
+-- so many more a line has then
+abbrev pub gained : ℕ → ℕ → ℕ
+gained w d = 2 * (lengthDigits - w) + (stateDigits - d)
+
+-- a line of n bytes has its state, and no more digits than the form that is written; and there is room for it in that form
+unfoldable pub widens : ℕ → ℕ → ℕ → ℕ → Bool
+widens room n w d = leb w lengthDigits && (leb d stateDigits && (leb (stateEnd w d) n && leb (n + gained w d) room))
+
+-- THE text that is left of the first n bytes held, nothing where they are no such line
+unfoldable pub renewedIn : List ℕ → ℕ → ℕ → ℕ → List ℕ
+renewedIn held n w d = cond (widens (length held) n w d) (widened w d (take n held)) []
 
 -- what is written of a point's line
 unfoldable pub renewed : List ℕ → List ℕ

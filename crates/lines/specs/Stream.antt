@@ -1,15 +1,15 @@
 -- What is printed of a stream of points' lines, and how it is carried through in chunks. 02: "A line of just this form comes out byte for byte; any
 -- other [..] prints `(bad N)` in its place and ends." A line of an older form comes out in the new one.
-use Prim.Native.Nat.{ℕ, suc, _+_, _-_, _≤_, _<_, min}
+use Prim.Native.Nat.{ℕ, suc, _+_, _≤_, _<_}
 use mathlib.Core.Path.{_≡_}
 use mathlib.Core.Bool.{Bool, true, false, cond, _&&_}
 use mathlib.Core.List.{List, [], _∷_, _++_}
-use lib.Dec.{ltb, eqb}
+use lib.Dec.{leb, ltb, eqb}
 use lib.ListN.{length, take, drop}
 use Rattle.model.specs.Octa.{written}
 use Rattle.text.specs.Text.{badText}
 use Rattle.text.specs.Pieces.{pieces, lineLength}
-use Rattle.lines.specs.Line.{lengthDigits, stateDigits, isNew, isPoint, widthsOf, stateEnd, widened, renewed, longestLine}
+use Rattle.lines.specs.Line.{isNew, isPoint, widthsOf, widens, widened, renewed, longestLine}
 use Rattle.lines.specs.declared.line.Widths.{Widths}
 use Rattle.lines.specs.declared.stream.Turn.{Turn}
 use Rattle.lines.specs.declared.stream.Turn.the-variants.{More, Good, Bad}
@@ -32,6 +32,13 @@ printedFrom n l = printedLines n (pieces l)
 abbrev pub printed : List ℕ → List ℕ
 printed l = printedFrom 1 l
 
+-- the text that says that a line is bad, where there is room for the longest such text
+abbrev pub badMost : ℕ
+badMost = 27
+
+unfoldable pub badIn : ℕ → ℕ → List ℕ
+badIn room n = cond (leb badMost room) (badText n) []
+
 -- ---- a chunk at a time: `held` has the first `count` bytes of a line, and the chunk is what follows them
 
 -- the line as far as the chunk has it
@@ -47,11 +54,15 @@ isGood held count chunk =
 abbrev pub goodTurn : ℕ → ℕ → Widths → Turn
 goodTurn used shown f = Good used shown (f .lengths) (f .state)
 
--- THE answer of a turn
+-- it does not end within the chunk, and there is room for its end
+unfoldable pub isOpen : List ℕ → ℕ → List ℕ → Bool
+isOpen held count chunk = eqb (lineLength chunk) (length chunk) && ltb (count + length chunk) (length held)
+
+-- THE answer of a turn; a line that there is no room for is bad, whether it has an end or not
 unfoldable pub turnOf : List ℕ → ℕ → List ℕ → Turn
 turnOf held count chunk =
     cond (isGood held count chunk) (goodTurn (lineLength chunk + 1) (count + lineLength chunk + 1) (widthsOf (lineSoFar held count chunk)))
-    (cond (eqb (lineLength chunk) (length chunk)) (More (count + min (length chunk) (length held - count))) Bad)
+    (cond (isOpen held count chunk) (More (count + length chunk)) Bad)
 
 -- and what is held then: the line further, as far as there is room; of a good one its newline too
 unfoldable pub heldAfter : List ℕ → ℕ → List ℕ → List ℕ
@@ -63,20 +74,13 @@ heldAfter held count chunk = written held count (take (lineLength chunk + cond (
 abbrev pub Unended : List ℕ → Type 0
 Unended h = lineLength h ≡ length h
 
--- a line of n bytes has its state, and no more digits than the form that is written; its state has these but for a mask's
-pub record Within (w d n : ℕ) : Type 0 where
-  pub few-lengths : w ≤ lengthDigits
-  pub few-state : d ≤ stateDigits
-  pub but-mask : stateDigits ≤ d + 16
-  pub state-ends : stateEnd w d ≤ n
-
 -- what a turn on `held` and `chunk`, which leaves `left`, tells of what is printed from line n on, whatever follows the chunk
 unfoldable pub Tells : ℕ → List ℕ → ℕ → List ℕ → List ℕ → List ℕ → Turn → Type 0
 Tells n held count chunk left rest (More more) =
     (printedFrom n (take count held ++ (chunk ++ rest)) ≡ printedFrom n (take more left ++ rest)) × (more ≤ length left) × Unended (take more left)
 Tells n held count chunk left rest (Good used shown w d) =
     (printedFrom n (take count held ++ (chunk ++ rest)) ≡ widened w d (take shown left) ++ printedFrom (suc n) (drop used chunk ++ rest))
-    × (shown ≤ length left) × (0 < used) × (used ≤ length chunk) × Within w d shown
+    × (shown ≤ length left) × (0 < used) × (used ≤ length chunk) × (widens (length left) shown w d ≡ true)
 Tells n held count chunk left rest Bad = printedFrom n (take count held ++ (chunk ++ rest)) ≡ badText n
 
 -- THEOREM: however reading splits a text, turns print what is printed of it: what is shown, and then what is printed of the rest

@@ -37,7 +37,18 @@ returns c =
     let keeping = c .before .before .before in
     let finding = keeping .before .before .before in
     let a = finding .before .before .before .args in
-    turn-more (a .held .now) (a .count) (a .chunk .now) _ _ _ (ending finding) (keeping .keep .ensures .0) (keeping .keep .ensures .1) (c .if1 .taken)
+    turn-full (a .held .now) (a .count) (a .chunk .now) _ _ _ (ending finding) (keeping .keep .ensures .0) (keeping .keep .ensures .1) (c .if1 .taken)
+
+same-length-2 : tie.Need-same-length-2
+same-length-2 c = search needs
+
+returns-2 : tie.Need-returns-2
+returns-2 c =
+    let roomy = c .before in
+    let keeping = roomy .before .before .before in
+    let finding = keeping .before .before .before in
+    let a = finding .before .before .before .args in
+    turn-more (a .held .now) (a .count) (a .chunk .now) _ _ _ (ending finding) (keeping .keep .ensures .0) (keeping .keep .ensures .1) (roomy .if1 .left) (c .if2 .taken)
 
 slice-reshare-prefix-widths-of : tie.Need-slice-reshare-prefix-widths-of
 slice-reshare-prefix-widths-of c = search needs
@@ -50,55 +61,44 @@ slice-aggregate-widths-of c =
 widths-of-requires : tie.Need-widths-of-requires
 widths-of-requires c κs = search needs
 
-slice-write-held : tie.Need-slice-write-held
-slice-write-held c = search needs
-
-add-t17 : tie.Need-add-t17
-add-t17 c =
-    let fresh = c .before .before .before .before .before in
-    omega (arith, within (fresh .before .before .before .before .before .before), fresh .if1 .left)
-
-add-t18 : tie.Need-add-t18
-add-t18 c = search needs
-
-same-length-2 : tie.Need-same-length-2
-same-length-2 c = search needs
-
-returns-2 : tie.Need-returns-2
-returns-2 c =
-    let judging = c .before .before in
-    let here = judging .before .before in
-    let fresh = here .before in
-    let keeping = fresh .before .before .before in
-    let finding = keeping .before .before .before in
-    let a = finding .before .before .before .args in
-    turn-good (a .held .now) (a .count) (a .chunk .now) _ _ _ (ending finding) (keeping .keep .ensures .0) (keeping .keep .ensures .1) (fresh .if1 .left) (here .if2 .taken)
-    _ (judging .widths-of .ensures) (point-some _ _ (judging .widths-of .ensures) (c .if3 .taken))
-
 same-length-3 : tie.Need-same-length-3
 same-length-3 c = search needs
 
 returns-3 : tie.Need-returns-3
 returns-3 c =
     let judging = c .before .before in
-    let here = judging .before .before in
-    let fresh = here .before in
-    let keeping = fresh .before .before .before in
+    let ended = judging .before .before in
+    let roomy = ended .before in
+    let keeping = roomy .before .before .before in
     let finding = keeping .before .before .before in
     let a = finding .before .before .before .args in
-    turn-bad (a .held .now) (a .count) (a .chunk .now) _ _ _ (ending finding) (keeping .keep .ensures .0) (keeping .keep .ensures .1) (fresh .if1 .left) (here .if2 .taken)
-    (point-none _ _ (judging .widths-of .ensures) (c .if3 .left))
+    turn-bad (a .held .now) (a .count) (a .chunk .now) _ _ _ (ending finding) (keeping .keep .ensures .0) (keeping .keep .ensures .1) (roomy .if1 .left) (ended .if2 .left)
+    (point-none _ _ (judging .widths-of .ensures) (omega (arith, c .if3 .taken)))
+
+slice-write-held : tie.Need-slice-write-held
+slice-write-held c = search needs
+
+add-t11 : tie.Need-add-t11
+add-t11 c =
+    let ended = c .before .before .before .before in
+    omega (arith, within (ended .before .before .before .before .before .before .before), ended .if2 .left)
+
+add-t16 : tie.Need-add-t16
+add-t16 c = search needs
 
 same-length-4 : tie.Need-same-length-4
 same-length-4 c = search needs
 
 returns-4 : tie.Need-returns-4
 returns-4 c =
-    let fresh = c .before in
-    let keeping = fresh .before .before .before in
+    let judging = c .before .before in
+    let ended = judging .before .before in
+    let roomy = ended .before in
+    let keeping = roomy .before .before .before in
     let finding = keeping .before .before .before in
     let a = finding .before .before .before .args in
-    turn-full (a .held .now) (a .count) (a .chunk .now) _ _ _ (ending finding) (keeping .keep .ensures .0) (keeping .keep .ensures .1) (fresh .if1 .left) (c .if2 .left)
+    turn-good (a .held .now) (a .count) (a .chunk .now) _ _ _ (ending finding) (keeping .keep .ensures .0) (keeping .keep .ensures .1) (roomy .if1 .left) (ended .if2 .left)
+    _ (judging .widths-of .ensures) (point-some _ _ (judging .widths-of .ensures) (omega (arith, c .if3 .left)))
 
 pub advance-spec : {M : Type 1} → statement M
 advance-spec =
@@ -109,15 +109,15 @@ advance-spec =
     keep-requires
     same-length
     returns
+    same-length-2
+    returns-2
     slice-reshare-prefix-widths-of
     slice-aggregate-widths-of
     widths-of-requires
-    slice-write-held
-    add-t17
-    add-t18
-    same-length-2
-    returns-2
     same-length-3
     returns-3
+    slice-write-held
+    add-t11
+    add-t16
     same-length-4
     returns-4)

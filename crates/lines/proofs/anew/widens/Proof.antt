@@ -1,0 +1,74 @@
+-- `widens` meets its contract: its tests are those of the definition, and no room is left where the line itself finds none.
+use mathlib.Core.Path.{sym}
+use native.Mathlib.Omega.{arith}
+use borrow.Author.Needs.{needs}
+use Rattle.lines.proofs.Padded.{widens-here, many-lengths, many-state, state-cut, little-room}
+use Rattle.lines.proofs.anew.widens.Statement.{statement}
+use Rattle.lines.proofs.anew.widens.Tie as tie
+
+returns : tie.Need-returns
+returns c =
+    let s = c .before in
+    let a = s .args in
+    sym (many-lengths (a .room) (a .n) (a .w) (a .d) (c .if1 .taken))
+
+returns-2 : tie.Need-returns-2
+returns-2 c =
+    let s = c .before .before in
+    let a = s .args in
+    sym (many-state (a .room) (a .n) (a .w) (a .d) (omega arith) (c .if2 .taken))
+
+mul-if3 : tie.Need-mul-if3
+mul-if3 c = search needs
+
+add-if3 : tie.Need-add-if3
+add-if3 c = search needs
+
+add-if3-2 : tie.Need-add-if3-2
+add-if3-2 c = search needs
+
+returns-3 : tie.Need-returns-3
+returns-3 c =
+    let s = c .before .before .before in
+    let a = s .args in
+    sym (state-cut (a .room) (a .n) (a .w) (a .d) (omega arith) (omega arith) (c .if3 .taken))
+
+returns-4 : tie.Need-returns-4
+returns-4 c =
+    let s = c .before .before .before .before in
+    let a = s .args in
+    sym (little-room (a .room) (a .n) (a .w) (a .d) (omega arith) (omega arith) (omega arith) (omega arith))
+
+mul-if5 : tie.Need-mul-if5
+mul-if5 c = search needs
+
+add-if5 : tie.Need-add-if5
+add-if5 c = search needs
+
+returns-5 : tie.Need-returns-5
+returns-5 c =
+    let s = c .before .before .before .before .before in
+    let a = s .args in
+    sym (little-room (a .room) (a .n) (a .w) (a .d) (omega arith) (omega arith) (omega arith) (omega arith))
+
+returns-6 : tie.Need-returns-6
+returns-6 c =
+    let s = c .before .before .before .before .before in
+    let a = s .args in
+    sym (widens-here (a .room) (a .n) (a .w) (a .d) (omega arith) (omega arith) (omega arith) (omega arith))
+
+pub widens-spec : {M : Type 1} → statement M
+widens-spec =
+    tie.close
+    (tie.spec
+    returns
+    returns-2
+    mul-if3
+    add-if3
+    add-if3-2
+    returns-3
+    returns-4
+    mul-if5
+    add-if5
+    returns-5
+    returns-6)
