@@ -1,2 +1,2 @@
--- Laws of a chunk carried through.
-pub mod Chunks
+-- Laws of a text carried through.
+pub mod Reach

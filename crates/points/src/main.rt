@@ -3,24 +3,35 @@
 
 ghost use mathlib.Core.Path.{_≡_};
 ghost use Prim.Native.Nat.{_+_, _≤_, _<_, _^_};
-ghost use lib.ListN.{length, take};
-ghost use Rattle.text.specs.Text.{badText};
+ghost use lib.ListN.{length};
 ghost use Rattle.lines.specs.Line.{longestLine};
-ghost use Rattle.lines.specs.Stream.{Within};
-ghost use Rattle.points.specs.Chunk.{inputLength, heldLength, Begun, Leaves, EndsAs, Ready};
+ghost use Rattle.points.specs.Chunk.{inputLength, heldLength, atStart, Standing, Shows, Ends, Fed, Refills, Turns, Finishes};
 use libc::STDERR_FILENO;
 use libc::STDIN_FILENO;
 use libc::STDOUT_FILENO;
-use lines::line::FIRST_AT;
-use lines::line::LENGTH_DIGITS;
-use lines::line::SECOND_AT;
-use lines::line::STATE_AT;
-use lines::line::STATE_DIGITS;
 use lines::stream::HELD_LEN;
 use lines::stream::Turn;
 
-/// So many times the input is read at most, so that the program is seen to end.
-const READS: u64 = 0x800000000000;
+/// So many turns the program makes at most, so that it is seen to end.
+const TURNS: u64 = 0x8000000000000000;
+
+/// Where the program stands: the bytes of the input buffer from `at` to `end` are not looked at yet, and `count` bytes are held of line `number`.
+struct Place {
+    at: usize,
+    end: usize,
+    count: usize,
+    number: u64,
+}
+
+/// What a turn leaves: a text to be written, the first so many bytes held, and what comes after it.
+enum After {
+    /// The next turn is made from this place.
+    On(usize, Place),
+    /// Nothing: this is the last text, at the place from which the turn was made.
+    Last(usize, Place),
+    /// There is no text: a read or a write has failed, and was told.
+    Failed,
+}
 
 fn held_buffer() -> [u8; HELD_LEN]
     ensures { λ r. ⌜ heldLength ≡ length r ⌝ }
@@ -28,150 +39,151 @@ fn held_buffer() -> [u8; HELD_LEN]
     [0; HELD_LEN]
 }
 
-/// What a chunk leaves.
-enum After {
-    /// So many bytes are held of the line of this number.
-    On(usize, u64),
-    /// The line of this number is bad.
-    Bad(u64),
-    /// The input has ended, or a read or a write has failed and was told.
-    Ended,
+/// Nothing is read yet, and the first line is line 1.
+fn start() -> Place
+    ensures { λ r. ⌜ r ≡ atStart ⌝ }
+{
+    Place {
+        at: 0,
+        end: 0,
+        count: 0,
+        number: 1,
+    }
 }
 
-/// A part of a line, and then n digits 0; false where a write fails.
-fn print_part(part: &[u8], n: usize) -> bool
-    requires { ⌜ n ≤ 16 ⌝ }
+/// A turn within the input buffer: its bytes join the line that is held, up to that line's end.
+fn show_one(input: &[u8], held: &mut [u8], place: Place) -> After
+    requires { ⌜ Standing (now input) (now held) place × (place .number + 1 < 2 ^ 64) ⌝ }
+    ensures { λ r. ⌜ Shows (now (input .entry)) (now (held .entry)) place (now (held .exit)) r ⌝ }
 {
-    if !io::write_all(STDOUT_FILENO, part) {
-        return false;
-    }
-    let zeros = [b'0'; 16];
-    io::write_all(STDOUT_FILENO, &zeros[..n])
-}
-
-/// A line is printed with its newline; one of an older form with digits 0 more before each length, of which each has w, and after its state's, d.
-fn print_line(line: &[u8], w: usize, d: usize) -> bool
-    requires { ⌜ Within w d (length (now line)) ⌝ }
-{
-    let second = SECOND_AT + w;
-    let end = STATE_AT + 2 * w + d;
-    if !print_part(&line[..FIRST_AT], LENGTH_DIGITS - w) {
-        return false;
-    }
-    if !print_part(&line[FIRST_AT..second], LENGTH_DIGITS - w) {
-        return false;
-    }
-    if !print_part(&line[second..end], STATE_DIGITS - d) {
-        return false;
-    }
-    io::write_all(STDOUT_FILENO, &line[end..])
-}
-
-/// The lines that end in a chunk are printed. Line n is the first, of which `first` bytes are held.
-fn print_lines(chunk: &[u8], held: &mut [u8], first: usize, n: u64) -> After
-    requires { ⌜ Begun (now held) first × (n + length (now chunk) < 2 ^ 64) ⌝ }
-    ensures { λ r. ⌜ Leaves n (now (held .entry)) first (now (chunk .entry)) (now (held .exit)) r ⌝ }
-{
-    let mut at: usize = 0;
-    let mut count = first;
-    let mut number = n;
-    while at < chunk.len() {
-        let turn = lines::stream::advance(&chunk[at..], held, count);
-        match turn {
-            Turn::More(more) => {
-                return After::On(more, number);
-            }
-            Turn::Good(used, shown, w, d) => {
-                if !print_line(&held[..shown], w, d) {
-                    os::fail(b"standard output");
-                    return After::Ended;
-                }
-                at += used;
-                count = 0;
-                number += 1;
-            }
-            Turn::Bad => {
-                return After::Bad(number);
-            }
+    let at = place.at;
+    let end = place.end;
+    let n = place.number;
+    let turn = lines::stream::advance(&input[at..end], held, place.count);
+    match turn {
+        Turn::More(more) => {
+            let next = Place {
+                at: end,
+                end: end,
+                count: more,
+                number: n,
+            };
+            After::On(0, next)
+        }
+        Turn::Good(used, shown, w, d) => {
+            let text = lines::anew::renew(held, shown, w, d);
+            let next = Place {
+                at: at + used,
+                end: end,
+                count: 0,
+                number: n + 1,
+            };
+            After::On(text, next)
+        }
+        Turn::Bad => {
+            let text = lines::stream::put_bad(held, n);
+            After::Last(text, place)
         }
     }
-    After::On(count, number)
 }
 
-/// The input has ended where `count` bytes of line n are held: such a line has no newline.
-fn at_end(held: &[u8], count: usize, n: u64) -> After
-    requires { ⌜ Begun (now held) count ⌝ }
-    ensures { λ r. ⌜ EndsAs n (now (held .entry)) count r ⌝ }
+/// The input has ended: a line that has begun has no newline.
+fn at_end(held: &mut [u8], place: Place) -> After
+    requires { ⌜ (longestLine < length (now held)) × (place .at ≡ place .end) ⌝ }
+    ensures { λ r. ⌜ Ends (now (held .entry)) place (now (held .exit)) r ⌝ }
 {
-    if count > 0 {
-        return After::Bad(n);
+    if place.count == 0 {
+        return After::Last(0, place);
     }
-    After::Ended
+    let text = lines::stream::put_bad(held, place.number);
+    After::Last(text, place)
 }
 
-/// The input is read once.
-fn read_on(input: &mut [u8], held: &mut [u8], count: usize, n: u64) -> After
-    requires { ⌜ (length (now input) ≡ inputLength) × Begun (now held) count × (n + inputLength < 2 ^ 64) ⌝ }
-    ensures { λ r. ⌜ Ready n (now (held .exit)) r ⌝ }
+/// A read has put k bytes into the buffer, of which nothing was left; none where the input has ended.
+fn fed(k: usize, input: &[u8], held: &mut [u8], place: Place) -> After
+    requires { ⌜ Standing (now input) (now held) place × (place .at ≡ place .end) × (k ≤ length (now input)) ⌝ }
+    ensures { λ r. ⌜ Fed k (now (input .entry)) (now (held .entry)) place (now (held .exit)) r ⌝ }
+{
+    if k == 0 {
+        return at_end(held, place);
+    }
+    let next = Place {
+        at: 0,
+        end: k,
+        count: place.count,
+        number: place.number,
+    };
+    After::On(0, next)
+}
+
+/// The input is read once, over a buffer of which nothing is left.
+fn refill(input: &mut [u8], held: &mut [u8], place: Place) -> After
+    requires { ⌜ Standing (now input) (now held) place × (place .at ≡ place .end) ⌝ }
+    ensures { λ r. ⌜ Refills (now (input .entry)) (now (held .entry)) place (now (input .exit)) (now (held .exit)) r ⌝ }
 {
     let got = libc::read(STDIN_FILENO, input);
     if got < 0 {
         os::fail(b"standard input");
-        return After::Ended;
+        return After::Failed;
     }
     let k = io::count(got, input);
-    if k == 0 {
-        return at_end(held, count, n);
-    }
-    print_lines(&input[..k], held, count, n)
+    fed(k, input, held, place)
 }
 
-/// The text that says that line n is bad, at the start of `out`; how long it is.
-fn bad_text(out: &mut [u8], n: u64) -> usize
-    requires { ⌜ 27 ≤ length (now out) ⌝ }
-    ensures { λ r. ⌜ (take r (now (out .exit)) ≡ badText n) × (r ≤ length (now (out .entry))) ⌝ }
+/// A turn: within the input buffer, or a read where nothing of it is left.
+fn turn(input: &mut [u8], held: &mut [u8], place: Place) -> After
+    requires { ⌜ Standing (now input) (now held) place × (place .number + 1 < 2 ^ 64) ⌝ }
+    ensures { λ r. ⌜ Turns (now (input .entry)) (now (held .entry)) place (now (input .exit)) (now (held .exit)) r ⌝ }
 {
-    text::write::put_bad(out, 0, n)
-}
-
-/// Line n is bad.
-fn print_bad(n: u64) {
-    let mut out = [0u8; 27];
-    let end = bad_text(&mut out, n);
-    if !io::write_all(STDOUT_FILENO, &out[..end]) {
-        os::fail(b"standard output");
+    if place.at < place.end {
+        return show_one(input, held, place);
     }
+    refill(input, held, place)
 }
 
-/// The input is read until it ends or a line is bad.
-fn run(input: &mut [u8], held: &mut [u8])
+/// A text is written; false where that fails, which is told.
+fn print(text: &[u8]) -> bool {
+    if io::write_all(STDOUT_FILENO, text) {
+        return true;
+    }
+    os::fail(b"standard output");
+    false
+}
+
+/// Turns from the first on, each text but the last printed.
+fn run(input: &mut [u8], held: &mut [u8]) -> After
     requires { ⌜ (length (now input) ≡ inputLength) × (longestLine < length (now held)) ⌝ }
+    ensures { λ r. ⌜ Finishes (now (held .exit)) r ⌝ }
 {
-    let mut reads: u64 = READS;
-    let mut count: usize = 0;
-    let mut number: u64 = 1;
-    while reads > 0 {
-        reads -= 1;
-        let after = read_on(input, held, count, number);
+    let mut left: u64 = TURNS;
+    let mut place = start();
+    while left > 0 {
+        left -= 1;
+        let after = turn(input, held, place);
         match after {
-            After::On(more, next) => {
-                count = more;
-                number = next;
+            After::On(text, next) => {
+                if !print(&held[..text]) {
+                    return After::Failed;
+                }
+                place = next;
             }
-            After::Bad(bad) => {
-                print_bad(bad);
-                return;
+            After::Last(text, end) => {
+                return After::Last(text, end);
             }
-            After::Ended => {
-                return;
+            After::Failed => {
+                return After::Failed;
             }
         }
     }
     io::write_all(STDERR_FILENO, b"standard input: too long\n");
+    After::Failed
 }
 
 fn main() {
     let mut input = io::large_buffer();
     let mut held = held_buffer();
-    run(&mut input, &mut held);
+    let after = run(&mut input, &mut held);
+    if let After::Last(text, end) = after {
+        print(&held[..text]);
+    }
 }

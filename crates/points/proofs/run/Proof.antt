@@ -1,56 +1,63 @@
--- `run` meets its contract. The loop's invariant: a line has begun, and lines are counted within the reads that are left.
-use mathlib.Core.Path.{_≡_, refl, _∙_}
-use Prim.Native.Nat.{_+_, _*_, _≤_}
+-- `run` meets its contract. The loop's invariant: what was handed over, and then what is owed, is what is printed of the text that is read.
+use mathlib.Core.Path.{_≡_, refl, sym, _∙_}
+use Prim.Native.Nat.{_+_, _≤_}
 use native.Mathlib.Omega.{arith}
 use lib.ListN.{length}
+use lib.Seq.{length-take-le}
 use borrow.Author.Needs.{needs}
-use Rattle.points.specs.Chunk.{inputLength, Begun}
-use Rattle.points.proofs.Chunks.{nothing-held, on-ready}
+use Rattle.points.specs.Chunk.{Standing, Finishes}
+use Rattle.points.proofs.Reach.{standing-start, Reached, reached-start, turned, reached-on, finishes-last}
 use Rattle.points.proofs.run.Statement.{statement}
 use Rattle.points.proofs.run.Tie as tie
 
 abbrev Inv-loop : tie.InvT-loop
-Inv-loop input₀ held₀ reads₀ count₀ number₀ told input held reads count number =
-    (length input ≡ length input₀) × (length held ≡ length held₀) × (number + inputLength * reads ≤ 1 + inputLength * 0x800000000000) × Begun held count
+Inv-loop input₀ held₀ left₀ place₀ t9 input held left place =
+    (length input ≡ length input₀) × (length held ≡ length held₀) × (place .number + left ≤ 1 + 0x8000000000000000) × Standing input held place × Reached input held place
 
 abbrev μ-loop : tie.MeasureT-loop
-μ-loop input₀ held₀ reads₀ count₀ number₀ told input held reads count number = reads
+μ-loop input₀ held₀ left₀ place₀ t9 input held left place = left
+
+start-requires : tie.Need-start-requires Inv-loop μ-loop
+start-requires c κs = search needs
 
 loop-holds : tie.Need-loop-holds Inv-loop μ-loop
-loop-holds c = (refl, refl, omega arith, nothing-held _ (c .before .before .pre .1))
+loop-holds c =
+    let s = c .before .before .before in
+    let e = c .start .ensures in (
+      refl,
+      refl,
+      rw e (omega arith),
+      rw e (standing-start (s .args .input .now) (s .args .held .now) (s .pre .1)),
+      rw e (reached-start (s .args .input .now) (s .args .held .now)),
+    )
 
-sub-reads : tie.Need-sub-reads Inv-loop μ-loop
-sub-reads c = search needs
+sub-left : tie.Need-sub-left Inv-loop μ-loop
+sub-left c = search needs
 
-read-on-requires : tie.Need-read-on-requires Inv-loop μ-loop
-read-on-requires c κs =
+turn-requires : tie.Need-turn-requires Inv-loop μ-loop
+turn-requires c κs =
     let at-loop = c .before .before .before in
-    let s = at-loop .before .before .before in
-    (omega (arith, at-loop .loop .inv .0, s .pre .0), at-loop .loop .inv .3, omega (arith, at-loop .loop .inv .2, c .before .before .loop-test .taken))
+    (at-loop .loop .inv .3, omega (arith, at-loop .loop .inv .2, c .before .before .loop-test .taken))
 
 enum-known-after : tie.Need-enum-known-after Inv-loop μ-loop
 enum-known-after c = search needs
 
-loop-less : tie.Need-loop-less Inv-loop μ-loop
-loop-less c = search needs
-
-loop-again : tie.Need-loop-again Inv-loop μ-loop
-loop-again c =
+slice-reshare-prefix-print : tie.Need-slice-reshare-prefix-print Inv-loop μ-loop
+slice-reshare-prefix-print c =
     let told = c .before in
-    let reading = told .before .before .before .before .before .before in
-    let at-loop = reading .before .before .before .before in
-    let on = on-ready (at-loop .loop .number) _ _ _ _ (reading .read-on .ensures) (told .after .given .1) in (
-      reading .read-on .kept .0 ∙ at-loop .loop .inv .0,
-      reading .read-on .kept .1 .0 ∙ at-loop .loop .inv .1,
-      omega (arith, on .1, at-loop .loop .inv .2, reading .before .before .before .loop-test .taken),
-      on .0,
-    )
+    let turning = told .before .before .before .before .before .before in
+    let at-loop = turning .before .before .before .before in
+    turned (at-loop .loop .input) (at-loop .loop .held) (at-loop .loop .place) (at-loop .loop .inv .4) _ _ _ _ _ (turning .turn .ensures) (told .after .given .1) .within
 
-enum-known-after-2 : tie.Need-enum-known-after-2 Inv-loop μ-loop
-enum-known-after-2 c = search needs
+slice-aggregate-print : tie.Need-slice-aggregate-print Inv-loop μ-loop
+slice-aggregate-print c =
+    let told = c .before .before in
+    let turning = told .before .before .before .before .before .before in
+    let at-loop = turning .before .before .before .before in
+    sym (length-take-le _ (turning .turn .last .1 .0) (turned (at-loop .loop .input) (at-loop .loop .held) (at-loop .loop .place) (at-loop .loop .inv .4) _ _ _ _ _ (turning .turn .ensures) (told .after .given .1) .within))
 
-print-bad-requires : tie.Need-print-bad-requires Inv-loop μ-loop
-print-bad-requires c κs = search needs
+print-requires : tie.Need-print-requires Inv-loop μ-loop
+print-requires c κs = search needs
 
 same-length : tie.Need-same-length Inv-loop μ-loop
 same-length c = search needs
@@ -59,10 +66,27 @@ same-length-2 : tie.Need-same-length-2 Inv-loop μ-loop
 same-length-2 c = search needs
 
 returns : tie.Need-returns Inv-loop μ-loop
-returns c = search needs
+unfolding Finishes
+returns c = tt
 
-enum-told : tie.Need-enum-told Inv-loop μ-loop
-enum-told c = search needs
+loop-less : tie.Need-loop-less Inv-loop μ-loop
+loop-less c = search needs
+
+loop-again : tie.Need-loop-again Inv-loop μ-loop
+loop-again c =
+    let told = c .before .before .before .before in
+    let turning = told .before .before .before .before .before .before in
+    let at-loop = turning .before .before .before .before in
+    let x = turned (at-loop .loop .input) (at-loop .loop .held) (at-loop .loop .place) (at-loop .loop .inv .4) _ _ _ _ _ (turning .turn .ensures) (told .after .given .1) in (
+      turning .turn .kept .0 ∙ at-loop .loop .inv .0,
+      turning .turn .kept .1 .0 ∙ at-loop .loop .inv .1,
+      omega (arith, x .number-is, at-loop .loop .inv .2, turning .before .before .before .loop-test .taken),
+      x .stands,
+      reached-on (at-loop .loop .input) (at-loop .loop .held) (at-loop .loop .place) (at-loop .loop .inv .4) _ _ _ _ x,
+    )
+
+enum-known-after-2 : tie.Need-enum-known-after-2 Inv-loop μ-loop
+enum-known-after-2 c = search needs
 
 same-length-3 : tie.Need-same-length-3 Inv-loop μ-loop
 same-length-3 c = search needs
@@ -71,13 +95,14 @@ same-length-4 : tie.Need-same-length-4 Inv-loop μ-loop
 same-length-4 c = search needs
 
 returns-2 : tie.Need-returns-2 Inv-loop μ-loop
-returns-2 c = search needs
+returns-2 c =
+    let told = c .before in
+    let turning = told .before .before .before .before .before .before in
+    let at-loop = turning .before .before .before .before in
+    finishes-last (at-loop .loop .input) (at-loop .loop .held) (at-loop .loop .place) (at-loop .loop .inv .4) _ _ _ _ _ (turning .turn .ensures) (told .after2 .given .1)
 
-slice-aggregate-write-all : tie.Need-slice-aggregate-write-all Inv-loop μ-loop
-slice-aggregate-write-all c = search needs
-
-write-all-requires : tie.Need-write-all-requires Inv-loop μ-loop
-write-all-requires c κs = search needs
+enum-told : tie.Need-enum-told Inv-loop μ-loop
+enum-told c = search needs
 
 same-length-5 : tie.Need-same-length-5 Inv-loop μ-loop
 same-length-5 c = search needs
@@ -86,7 +111,24 @@ same-length-6 : tie.Need-same-length-6 Inv-loop μ-loop
 same-length-6 c = search needs
 
 returns-3 : tie.Need-returns-3 Inv-loop μ-loop
-returns-3 c = search needs
+unfolding Finishes
+returns-3 c = tt
+
+slice-aggregate-write-all : tie.Need-slice-aggregate-write-all Inv-loop μ-loop
+slice-aggregate-write-all c = search needs
+
+write-all-requires : tie.Need-write-all-requires Inv-loop μ-loop
+write-all-requires c κs = search needs
+
+same-length-7 : tie.Need-same-length-7 Inv-loop μ-loop
+same-length-7 c = search needs
+
+same-length-8 : tie.Need-same-length-8 Inv-loop μ-loop
+same-length-8 c = search needs
+
+returns-4 : tie.Need-returns-4 Inv-loop μ-loop
+unfolding Finishes
+returns-4 c = tt
 
 pub run-spec : {M : Type 1} → statement M
 run-spec =
@@ -94,23 +136,29 @@ run-spec =
     (tie.spec
     Inv-loop
     μ-loop
+    start-requires
     loop-holds
-    sub-reads
-    read-on-requires
+    sub-left
+    turn-requires
     enum-known-after
-    loop-less
-    loop-again
-    enum-known-after-2
-    print-bad-requires
+    slice-reshare-prefix-print
+    slice-aggregate-print
+    print-requires
     same-length
     same-length-2
     returns
-    enum-told
+    loop-less
+    loop-again
+    enum-known-after-2
     same-length-3
     same-length-4
     returns-2
-    slice-aggregate-write-all
-    write-all-requires
+    enum-told
     same-length-5
     same-length-6
-    returns-3)
+    returns-3
+    slice-aggregate-write-all
+    write-all-requires
+    same-length-7
+    same-length-8
+    returns-4)
