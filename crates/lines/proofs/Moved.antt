@@ -5,10 +5,11 @@ use Prim.Native.Nat.{ℕ, zero, suc, _+_, _-_, _≤_, _<_}
 use native.Mathlib.Omega.{arith}
 use native.Mathlib.Nat.{suc-add}
 use lib.ListN.{length, getD, take, drop, set, length-append, length-drop, length-replicate, replicate-append-replicate, drop-of-length-le}
-use lib.Seq.{drop-cons, getD-take, take-take, length-take-le}
+use lib.Seq.{drop-cons, drop-drop, getD-take, take-take, length-take-le}
 use Rattle.model.specs.Octa.{written}
 use Rattle.model.proofs.Octa.{written-nil, written-below}
 use Rattle.model.proofs.Bytes.{written-append}
+use Rattle.text.specs.Writing.{Wrote}
 use Rattle.text.proofs.Writes.{written-one}
 use Rattle.lines.specs.Line.{zeros, padded}
 use Rattle.lines.proofs.Held.{take-written}
@@ -67,6 +68,30 @@ written-before (x ∷ l) zero (v ∷ z) t (suc m) e = ap (λ (r : List ℕ). v �
 written-before (x ∷ l) (suc o) (v ∷ z) t zero e = absurd (omega arith)
 written-before (x ∷ l) (suc o) (v ∷ z) t (suc m) e = ap (λ (r : List ℕ). x ∷ r) (written-before l o (v ∷ z) t m (omega arith))
 
+-- what is behind a text stays
+drop-written : (l : List ℕ) (o : ℕ) (vs : List ℕ) (m : ℕ) → o + length vs ≤ m → drop m (written l o vs) ≡ drop m l
+unfolding written
+drop-written l o [] m e = ap (drop m) (written-nil l o)
+drop-written [] o (v ∷ vs) m e = refl
+drop-written (x ∷ l) zero (v ∷ vs) zero e = absurd (omega arith)
+drop-written (x ∷ l) zero (v ∷ vs) (suc m) e = drop-written l zero vs m (omega arith)
+drop-written (x ∷ l) (suc o) (v ∷ vs) zero e = absurd (omega arith)
+drop-written (x ∷ l) (suc o) (v ∷ vs) (suc m) e = drop-written l o (v ∷ vs) m (omega arith)
+
+-- also further on
+drop-further : (l k : List ℕ) (m n : ℕ) → m ≤ n → drop m l ≡ drop m k → drop n l ≡ drop n k
+drop-further l k m n h e = ap (λ (i : ℕ). drop i l) its ∙ sym (drop-drop (n - m) m l) ∙ ap (drop (n - m)) e ∙ drop-drop (n - m) m k ∙ sym (ap (λ (i : ℕ). drop i k) its)
+  where
+    its : n ≡ m + (n - m)
+    its = omega arith
+
+pub wrote-behind : (b t c : List ℕ) (n : ℕ) → Wrote b 0 t c n → drop n c ≡ drop n b
+wrote-behind b t c n w = ap (drop n) (w .bytes-are) ∙ drop-written b 0 t n (omega (arith, w .end-is))
+
+-- of three that grow
+pub three-behind : (l a b c : List ℕ) (i j k p q : ℕ) → j ≡ i + p → k ≡ j + q → drop i a ≡ drop i l → drop j b ≡ drop j a → drop k c ≡ drop k b → drop k c ≡ drop k l
+three-behind l a b c i j k p q e f x y z = z ∙ drop-further b a j k (omega arith) y ∙ drop-further a l i k (omega arith) x
+
 -- no digits
 pub put-none : (at n : ℕ) (l : List ℕ) → n ≡ 0 → l ≡ padded at n l
 put-none at n l e = sym (ap (λ (k : ℕ). padded at k l) e ∙ padded-none at l)
@@ -85,3 +110,10 @@ put-in l moved left len at n g h e f =
     ∙ ap (take (at + length (zeros n ++ t))) (f ∙ ap (λ (q : List ℕ). written q at (zeros n)) e ∙ written-before l at (zeros n) t (at + n) (omega arith))
     ∙ take-written l at (zeros n ++ t) (omega arith)
     ∙ ap (λ (q : List ℕ). q ++ (zeros n ++ t)) (sym (take-take at len l g))
+
+pub put-behind : (l moved left : List ℕ) (len at n : ℕ) → at ≤ len → len ≤ length l → moved ≡ written l (at + n) (drop at (take len l)) → left ≡ written moved at (zeros n)
+    → drop (len + n) left ≡ drop (len + n) l
+put-behind l moved left len at n g h e f =
+    let s : length (drop at (take len l)) ≡ len - at = length-drop at (take len l) ∙ ap (λ (k : ℕ). k - at) (length-take-le len l h) in
+    ap (drop (len + n)) f ∙ drop-written moved at (zeros n) (len + n) (omega (arith, length-replicate {A = ℕ} n 0x30))
+    ∙ ap (drop (len + n)) e ∙ drop-written l (at + n) (drop at (take len l)) (len + n) (omega arith)

@@ -11,9 +11,10 @@ use super::line::STATE_AT;
 use super::line::STATE_DIGITS;
 
 /// A line, the first `shown` bytes held, with w digits for each length and d for its state, becomes what is written of it: digits 0 more before each
-/// length, and after the state's. How many bytes it has then; none where its widths are not such, or there is no room.
+/// length, and after the state's. How many bytes it has then; none where its widths are not such, or there is no room. What is behind it stays.
 pub fn renew(held: &mut [u8], shown: usize, w: usize, d: usize) -> usize
-    ensures { λ r. ⌜ (take r (now (held .exit)) ≡ renewedIn (now (held .entry)) shown w d) × (r ≤ length (now (held .entry))) ⌝ }
+    ensures { λ r. ⌜ (take r (now (held .exit)) ≡ renewedIn (now (held .entry)) shown w d) × (r ≤ length (now (held .entry)))
+        × (drop r (now (held .exit)) ≡ drop r (now (held .entry))) ⌝ }
 {
     if widens(held.len(), shown, w, d) {
         let lengths = LENGTH_DIGITS - w;
@@ -49,7 +50,8 @@ fn widens(room: usize, n: usize, w: usize, d: usize) -> bool
 // n digits 0 are put in at index `at` of the first `len` bytes held; how many there are then.
 fn insert_zeros(held: &mut [u8], len: usize, at: usize, n: usize) -> usize
     requires { ⌜ (at ≤ len) × (len + n ≤ length (now held)) ⌝ }
-    ensures { λ r. ⌜ (take r (now (held .exit)) ≡ padded at n (take len (now (held .entry)))) × (r ≡ len + n) ⌝ }
+    ensures { λ r. ⌜ (take r (now (held .exit)) ≡ padded at n (take len (now (held .entry)))) × (r ≡ len + n)
+        × (drop r (now (held .exit)) ≡ drop r (now (held .entry))) ⌝ }
 {
     if n == 0 {
         return len;

@@ -1,7 +1,7 @@
 // A stream of lines: a chunk at a time, the line that has not yet ended held.
 ghost use mathlib.Core.Path.{_≡_};
 ghost use Prim.Native.Nat.{_+_, _-_, _≤_, min};
-ghost use lib.ListN.{length, take, set};
+ghost use lib.ListN.{length, take, drop, set};
 ghost use Rattle.model.specs.Octa.{written};
 ghost use Rattle.lines.specs.Stream.{turnOf, heldAfter, badIn};
 
@@ -46,9 +46,10 @@ pub fn advance(chunk: &[u8], held: &mut [u8], count: usize) -> Turn
     Turn::Good(end + 1, next + 1, w.lengths, w.state)
 }
 
-/// The text that says that line n is bad, at the start of `out`, and how long it is; none where there is no room for the longest such text.
+/// The text that says that line n is bad, at the start of `out`, and how long it is; none where there is no room for the longest such text. What is behind it stays.
 pub fn put_bad(out: &mut [u8], n: u64) -> usize
-    ensures { λ r. ⌜ (take r (now (out .exit)) ≡ badIn (length (now (out .entry))) n) × (r ≤ length (now (out .entry))) ⌝ }
+    ensures { λ r. ⌜ (take r (now (out .exit)) ≡ badIn (length (now (out .entry))) n) × (r ≤ length (now (out .entry)))
+        × (drop r (now (out .exit)) ≡ drop r (now (out .entry))) ⌝ }
 {
     if out.len() < BAD_MOST {
         return 0;

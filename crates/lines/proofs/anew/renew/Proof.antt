@@ -1,11 +1,12 @@
 -- `renew` meets its contract: digits 0 put in at three places, from the last on, for which there is room.
-use mathlib.Core.Path.{_≡_, sym, _∙_}
+use mathlib.Core.Path.{_≡_, refl, sym, _∙_}
 use mathlib.Core.Bool.{true}
 use Prim.Native.Nat.{_+_, _≤_}
 use native.Mathlib.Omega.{arith}
 use lib.ListN.{length}
 use borrow.Author.Needs.{needs}
 use Rattle.lines.specs.Line.{lengthDigits, stateDigits, stateEnd, gained, widens}
+use Rattle.lines.proofs.Moved.{three-behind}
 use Rattle.lines.proofs.Padded.{widens-facts, renewed-none, renewed-by}
 use Rattle.lines.proofs.anew.renew.Statement.{statement}
 use Rattle.lines.proofs.anew.renew.Tie as tie
@@ -69,10 +70,12 @@ returns c =
     let f = facts passing in (
       renewed-by (a .held .now) (a .shown) (a .w) (a .d) _ _ _ (passed passing) (third .insert-zeros .ensures .0) (second .insert-zeros2 .ensures .0) (first .insert-zeros3 .ensures .0),
       omega (arith, f .3, third .insert-zeros .ensures .1, second .insert-zeros2 .ensures .1, first .insert-zeros3 .ensures .1),
+      three-behind _ _ _ _ _ _ _ _ _ (second .insert-zeros2 .ensures .1) (first .insert-zeros3 .ensures .1)
+          (third .insert-zeros .ensures .2) (second .insert-zeros2 .ensures .2) (first .insert-zeros3 .ensures .2),
     )
 
 returns-2 : tie.Need-returns-2
-returns-2 c = (renewed-none _ _ _ _ (sym (c .before .widens .ensures) ∙ c .if1 .left), search needs)
+returns-2 c = (renewed-none _ _ _ _ (sym (c .before .widens .ensures) ∙ c .if1 .left), search needs, refl)
 
 pub renew-spec : {M : Type 1} → statement M
 renew-spec =
