@@ -18,7 +18,7 @@ use Rattle.lines.proofs.Held.{bad-here}
 use Rattle.lines.proofs.Padded.{renewed-here}
 use Rattle.lines.proofs.Turns.{length-after}
 use Rattle.lines.proofs.Splits.{any-split, line-by-line}
-use Rattle.points.specs.Chunk.{chunkAt, owed, atStart, Standing, Next, Over, Shows, Ends, Fed, Refills, readBy, Turns, Finishes}
+use Rattle.points.specs.Chunk.{chunkAt, owed, atStart, Starts, Standing, Next, Over, Shows, Ends, Fed, Refills, readBy, Turns, Finishes}
 use Rattle.points.specs.declared.Place.{Place}
 use Rattle.points.specs.declared.After.{After}
 use Rattle.points.specs.declared.After.the-variants.{On, Last, Failed}
@@ -28,10 +28,9 @@ place at end count number = record { at = at; end = end; count = count; number =
 
 -- ---- the start
 
--- THE start: of any text all is owed that is printed of it
-pub starts : (input held rest : List ℕ) → owed input held atStart rest ≡ printed rest
+pub starts : Starts
 unfolding owed
-starts input held rest = refl
+starts input held text = refl
 
 pub standing-start : (input held : List ℕ) → longestLine < length held → Standing input held atStart
 unfolding lineLength

@@ -32,9 +32,13 @@ chunkAt input p = take (p .end - p .at) (drop (p .at) input)
 unfoldable pub owed : List ℕ → List ℕ → Place → List ℕ → List ℕ
 owed input held p rest = printedFrom (p .number) (take (p .count) held ++ (chunkAt input p ++ rest))
 
--- nothing is read, and the first line is line 1: of any text all is owed that is printed of it, `starts` of Reach
+-- nothing is read, and the first line is line 1
 abbrev pub atStart : Place
 atStart = record { at = 0; end = 0; count = 0; number = 1 }
+
+-- THEOREM: at the start all is owed that is printed of the text, whatever the buffers hold
+abbrev pub Starts : Type 0
+Starts = (input held text : List ℕ) → owed input held atStart text ≡ printed text
 
 -- a place within the buffers; what is held is the begin of a line
 pub record Standing (input held : List ℕ) (p : Place) : Type 0 where
