@@ -18,12 +18,12 @@ use Rattle.model.proofs.Bools.{and-left, and-right}
 use Rattle.text.specs.Text.{badText}
 use Rattle.text.specs.Pieces.{pieces, lineLength}
 use Rattle.text.proofs.Pieces.{length-line, newline-there, line-append, line-front, pieces-some, pieces-line, pieces-last}
-use Rattle.lines.specs.Line.{lengthDigits, stateDigits, pointForm, octasA, octasB, isForm, isPoint, widthsOf, stateEnd, gained, renewed, longestLine}
-use Rattle.lines.specs.Stream.{newline, printedLines, printedFrom, isGood, turnOf, heldAfter, Unended, Tells, AnySplit, LineByLine}
+use Rattle.lines.specs.Line.{pointForm, octasA, octasB, isForm, isPoint, widthsOf, renewed, longestLine}
+use Rattle.lines.specs.Stream.{newline, printedLines, printedFrom, isGood, turnOf, heldAfter, Unended, Within, Tells, AnySplit, LineByLine}
 use Rattle.lines.specs.declared.stream.Turn.{Turn}
 use Rattle.lines.proofs.Forms.{length-fits, length-form}
 use Rattle.lines.proofs.Formed.{Formed, formed, point-new}
-use Rattle.lines.proofs.Padded.{widened-more, widens-here}
+use Rattle.lines.proofs.Padded.{widened-more}
 use Rattle.lines.proofs.Renewed.{new-same}
 use Rattle.lines.proofs.Held.{take-written}
 use Rattle.lines.proofs.Turns.{good-here, not-ended, no-room, no-point, is-more, is-full, is-good, is-bad, left-good, left-other}
@@ -43,26 +43,26 @@ form-long w d k l e =
     = length-fits (pointForm w d (octasA w l + octasB w l)) l (and-right (leb (octasB w l) k) _ r) ∙ length-form w d (octasA w l + octasB w l) in
     (omega arith, omega arith)
 
--- a point's line has its state, and no more digits than the form that is written; in that form it is not too long
+-- a point's line has the widths of its form and room for its state, and in the form that is written it is not too long
 record Sized (l : List ℕ) : Type 0 where
-  few-lengths : widthsOf l .lengths ≤ lengthDigits
-  few-state : widthsOf l .state ≤ stateDigits
-  state-ends : stateEnd (widthsOf l .lengths) (widthsOf l .state) ≤ length l
-  not-long : length l + gained (widthsOf l .lengths) (widthsOf l .state) ≤ longestLine
+  within : Within (widthsOf l .lengths) (widthsOf l .state) (length l) longestLine
 
 sized : (l : List ℕ) → isPoint l ≡ true → Sized l
 sized l e =
     let f : Formed l = formed l e in
     let g = form-long (f .w) (2 * f .n) (f .k) l (f .is) in
     record {
-      few-lengths = rw (f .widths-are) (f .most);
-      few-state = rw (f .widths-are) (omega (arith, f .image-most));
-      state-ends = rw (f .widths-are) (omega (arith, g .0));
-      not-long = rw (f .widths-are) (omega (arith, g .1, f .few, f .most, f .image-most));
+      within = rw (f .widths-are) (record {
+        few-lengths = f .most;
+        few-state = omega (arith, f .image-most);
+        but-mask = omega (arith, f .image-least);
+        state-ends = omega (arith, g .0);
+        anew-fits = omega (arith, g .1, f .few, f .most, f .image-most);
+      });
     }
 
 long-no : (l : List ℕ) → longestLine < length l → isPoint l ≡ false
-long-no l h = ⊎-elim (λ e. absurd (omega (arith, sized l e .not-long))) (λ e. e) (flag (isPoint l))
+long-no l h = ⊎-elim (λ e. absurd (omega (arith, sized l e .within .anew-fits))) (λ e. e) (flag (isPoint l))
 
 -- ---- line by line
 
@@ -233,12 +233,18 @@ module _ (held : List ℕ) (count : ℕ) (chunk : List ℕ) (long : longestLine 
         ∙ take-written held count t (omega arith) ∙ ap (λ (x : List ℕ). h ++ x) ends ∙ sym (append-assoc h (take k chunk) (newline ∷ [])) in
         let z₁ : Sized p = sized p b in
         let n-p : length p ≡ count + k = omega (arith, length-append h (take k chunk), length-h, size-k) in
-        rw (is-good held count chunk e, f, widened-more (widthsOf p .lengths) (widthsOf p .state) p (newline ∷ []) (z₁ .state-ends)) (
+        rw (is-good held count chunk e, f, widened-more (widthsOf p .lengths) (widthsOf p .state) p (newline ∷ []) (z₁ .within .state-ends)) (
           ap (printedFrom n) (begun h chunk rest g) ∙ good-printed n p w _ b ∙ sym (append-snoc (renewed p) newline _),
           omega (arith, z),
           omega arith,
           omega arith,
-          widens-here (length left) (count + k + 1) _ _ (z₁ .few-lengths) (z₁ .few-state) (omega (arith, z₁ .state-ends, n-p)) (omega (arith, z₁ .not-long, n-p, z)),
+          record {
+            few-lengths = z₁ .within .few-lengths;
+            few-state = z₁ .within .few-state;
+            but-mask = z₁ .within .but-mask;
+            state-ends = omega (arith, z₁ .within .state-ends, n-p);
+            anew-fits = omega (arith, z₁ .within .anew-fits, n-p, z);
+          },
         )
 
     told-ended : Told (turnOf held count chunk)

@@ -9,7 +9,7 @@ use lib.ListN.{length, take, drop}
 use Rattle.model.specs.Octa.{written}
 use Rattle.text.specs.Text.{badText}
 use Rattle.text.specs.Pieces.{pieces, lineLength}
-use Rattle.lines.specs.Line.{isNew, isPoint, widthsOf, widens, widened, renewed, longestLine}
+use Rattle.lines.specs.Line.{lengthDigits, stateDigits, isNew, isPoint, widthsOf, stateEnd, gained, widened, renewed, longestLine}
 use Rattle.lines.specs.declared.line.Widths.{Widths}
 use Rattle.lines.specs.declared.stream.Turn.{Turn}
 use Rattle.lines.specs.declared.stream.Turn.the-variants.{More, Good, Bad}
@@ -74,13 +74,21 @@ heldAfter held count chunk = written held count (take (lineLength chunk + cond (
 abbrev pub Unended : List ℕ → Type 0
 Unended h = lineLength h ≡ length h
 
+-- a line of n bytes has its state, and no more digits than the form that is written; its state has these but for a mask's; there is room for it anew
+pub record Within (w d n room : ℕ) : Type 0 where
+  pub few-lengths : w ≤ lengthDigits
+  pub few-state : d ≤ stateDigits
+  pub but-mask : stateDigits ≤ d + 16
+  pub state-ends : stateEnd w d ≤ n
+  pub anew-fits : n + gained w d ≤ room
+
 -- what a turn on `held` and `chunk`, which leaves `left`, tells of what is printed from line n on, whatever follows the chunk
 unfoldable pub Tells : ℕ → List ℕ → ℕ → List ℕ → List ℕ → List ℕ → Turn → Type 0
 Tells n held count chunk left rest (More more) =
     (printedFrom n (take count held ++ (chunk ++ rest)) ≡ printedFrom n (take more left ++ rest)) × (more ≤ length left) × Unended (take more left)
 Tells n held count chunk left rest (Good used shown w d) =
     (printedFrom n (take count held ++ (chunk ++ rest)) ≡ widened w d (take shown left) ++ printedFrom (suc n) (drop used chunk ++ rest))
-    × (shown ≤ length left) × (0 < used) × (used ≤ length chunk) × (widens (length left) shown w d ≡ true)
+    × (shown ≤ length left) × (0 < used) × (used ≤ length chunk) × Within w d shown (length left)
 Tells n held count chunk left rest Bad = printedFrom n (take count held ++ (chunk ++ rest)) ≡ badText n
 
 -- THEOREM: however reading splits a text, turns print what is printed of it: what is shown, and then what is printed of the rest

@@ -10,12 +10,12 @@ use lib.ListN.{length, take, drop, length-drop}
 use lib.Seq.{take-nil, drop-drop, length-take-le}
 use Rattle.text.specs.Text.{badText}
 use Rattle.lines.specs.Line.{longestLine, widened, renewedIn}
-use Rattle.lines.specs.Stream.{badIn, printed, printedFrom, turnOf, heldAfter, Tells}
+use Rattle.lines.specs.Stream.{badIn, printed, printedFrom, turnOf, heldAfter, Within, Tells}
 use Rattle.lines.specs.declared.stream.Turn.{Turn}
 use Rattle.lines.specs.declared.stream.Turn.the-variants.{More, Good, Bad}
 use Rattle.text.specs.Pieces.{lineLength}
 use Rattle.lines.proofs.Held.{bad-here}
-use Rattle.lines.proofs.Padded.{renewed-here}
+use Rattle.lines.proofs.Padded.{renewed-here, widens-here}
 use Rattle.lines.proofs.Turns.{length-after}
 use Rattle.lines.proofs.Splits.{any-split, line-by-line}
 use Rattle.points.specs.Chunk.{chunkAt, owed, atStart, Starts, Standing, Next, Over, Shows, Ends, Fed, Refills, readBy, Turns, Finishes}
@@ -100,7 +100,8 @@ module _ (input held : List ℕ) (p : Place) (s : Standing input held p) where
           → Shows input held p final (On text (place (p .at + used) (p .end) 0 (p .number + 1)))
       unfolding Shows Tells owed lineLength
       shows-good final text n e k =
-          let anew : widened w d (take shown left) ≡ take text final = sym (e ∙ renewed-here left shown w d (told (Good used shown w d) h [] .4)) in
+          let x : Within w d shown (length left) = told (Good used shown w d) h [] .4 in
+          let anew : widened w d (take shown left) ≡ take text final = sym (e ∙ renewed-here left shown w d (widens-here (length left) shown w d (x .few-lengths) (x .few-state) (x .state-ends) (x .anew-fits))) in
           record {
             text-is = λ rest.
                 told (Good used shown w d) h rest .0
