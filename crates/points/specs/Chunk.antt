@@ -1,6 +1,6 @@
 -- What the program makes of a text that it reads in chunks. Nothing says which bytes a read puts into a buffer, nor which a write takes out, so this
 -- is of what is still to be printed: each turn leaves the next text of it in `held`, at its start, and nothing but that is handed to a write.
-use Prim.Native.Nat.{ℕ, _+_, _-_, _≤_, _<_}
+use Prim.Native.Nat.{ℕ, _+_, _-_, _^_, _≤_, _<_}
 use mathlib.Core.Path.{_≡_}
 use mathlib.Core.Logic.{_⊎_}
 use mathlib.Core.Bool.{cond}
@@ -21,6 +21,10 @@ inputLength = 65536
 -- room for the longest line and its newline
 abbrev pub heldLength : ℕ
 heldLength = longestLine + 1
+
+-- so many turns at most, each a read or a line
+abbrev pub turnsMost : ℕ
+turnsMost = 2 ^ 63
 
 -- ---- where the program stands
 

@@ -5,15 +5,12 @@ ghost use mathlib.Core.Path.{_≡_};
 ghost use Prim.Native.Nat.{_+_, _≤_, _<_, _^_};
 ghost use lib.ListN.{length};
 ghost use Rattle.lines.specs.Line.{longestLine};
-ghost use Rattle.points.specs.Chunk.{inputLength, heldLength, atStart, Standing, Shows, Ends, Fed, Refills, Turns, Finishes};
+ghost use Rattle.points.specs.Chunk.{inputLength, heldLength, turnsMost, atStart, Standing, Shows, Ends, Fed, Refills, Turns, Finishes};
 use libc::STDERR_FILENO;
 use libc::STDIN_FILENO;
 use libc::STDOUT_FILENO;
 use lines::stream::HELD_LEN;
 use lines::stream::Turn;
-
-/// So many turns the program makes at most, so that it is seen to end.
-const TURNS: u64 = 0x8000000000000000;
 
 /// Where the program stands: the bytes of the input buffer from `at` to `end` are not looked at yet, and `count` bytes are held of line `number`.
 struct Place {
@@ -49,6 +46,13 @@ fn start() -> Place
         count: 0,
         number: 1,
     }
+}
+
+/// So many turns the program makes at most, so that it is seen to end.
+fn turns_most() -> u64
+    ensures { λ r. ⌜ r ≡ turnsMost ⌝ }
+{
+    0x8000000000000000
 }
 
 /// A turn within the input buffer: its bytes join the line that is held, up to that line's end.
@@ -155,7 +159,7 @@ fn run(input: &mut [u8], held: &mut [u8]) -> After
     requires { ⌜ (length (now input) ≡ inputLength) × (longestLine < length (now held)) ⌝ }
     ensures { λ r. ⌜ Finishes (now (held .exit)) r ⌝ }
 {
-    let mut left: u64 = TURNS;
+    let mut left = turns_most();
     let mut place = start();
     while left > 0 {
         left -= 1;

@@ -5,28 +5,31 @@ use native.Mathlib.Omega.{arith}
 use lib.ListN.{length}
 use lib.Seq.{length-take-le}
 use borrow.Author.Needs.{needs}
-use Rattle.points.specs.Chunk.{Standing, Finishes}
+use Rattle.points.specs.Chunk.{turnsMost, Standing, Finishes}
 use Rattle.points.proofs.Reach.{standing-start, Reached, reached-start, turned, reached-on, finishes-last}
 use Rattle.points.proofs.run.Statement.{statement}
 use Rattle.points.proofs.run.Tie as tie
 
 abbrev Inv-loop : tie.InvT-loop
 Inv-loop input₀ held₀ left₀ place₀ t9 input held left place =
-    (length input ≡ length input₀) × (length held ≡ length held₀) × (place .number + left ≤ 1 + 0x8000000000000000) × Standing input held place × Reached input held place
+    (length input ≡ length input₀) × (length held ≡ length held₀) × (place .number + left ≤ 1 + turnsMost) × Standing input held place × Reached input held place
 
 abbrev μ-loop : tie.MeasureT-loop
 μ-loop input₀ held₀ left₀ place₀ t9 input held left place = left
+
+turns-most-requires : tie.Need-turns-most-requires Inv-loop μ-loop
+turns-most-requires c κs = search needs
 
 start-requires : tie.Need-start-requires Inv-loop μ-loop
 start-requires c κs = search needs
 
 loop-holds : tie.Need-loop-holds Inv-loop μ-loop
 loop-holds c =
-    let s = c .before .before .before in
+    let s = c .before .before .before .before in
     let e = c .start .ensures in (
       refl,
       refl,
-      rw e (omega arith),
+      rw e (omega (arith, c .before .turns-most .ensures)),
       rw e (standing-start (s .args .input .now) (s .args .held .now) (s .pre .1)),
       rw e (reached-start (s .args .input .now) (s .args .held .now)),
     )
@@ -136,6 +139,7 @@ run-spec =
     (tie.spec
     Inv-loop
     μ-loop
+    turns-most-requires
     start-requires
     loop-holds
     sub-left
