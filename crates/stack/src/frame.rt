@@ -3,11 +3,11 @@ ghost use mathlib.Core.Path.{_≡_};
 ghost use mathlib.Core.List.{List};
 ghost use mathlib.Core.Bool.{false};
 ghost use Prim.Native.Nat.{ℕ, _+_, _-_, _*_, _≤_, min};
-ghost use lib.ListN.{getD};
+ghost use lib.ListN.{getD, set};
 ghost use Rattle.model.specs.Fill.{over, tab};
 ghost use Rattle.model.specs.Memory.{shapesOf, both};
 ghost use Rattle.model.specs.Plan.{worst, puts};
-ghost use Rattle.model.specs.Registers.{rO, rG, rL, sp};
+ghost use Rattle.model.specs.Registers.{rO, rS, rG, rL, sp};
 ghost use Rattle.model.specs.Frames.{hole, framed, pushed, countOf, lastOutput, misplaced};
 ghost use Rattle.model.specs.PopOrder.{lowered};
 ghost use Rattle.model.specs.Parts.{made, lent};
@@ -232,7 +232,16 @@ fn is_misplaced(ro: u64) -> bool
     true
 }
 
-/// The registers after a pop with hole h: written, then cleared from the new rL to rG − 1.
+/// The special registers of a pop, which come last: the new rL, and rO and rS at the frame's bottom.
+fn set_frame(special: &mut [u64; 32], low: u64, bottom: u64)
+    ensures { λ _. ⌜ now (special .exit) ≡ set (set (set (now (special .entry)) rL low) rO bottom) rS bottom ⌝ }
+{
+    special[State::RL] = low;
+    special[State::RO] = bottom;
+    special[State::RS] = bottom;
+}
+
+/// The registers after a pop with hole h: written, then cleared from the new rL to rG − 1; the special ones are set afterwards.
 fn leave(
     general: &mut [u64; 256],
     special: &mut [u64; 32],
@@ -255,9 +264,7 @@ fn leave(
     let low = machine::number::least(h + count, rg);
     restore(general, a, b, at, bottom, rl, x, h, low);
     machine::registers::clear_range(general, low, rg);
-    special[State::RL] = low;
-    special[State::RO] = bottom;
-    special[State::RS] = bottom;
+    set_frame(special, low, bottom);
 }
 
 /// POP where rG and rL are placed, with rO above the stack's start and well placed.

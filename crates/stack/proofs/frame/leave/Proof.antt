@@ -1,7 +1,10 @@
 -- `leave` meets its contract: clearing from the new rL up makes the POP of the state between.
-use mathlib.Core.Path.{refl}
+use mathlib.Core.Path.{_≡_, refl, ap, _∙_}
+use mathlib.Core.List.{List}
+use Prim.Native.Nat.{ℕ}
 use native.Mathlib.Omega.{arith}
-use Rattle.model.specs.Parts.{lent}
+use Rattle.model.specs.declared.State.{State}
+use Rattle.model.specs.Parts.{made, lent}
 use Rattle.stack.proofs.PushPopRegisters.{frame-read, low-is, left}
 use borrow.Author.Needs.{needs}
 use Rattle.stack.proofs.frame.leave.Statement.{statement}
@@ -48,29 +51,29 @@ restore-requires c κs =
 clear-range-requires : tie.Need-clear-range-requires
 clear-range-requires c κs = search needs
 
-element-write-special : tie.Need-element-write-special
-element-write-special c = search needs
+set-frame-requires : tie.Need-set-frame-requires
+set-frame-requires c κs = search needs
 
-element-write-special-2 : tie.Need-element-write-special-2
-element-write-special-2 c = search needs
-
-element-write-special-3 : tie.Need-element-write-special-3
-element-write-special-3 c = search needs
+-- the special registers, once the others are there
+specials : (g l m : List ℕ) (pc halt marks mask : ℕ) (t : State) → l ≡ m → made g m pc halt marks mask ≡ t → made g l pc halt marks mask ≡ t
+specials g l m pc halt marks mask t e f = ap (λ (q : List ℕ). made g q pc halt marks mask) e ∙ f
 
 returns : tie.Need-returns
 returns c =
     λ pc halt marks mask.
-    let start = c .before .before .before .before .before .before .before .before .before .before .before .before in
+    let cleared = c .before .before in
+    let least = cleared .before .before .before .before in
+    let start = least .before .before .before .before .before .before .before .before in
     let a = start .args in
-    let bottom = c .before .before .before .before .before .before .wrapping-sub in
-    let count = c .before .before .before .before .before .count-of in
-    let least = c .before .before .before .before .least in
-    left (lent (a .at) (a .a .now) (a .b .now)) (a .special .now) (a .x) (a .h) _ _ _ (start .pre .0) (start .pre .2) (start .pre .1)
-    (bottom .ensures) (count .ensures .0) (least .ensures) (a .general .now) _ _ pc halt marks mask
-    (c .before .before .restore .ensures (a .special .now) pc halt marks mask refl
+    let bottom = least .before .before .wrapping-sub in
+    let count = least .before .count-of in
+    specials _ _ _ pc halt marks mask _ (c .set-frame .ensures)
+    (left (lent (a .at) (a .a .now) (a .b .now)) (a .special .now) (a .x) (a .h) _ _ _ (start .pre .0) (start .pre .2) (start .pre .1)
+    (bottom .ensures) (count .ensures .0) (least .least .ensures) (a .general .now) _ _ pc halt marks mask
+    (cleared .before .before .restore .ensures (a .special .now) pc halt marks mask refl
     (low-is (lent (a .at) (a .a .now) (a .b .now)) (a .special .now) (a .x) (a .h) _ _ _ (start .pre .0) (start .pre .2) (start .pre .1)
-    (bottom .ensures) (count .ensures .0) (least .ensures) (a .general .now) pc halt marks mask))
-    (c .clear-range .ensures)
+    (bottom .ensures) (count .ensures .0) (least .least .ensures) (a .general .now) pc halt marks mask))
+    (cleared .clear-range .ensures))
 
 pub leave-spec : {M : Type 1} → statement M
 leave-spec =
@@ -87,7 +90,5 @@ leave-spec =
     least-requires
     restore-requires
     clear-range-requires
-    element-write-special
-    element-write-special-2
-    element-write-special-3
+    set-frame-requires
     returns)
