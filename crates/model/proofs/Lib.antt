@@ -62,3 +62,4 @@ pub mod SeenStates
 pub mod SeenArms
 pub mod Unseen
 pub mod Instance
+pub mod DepartureInstance
