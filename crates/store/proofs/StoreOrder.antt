@@ -3,19 +3,20 @@ use mathlib.Core.Path.{_≡_, refl, _∙_}
 use mathlib.Core.Bool.{Bool, true, false, _&&_}
 use mathlib.Core.List.{List}
 use Prim.Native.Nat.{ℕ, _≤_, _<_}
+use native.Mathlib.Omega.{arith}
 use lib.Dec.{eqb}
 use lib.ListN.{length}
 use borrow.Author.Tests.{lt-ltb, le-ltb}
-use Rattle.model.specs.Octa.{part, valueOf, bytesOf}
-use Rattle.model.specs.Memory.{Shapes, ruled, shares}
-use Rattle.model.specs.Registers.{admissible}
+use Rattle.model.specs.Octa.{octa, part, valueOf, bytesOf}
+use Rattle.model.specs.Memory.{Shapes, shapeOf, ruledOne, offset, has, shapesOf, inside, ruled, shares}
+use Rattle.model.specs.Registers.{hideable, hides, admissible, fresh, withSpecial}
 use Rattle.model.specs.Step.{unruledBy}
 use Rattle.model.specs.Kept.{pointCount, imageLength, octasOf, Point}
 use Rattle.model.proofs.Entry.{unruled-two, unruled-shared}
-use Rattle.machine.specs.Octabytes.{flat}
-use Rattle.image.specs.Image.{isImage, stateOf}
-use Rattle.store.specs.Store.{numbersOf, numberAt, isTaken, storeLength, roomOf, shapesIn, fromTwo, takeReply, suits, roomReply, backReply}
-use Rattle.store.specs.StoreOrder.{PointsInOrder, placesMet, takenMet, StorePointsMet}
+use Rattle.machine.specs.Octabytes.{flat, octas}
+use Rattle.image.specs.Image.{imageOf, stateOf, isImage, hasRoom}
+use Rattle.store.specs.Store.{numbersOf, numberAt, isTaken, storeLength, roomOf, shapesIn, fromTwo, takeReply, suits, maskIn, roomReply, backReply}
+use Rattle.store.specs.StoreOrder.{PointsInOrder, point, placesMet, takenMet, suitsMet, roomReplies, windowReplies, StorePointsMet, StoreLimits}
 
 -- ---- 2, 22, 26, 27
 
@@ -93,5 +94,19 @@ points-in-order = record {
 -- ---- points
 
 pub store-points-met : StorePointsMet
-unfolding numbersOf numberAt isTaken placesMet takenMet flat part valueOf bytesOf
-store-points-met = (refl, refl, refl, refl)
+unfolding numbersOf numberAt isTaken placesMet takenMet suitsMet roomReplies windowReplies suits maskIn roomReply fromTwo flat part valueOf bytesOf imageOf stateOf octas hasRoom fresh withSpecial hideable hides admissible shapesOf shapeOf ruledOne ruled shares unruledBy offset has inside octa
+store-points-met = (refl, refl, refl, refl, refl, refl, refl)
+
+ruled-point : unruledBy (shapesIn point) ≡ 0
+unfolding shapesOf shapeOf ruledOne ruled shares unruledBy offset has inside octa
+ruled-point = refl
+
+pub store-limits : StoreLimits
+store-limits = record {
+  first-room = λ s. unfold roomOf in refl;
+  second-room = λ s. unfold roomOf in refl;
+  last-room = λ s. unfold roomOf in refl;
+  short = λ s k n e. from-short s k (shapesIn point) n ruled-point (omega (arith, e));
+  last-name = λ s n e. from-done s 15 (shapesIn point) n ruled-point (omega (arith, e)) (omega arith);
+  no-name = λ s n e. from-name s 16 (shapesIn point) n ruled-point (omega (arith, e)) (omega arith);
+}
