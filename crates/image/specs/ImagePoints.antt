@@ -2,12 +2,12 @@
 -- PC, halt code, marks, mask. Each is an octabyte with its high byte first.
 use Prim.Native.Nat.{ℕ, _+_, _*_, _^_}
 use mathlib.Core.Path.{_≡_}
-use mathlib.Core.Bool.{Bool, true, _&&_}
+use mathlib.Core.Bool.{Bool, true, not, _&&_, _||_}
 use mathlib.Core.List.{List, [], _∷_, _++_}
 use lib.Dec.{eqb}
 use lib.ListN.{length, getD, replicate}
 use Rattle.model.specs.declared.State.{State}
-use Rattle.image.specs.Image.{imageOf, oldImageOf, stateOf, isImage}
+use Rattle.image.specs.Image.{imageOf, oldImageOf, stateOf, isImage, hasRoom}
 
 -- an octabyte whose first byte and last byte are n
 abbrev both : ℕ → ℕ
@@ -50,7 +50,15 @@ statePoints =
 
 -- the two lengths and no other
 unfoldable pub lengthPoints : Bool
-lengthPoints = isImage (replicate 2336 0) && isImage (replicate 2328 0)
+lengthPoints =
+    isImage (replicate 2336 0) && (isImage (replicate 2328 0)
+    && not (isImage (replicate 2335 0) || (isImage (replicate 2337 0) || (isImage (replicate 2327 0) || (isImage (replicate 2329 0) || isImage [])))))
+
+-- which has room for a mask: an old image for none but the empty one
+unfoldable pub roomPoints : Bool
+roomPoints =
+    hasRoom (replicate 2336 0) 0 && (hasRoom (replicate 2336 0) 1 && (hasRoom (replicate 2328 0) 0
+    && not (hasRoom (replicate 2328 0) 1 || (hasRoom (replicate 2335 0) 0 || hasRoom (replicate 2329 0) 0))))
 
 abbrev pub ImagePointsMet : Type 0
-ImagePointsMet = (imagePoints ≡ true) × (statePoints ≡ true) × (lengthPoints ≡ true)
+ImagePointsMet = (imagePoints ≡ true) × (statePoints ≡ true) × (lengthPoints ≡ true) × (roomPoints ≡ true)
