@@ -11,23 +11,23 @@ use Rattle.model.specs.Fill.{over, indexed, within, tab}
 use Rattle.model.specs.Octa.{octa, part, written, valueOf, bytesOf}
 use Rattle.model.specs.Registers.{rC, rO, rS, rL, stackStart, sp, hideable, hides, admissible, fresh, masked, goes, halted, withSpecial, cleared, claimLocal, stored, setRegister, spilled, Sized, Words}
 use Rattle.model.specs.Memory.{Windows, shapeOf, ruledOne, offset, has, octaBytes, writeOcta, shapesOf, inside, octaAt, putOcta, both, ruled, shares}
-use Rattle.model.specs.Plan.{Outcome, All, Off, worst, named, look, looks, puts, perform, ups, missing, needs}
+use Rattle.model.specs.Plan.{Outcome, All, Off, worst, named, look, looks, puts, perform, ups, missing, needs, widerNeeds}
 use Rattle.model.specs.Opcodes.{opPOP, armOf}
 use Rattle.model.specs.NoMemory.{tell}
 use Rattle.model.specs.Control.{targetOf}
 use Rattle.model.specs.Frames.{hole, framed, slid, slide, pushedRule, pushed, pushFrame, countOf, lastOutput, restored, unslide, popped, popTo, popRule, noFrame, misplaced, popFrame}
 use Rattle.model.specs.LoadStore.{bytesIn, unitAt, operandIn}
-use Rattle.model.specs.Lists.{stepOn, needsOf, runs, runNeedsBy}
+use Rattle.model.specs.Lists.{stepOn, needsOf, widerNeedsOf, runs, runNeedsBy}
 use Rattle.model.specs.Step.{Item, fetched, refusalOf, unruledBy, refusing, planOf, guarded, fromThree, stepPlan, stepOf, claims, opcodeIn, tetraAt, keepsClaim, settledBy, takenBack, instructionPlan, tetraPlan, fetchedPlan, fetchedOf, tetraOf, itemPlan, mmix}
 use Rattle.model.specs.Ways.{by-fetch}
-use Rattle.model.specs.Demand.{Within, PUSHJ, Alike, GivesBack, after, afterNeeds, popAfter, Private, xAt}
+use Rattle.model.specs.Demand.{Within, PUSHJ, Alike, GivesBack, after, afterNeeds, afterWiderNeeds, popAfter, Private, Claim, xAt, FetchedClaim}
 use Rattle.model.specs.Unseen.{SameSeen, SameRan}
 use Rattle.model.specs.Bench.{start}
 use Rattle.model.specs.declared.State.{State}
 use Rattle.model.proofs.Bools.{each}
 use Rattle.model.proofs.Computed.{below, rangedState, ranged, offRun, off-run, poppable, at-pop}
-use Rattle.model.proofs.Demand.{demand3}
-use Rattle.model.proofs.DemandFetched.{demand3-fetched}
+use Rattle.model.proofs.Demand.{demand3, demand3-wider}
+use Rattle.model.proofs.DemandFetched.{demand3-fetched, demand3-fetched-wider}
 use Rattle.model.proofs.Unseen.{hidden-unseen}
 
 -- ---- a program that calls and returns
@@ -71,6 +71,7 @@ Met o =
     × (refusing (shapesOf (after (o 7) list .memory)) (after (o 7) list .state .pc) ≡ 0)
     × (opcodeIn (tetraOf (after (o 8) list .memory) (after (o 8) list .state)) ≡ opPOP)
     × (refusing (shapesOf (after (o 8) list .memory)) (after (o 8) list .state .pc) ≡ 0)
+    × (offRun (stackStart + 8) 2 (afterWiderNeeds (o 7) list) ≡ true)
 
 abbrev stepped : ℕ → Outcome State Windows
 stepped v = stepOf lent (caller v) 0xF2 1 0 2
@@ -80,18 +81,18 @@ fetchedIn v = fetchedOf lent (caller v)
 
 computed : ((rangedState (caller 7) ≡ true) × (rangedState (caller 8) ≡ true) × (hole (caller 7) 1 ≡ 1) × (sp (caller 7) rO ≡ stackStart + 8)
     × (opcodeIn (tetraOf lent (caller 7)) ≡ 0xF2) × (xAt lent (caller 7) ≡ 1)) × Met stepped × Met fetchedIn
-unfolding over indexed within tab octa part written valueOf bytesOf hideable hides admissible fresh goes halted withSpecial cleared claimLocal stored setRegister spilled shapeOf ruledOne offset has octaBytes writeOcta shapesOf inside octaAt putOcta both ruled shares worst named look looks puts perform ups missing needs armOf tell targetOf hole framed slid slide pushedRule pushed pushFrame countOf lastOutput restored unslide popped popTo popRule noFrame misplaced popFrame bytesIn unitAt operandIn stepOn needsOf runs runNeedsBy refusalOf unruledBy refusing planOf guarded fromThree stepPlan stepOf claims tetraAt keepsClaim settledBy takenBack instructionPlan tetraPlan fetchedPlan fetchedOf itemPlan mmix start each below rangedState offRun poppable
-computed = ((refl, refl, refl, refl, refl, refl), (refl, refl, refl, refl, refl, refl, refl, refl), (refl, refl, refl, refl, refl, refl, refl, refl))
+unfolding over indexed within tab octa part written valueOf bytesOf hideable hides admissible fresh goes halted withSpecial cleared claimLocal stored setRegister spilled shapeOf ruledOne offset has octaBytes writeOcta shapesOf inside octaAt putOcta both ruled shares worst named look looks puts perform ups missing needs widerNeeds armOf tell targetOf hole framed slid slide pushedRule pushed pushFrame countOf lastOutput restored unslide popped popTo popRule noFrame misplaced popFrame bytesIn unitAt operandIn stepOn needsOf widerNeedsOf runs runNeedsBy refusalOf unruledBy refusing planOf guarded fromThree stepPlan stepOf claims tetraAt keepsClaim settledBy takenBack instructionPlan tetraPlan fetchedPlan fetchedOf itemPlan mmix start each below rangedState offRun poppable
+computed = ((refl, refl, refl, refl, refl, refl), (refl, refl, refl, refl, refl, refl, refl, refl, refl), (refl, refl, refl, refl, refl, refl, refl, refl, refl))
 
 hole-is : hole (caller 7) 1 ≡ 1
 hole-is = computed .0 .2
 
-module _ (o : ℕ → Outcome State Windows) (m : Met o) where
-  off-frame : All (Off (Within (sp (caller 7) rO) (hole (caller 7) 1 + 1))) (afterNeeds (o 7) list)
-  off-frame =
-      subst (λ (a : ℕ). All (Off (Within a (hole (caller 7) 1 + 1))) (afterNeeds (o 7) list)) (sym (computed .0 .3))
-      (subst (λ (h : ℕ). All (Off (Within (stackStart + 8) (h + 1))) (afterNeeds (o 7) list)) (sym hole-is) (off-run (stackStart + 8) 2 _ (m .2)))
+off-frame : (xs : List ℕ) → offRun (stackStart + 8) 2 xs ≡ true → All (Off (Within (sp (caller 7) rO) (hole (caller 7) 1 + 1))) xs
+off-frame xs e =
+    subst (λ (a : ℕ). All (Off (Within a (hole (caller 7) 1 + 1))) xs) (sym (computed .0 .3))
+    (subst (λ (h : ℕ). All (Off (Within (stackStart + 8) (h + 1))) xs) (sym hole-is) (off-run (stackStart + 8) 2 xs e))
 
+module _ (o : ℕ → Outcome State Windows) (m : Met o) where
   -- so a POP that is fetched gives 7 back to the one and 8 to the other
   abbrev Back : State → State → Type 0
   Back s t = GivesBack 1 s (popAfter (after (o 7) list) by-fetch) × GivesBack 1 t (popAfter (after (o 8) list) by-fetch)
@@ -105,31 +106,46 @@ module _ (o : ℕ → Outcome State Windows) (m : Met o) where
 alike : Alike (hole (caller 7) 1) (caller 7) (caller 8)
 alike = subst (λ (h : ℕ). Alike h (caller 7) (caller 8)) (sym hole-is) (callers-alike 7 8)
 
-demand3-met : Back stepped (computed .1) (caller 7) (caller 8)
-demand3-met =
+-- either reading of the needs
+by-claim : (needed : Outcome State Windows → List Item → List ℕ) → Claim needed → offRun (stackStart + 8) 2 (needed (stepped 7) list) ≡ true
+    → Back stepped (computed .1) (caller 7) (caller 8)
+by-claim needed d e =
     both-back stepped (computed .1) (caller 7) (caller 8)
     (subst (λ (h : ℕ). Private h (caller 7) (caller 8) (stepped 7) (stepped 8) list) hole-is
-    (demand3 lent (caller 7) (caller 8) PUSHJ 1 0 2 list (ranged _ (computed .0 .0) .0) (ranged _ (computed .0 .1) .0) (ranged _ (computed .0 .0) .1) (ranged _ (computed .0 .1) .1)
-    alike (computed .1 .0) (computed .1 .1) (off-frame stepped (computed .1))))
+    (d lent (caller 7) (caller 8) PUSHJ 1 0 2 list (ranged _ (computed .0 .0) .0) (ranged _ (computed .0 .1) .0) (ranged _ (computed .0 .0) .1) (ranged _ (computed .0 .1) .1)
+    alike (computed .1 .0) (computed .1 .1) (off-frame _ e)))
+
+demand3-met : Back stepped (computed .1) (caller 7) (caller 8)
+demand3-met = by-claim afterNeeds demand3 (computed .1 .2)
+
+demand3-wider-met : Back stepped (computed .1) (caller 7) (caller 8)
+demand3-wider-met = by-claim afterWiderNeeds demand3-wider (computed .1 .8)
 
 -- a call that is fetched pushes from the state after its claim
 abbrev claimed : ℕ → State
 claimed v = claimLocal (caller v) 1
 
 -- the theorem's claim, X of the tetra being x
-abbrev Claimed : ℕ → Type 0
-Claimed x = Sized (caller 7) → Sized (caller 8) → Words (caller 7) → Words (caller 8) → opcodeIn (tetraOf lent (caller 7)) ≡ 0xF2 → Alike (hole (caller 7) x) (caller 7) (caller 8)
+abbrev Claimed : List ℕ → ℕ → Type 0
+Claimed xs x = Sized (caller 7) → Sized (caller 8) → Words (caller 7) → Words (caller 8) → opcodeIn (tetraOf lent (caller 7)) ≡ 0xF2 → Alike (hole (caller 7) x) (caller 7) (caller 8)
     → fetchedIn 7 .reply ≡ 0 → fetchedIn 7 .state .pc ≡ fetchedIn 8 .state .pc
-    → All (Off (Within (sp (caller 7) rO) (hole (caller 7) x + 1))) (afterNeeds (fetchedIn 7) list)
+    → All (Off (Within (sp (caller 7) rO) (hole (caller 7) x + 1))) xs
     → Private (hole (caller 7) x) (claimLocal (caller 7) x) (claimLocal (caller 8) x) (fetchedIn 7) (fetchedIn 8) list
 
-demand3-fetched-met : Back fetchedIn (computed .2) (claimed 7) (claimed 8)
-demand3-fetched-met =
+by-fetched-claim : (needed : Outcome State Windows → List Item → List ℕ) → FetchedClaim needed → offRun (stackStart + 8) 2 (needed (fetchedIn 7) list) ≡ true
+    → Back fetchedIn (computed .2) (claimed 7) (claimed 8)
+by-fetched-claim needed d e =
     both-back fetchedIn (computed .2) (claimed 7) (claimed 8)
     (subst (λ (h : ℕ). Private h (claimed 7) (claimed 8) (fetchedIn 7) (fetchedIn 8) list) hole-is
-    (subst Claimed (computed .0 .5) (demand3-fetched lent (caller 7) (caller 8) PUSHJ list)
+    (subst (Claimed (needed (fetchedIn 7) list)) (computed .0 .5) (d lent (caller 7) (caller 8) PUSHJ list)
     (ranged _ (computed .0 .0) .0) (ranged _ (computed .0 .1) .0) (ranged _ (computed .0 .0) .1) (ranged _ (computed .0 .1) .1) (computed .0 .4) alike
-    (computed .2 .0) (computed .2 .1) (off-frame fetchedIn (computed .2))))
+    (computed .2 .0) (computed .2 .1) (off-frame _ e)))
+
+demand3-fetched-met : Back fetchedIn (computed .2) (claimed 7) (claimed 8)
+demand3-fetched-met = by-fetched-claim afterNeeds demand3-fetched (computed .2 .2)
+
+demand3-fetched-wider-met : Back fetchedIn (computed .2) (claimed 7) (claimed 8)
+demand3-fetched-wider-met = by-fetched-claim afterWiderNeeds demand3-fetched-wider (computed .2 .8)
 
 -- ---- rC is hidden, and is 1 in the one and 2 in the other
 
