@@ -1,6 +1,6 @@
 -- Instances of demand 3 with tasks, by step and fetched, and of a call and its POP anywhere in turns, all hypotheses computed. The program is that of model's Instance:
 -- task 0 calls and returns on its own part of B; in between task 1 asks for the frame, and is refused by 32.
-use mathlib.Core.Path.{_≡_, refl, sym, ap, subst, _∙_}
+use mathlib.Core.Path.{_≡_, refl, sym, subst}
 use mathlib.Core.Logic.{_≢_, inl}
 use mathlib.Core.Bool.{true}
 use mathlib.Core.List.{List, [], _∷_}
@@ -11,7 +11,7 @@ use lib.ListN.{length}
 use borrow.Author.Tests.{ltb-true}
 use Rattle.model.specs.Fill.{over, indexed, within, tab}
 use Rattle.model.specs.Octa.{octa, part, written, valueOf, bytesOf}
-use Rattle.model.specs.Registers.{rO, rS, stackStart, reg, sp, hideable, hides, admissible, fresh, goes, halted, withSpecial, cleared, claimLocal, stored, setRegister, spilled}
+use Rattle.model.specs.Registers.{rO, rS, stackStart, sp, hideable, hides, admissible, fresh, goes, halted, withSpecial, cleared, claimLocal, stored, setRegister, spilled, Sized, Words}
 use Rattle.model.specs.Memory.{Windows, shapeOf, ruledOne, offset, has, octaBytes, writeOcta, shapesOf, inside, octaAt, putOcta, both, ruled, shares}
 use Rattle.model.specs.Plan.{Outcome, All, Off, mapPlan, worst, named, look, looks, puts, perform, ups, missing, needs}
 use Rattle.model.specs.Opcodes.{opPOP, armOf}
@@ -22,26 +22,25 @@ use Rattle.model.specs.LoadStore.{bytesIn, unitAt, operandIn, loadFrom, extende
 use Rattle.model.specs.Lists.{Ran, stepOn, needsOf, runs, runNeedsBy}
 use Rattle.model.specs.Step.{step, fetched, opcodeIn, tetraOf, refusalOf, unruledBy, refusing, planOf, guarded, fromThree, stepPlan, claims, tetraAt, keepsClaim, settledBy, takenBack, instructionPlan, tetraPlan, fetchedPlan, itemPlan}
 use Rattle.model.specs.Run.{runFor}
-use Rattle.model.specs.Unseen.{SameSeen}
-use Rattle.model.specs.Ways.{Way, by-step, by-fetch, itemBy, xBy}
-use Rattle.model.specs.Demand.{Within, PUSHJ, AtPop}
+use Rattle.model.specs.Ways.{Way, by-step, by-fetch, itemBy}
+use Rattle.model.specs.Demand.{Within, PUSHJ, AtPop, xAt}
 use Rattle.model.specs.Bench.{start}
 use Rattle.model.specs.declared.State.{State}
 use Rattle.model.proofs.Bools.{each, at-each}
 use Rattle.model.proofs.Computed.{below, rangedState, ranged, offRun, off-run, poppable, at-pop}
-use Rattle.model.proofs.Instance.{lent, caller, callers-alike, hiding, same-seen}
+use Rattle.model.proofs.Instance.{lent, caller, callers-alike}
 use Rattle.studies.specs.Tasks.{Own, owns, foreign, refusingIn, turnJudge, turnPlan, taskOf, Turn, turn, studies, without32, turnNeeds}
 use Rattle.studies.specs.Schedule.{countBy, refusalBy, anyRuns, turnOf, turnsFrom, rounds, callBy}
-use Rattle.studies.specs.Call.{eachBelow, partRuled, overlaps, partClear, tasksRuled, turnRun, callOf, tasksOf}
-use Rattle.studies.specs.TasksMeant.{triedTurns, SameTasks, SameTasked}
+use Rattle.studies.specs.Call.{partAt, eachBelow, partRuled, overlaps, partClear, tasksRuled, turnRun, callOf}
+use Rattle.studies.specs.TasksMeant.{triedTurns}
 use Rattle.studies.specs.Lent.{Once, picked, renamed, TurnsBelow, amongAll}
 use Rattle.studies.specs.CallApart.{turnsTried}
-use Rattle.studies.specs.TaskDemand.{TasksAlike, turnOn, afterTurns, popIn, GivesBackTo, PrivateTo, Condition, anyParts, PartsApart, OwnFrame, ownNeeds}
-use Rattle.studies.specs.Anywhere.{Reading, Cut, turnsCut, atCall, calledAt, atPop, callerAt, holeAt, CallerThere, CalledThere, PopsThere, CameBack, AlikeThere, PrivateThere}
-use Rattle.studies.proofs.TaskDemand.{demand3-tasks, demand3-own}
+use Rattle.studies.specs.TaskDemand.{TasksAlike, turnOn, afterTurns, popIn, GivesBackTo, PrivateTo, Condition, FetchedClaimIn, anyParts, PartsApart, OwnFrame, ownNeeds}
+use Rattle.studies.specs.Anywhere.{Cut, turnsCut, atCall, calledAt, atPop, callerAt, holeAt, CallerThere, CalledThere, PopsThere, CameBack, AlikeThere}
+use Rattle.studies.proofs.TaskDemand.{demand3-tasks, demand3-tasks-fetched, demand3-own, demand3-own-fetched}
+use Rattle.studies.proofs.Parts.{parts-meant}
 use Rattle.studies.proofs.CallApart.{calls-apart}
 use Rattle.studies.proofs.Lent.{lent-turns}
-use Rattle.studies.proofs.TasksUnseen.{tasks-unseen}
 use Rattle.studies.proofs.Anywhere.{anywhere, anywhere-own, anywhere-twice, anywhere-own-twice}
 
 -- ---- two tasks
@@ -124,6 +123,7 @@ computed : ((rangedState (caller 7) ≡ true) × (rangedState (caller 8) ≡ tru
     × Met (by-step 1 0 2) × MetAt (cut swym list) (begun 7) × MetAt (cut [] list) (tasks 7) × MetAt (cut [] list) (tasks 8)
     × (taskOf (calledAt (cut [] list) (tasks 7) lent .state) 0 .pc ≡ taskOf (calledAt (cut [] list) (tasks 8) lent .state) 0 .pc)
     × MetAt (cut [] between) (tasks 7) × (tasksRuled 48 parts 1 ≡ true) × (turnsTried lent (tasks 7) parts 1 5 ≡ turnsCut (cut [] between))
+    × (Met by-fetch × (opcodeIn (tetraOf lent (caller 7)) ≡ 0xF2) × (xAt lent (caller 7) ≡ 1))
 unfolding eachBelow partRuled overlaps partClear tasksRuled countBy refusalBy anyRuns turnOf turnsFrom rounds callBy turnRun callOf runFor triedTurns over indexed within tab octa part written valueOf bytesOf hideable hides admissible fresh goes halted withSpecial cleared claimLocal stored setRegister spilled shapeOf ruledOne offset has octaBytes writeOcta shapesOf inside octaAt putOcta both ruled shares mapPlan worst named look looks puts perform ups missing needs armOf tell targetOf hole framed slid slide pushedRule pushed pushFrame countOf lastOutput restored unslide popped popTo popRule noFrame misplaced popFrame bytesIn unitAt operandIn loadFrom extended stepOn needsOf runs runNeedsBy refusalOf unruledBy refusing planOf guarded fromThree stepPlan claims tetraAt keepsClaim settledBy takenBack instructionPlan tetraPlan fetchedPlan itemPlan start owns foreign refusingIn turnJudge turnPlan studies without32 turnNeeds ownNeeds each below rangedState offRun poppable
 computed = (
   (refl, refl, refl, refl, refl),
@@ -135,6 +135,7 @@ computed = (
   (refl, refl, refl, refl, refl, refl, refl, refl, refl, refl, (refl, refl)),
   refl,
   refl,
+  ((refl, refl, refl, refl, refl, (refl, refl), (refl, refl)), refl, refl),
 )
 
 -- of the frame's place and size, by the numbers that these are
@@ -174,6 +175,38 @@ demand3-own-met =
     stepped (demand3-own own lent (tasks 7) (tasks 8) 0 PUSHJ 1 0 2 list (at-frame (λ a h. OwnFrame own lent a (h + 1) 0 list) own-frame) (omega arith)
     (ranged _ (computed .0 .0) .0) (ranged _ (computed .0 .1) .0) (ranged _ (computed .0 .0) .1) (ranged _ (computed .0 .1) .1) alike (computed .1 .0) (computed .1 .1)
     (at-frame (λ a h. All (Off (Within a (h + 1))) (runNeedsBy both studies (ownNeeds 0) (called stepping 7 .state) (called stepping 7 .memory) list)) (off-run (stackStart + 8) 2 _ (computed .1 .3))))
+
+-- ---- the same, the call fetched
+
+abbrev claimed : ℕ → State
+claimed v = claimLocal (caller v) 1
+
+-- a theorem's claim, X of the tetra being x
+abbrev Claimed : (ℕ → ℕ → Type 0) → List ℕ → ℕ → Type 0
+Claimed parted xs x = parted (sp (caller 7) rO) (hole (caller 7) x + 1) → 0 < length (tasks 7) → Sized (caller 7) → Sized (caller 8) → Words (caller 7) → Words (caller 8)
+    → opcodeIn (tetraOf lent (caller 7)) ≡ 0xF2 → TasksAlike 0 (hole (caller 7) x) (tasks 7) (tasks 8)
+    → called by-fetch 7 .reply ≡ 0 → taskOf (called by-fetch 7 .state) 0 .pc ≡ taskOf (called by-fetch 8 .state) 0 .pc
+    → All (Off (Within (sp (caller 7) rO) (hole (caller 7) x + 1))) xs
+    → PrivateTo own 0 (hole (caller 7) x) (claimLocal (caller 7) x) (claimLocal (caller 8) x) (called by-fetch 7) (called by-fetch 8) list
+
+by-claim : (parted : Condition) (needed : ℕ → List State → Windows → Turn → List ℕ) → FetchedClaimIn parted needed → parted own lent (stackStart + 8) 2 0 list
+    → offRun (stackStart + 8) 2 (runNeedsBy both studies (needed 0) (called by-fetch 7 .state) (called by-fetch 7 .memory) list) ≡ true
+    → Back by-fetch (claimed 7) (claimed 8)
+by-claim parted needed d h e =
+    both-back by-fetch (claimed 7) (claimed 8) (computed .9 .0)
+    (subst (λ (n : ℕ). PrivateTo own 0 n (claimed 7) (claimed 8) (called by-fetch 7) (called by-fetch 8) list) (computed .0 .2)
+    (subst (Claimed (λ a n. parted own lent a n 0 list) (runNeedsBy both studies (needed 0) (called by-fetch 7 .state) (called by-fetch 7 .memory) list)) (computed .9 .2)
+    (d own lent (tasks 7) (tasks 8) 0 PUSHJ list)
+    (at-frame (λ a n. parted own lent a (n + 1) 0 list) h) (omega arith)
+    (ranged _ (computed .0 .0) .0) (ranged _ (computed .0 .1) .0) (ranged _ (computed .0 .0) .1) (ranged _ (computed .0 .1) .1)
+    (computed .9 .1) alike (computed .9 .0 .0) (computed .9 .0 .1)
+    (at-frame (λ a n. All (Off (Within a (n + 1))) (runNeedsBy both studies (needed 0) (called by-fetch 7 .state) (called by-fetch 7 .memory) list)) (off-run (stackStart + 8) 2 _ e))))
+
+demand3-tasks-fetched-met : Back by-fetch (claimed 7) (claimed 8)
+demand3-tasks-fetched-met = by-claim anyParts (λ c. turnNeeds) demand3-tasks-fetched tt (computed .9 .0 .2)
+
+demand3-own-fetched-met : Back by-fetch (claimed 7) (claimed 8)
+demand3-own-fetched-met = by-claim OwnFrame ownNeeds demand3-own-fetched own-frame (computed .9 .0 .3)
 
 -- ---- anywhere in turns
 
@@ -237,32 +270,19 @@ between-apart : PartsApart own 0 between
 unfolding PartsApart
 between-apart = (λ n. inl (omega arith), (λ n. absurd (n refl), (λ n. inl (omega arith), tt)))
 
+-- the turns that it tries are apart from task 0's part
+parts-meant-met : PartsApart (partAt parts 0) 0 (turnsTried lent (tasks 7) parts 1 5)
+parts-meant-met = parts-meant .turns-apart 48 parts 1 (computed .7) lent (tasks 7) 5 0 (omega arith)
+
 calls-apart-met : CameBack (cut [] between) (tasks 7) lent
 calls-apart-met =
     let c : CalledThere (cut [] between) (tasks 7) lent OwnFrame ownNeeds = called-own [] between _ (computed .6) between-apart in
     calls-apart 48 lent (tasks 7) parts 1 5 (computed .7) .comes-back (cut [] between) (computed .8) (there [] between _ (computed .6))
     (record { names = c .names; done = c .done; in-b = c .parts .in-b; off = c .off }) (pops [] between _ (computed .6))
 
--- ---- tasks that are lent, and hidden registers
+-- ---- tasks that are lent
 
 -- task 1 alone is lent
 lent-turns-met : runs both studies (tasks 7) lent (turn 1 others fetched ∷ []) ≡ amongAll (tasks 7) (1 ∷ []) (runs both studies (picked fresh (tasks 7) (1 ∷ [])) lent (turn 0 others fetched ∷ []))
 unfolding renamed Once TurnsBelow
 lent-turns-met = lent-turns .turns-among (tasks 7) lent (1 ∷ []) (turn 0 others fetched ∷ []) (omega arith, (λ k l. absurd (omega arith)), tt) (omega arith, tt)
-
-same-tasks : SameTasks (hiding 1 ∷ []) (hiding 2 ∷ [])
-same-tasks = record { count-same = refl; seen-same = each-seen }
-  where
-    each-seen : (k : ℕ) → SameSeen (taskOf (hiding 1 ∷ []) k) (taskOf (hiding 2 ∷ []) k)
-    each-seen zero = same-seen 1 2
-    each-seen (suc k) = record {
-      general-same = refl;
-      special-same = record { count-same = refl; seen-same = λ i h. refl };
-      pc-same = refl;
-      halt-same = refl;
-      marks-same = refl;
-      mask-same = refl;
-    }
-
-tasks-unseen-met : SameTasked (tasksOf lent (hiding 1 ∷ []) (8 ∷ 16 ∷ []) 1 5) (tasksOf lent (hiding 2 ∷ []) (8 ∷ 16 ∷ []) 1 5)
-tasks-unseen-met = tasks-unseen .by-call lent (hiding 1 ∷ []) (hiding 2 ∷ []) (8 ∷ 16 ∷ []) 1 5 same-tasks

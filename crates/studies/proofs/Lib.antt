@@ -29,4 +29,5 @@ pub mod Listed
 pub mod TasksUnseen
 pub mod TasksMeant
 pub mod Instance
+pub mod UnseenInstance
 pub mod ParkedInstance

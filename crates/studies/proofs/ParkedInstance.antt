@@ -13,26 +13,27 @@ use Rattle.model.specs.Fill.{over, indexed, within, tab}
 use Rattle.model.specs.Octa.{octa, part, written, valueOf, bytesOf}
 use Rattle.model.specs.Registers.{rO, rS, rG, rL, stackStart, reg, sp, hideable, hides, admissible, fresh, goes, halted, withSpecial, cleared, claimLocal, stored, setRegister, putLocals, putGlobals, spilled}
 use Rattle.model.specs.Memory.{Windows, shapeOf, ruledOne, offset, has, octaBytes, writeOcta, shapesOf, inside, octaAt, putOcta, both, ruled, shares}
-use Rattle.model.specs.Plan.{mapPlan, worst, named, look, looks, puts, perform, ups, missing, needs}
-use Rattle.model.specs.Opcodes.{armOf}
+use Rattle.model.specs.Plan.{Outcome, mapPlan, worst, named, look, looks, puts, perform, ups, missing, needs}
+use Rattle.model.specs.Opcodes.{opSAVE, opUNSAVE, armOf}
 use Rattle.model.specs.NoMemory.{tell}
 use Rattle.model.specs.Control.{targetOf}
 use Rattle.model.specs.Frames.{hole, framed, slid, slide, pushedRule, pushed, pushFrame}
 use Rattle.model.specs.Contexts.{extent, savedSpecial, saved, savedUnspilled, savedState, saveContext, unsavedGeneral, unsavedSpecial, unsavedUnspilled, unsaved, contextRest, contextCount, contextAt, unsaveContext}
 use Rattle.model.specs.System.{putRefusal, putState, unlessHidden, putSpecial}
 use Rattle.model.specs.LoadStore.{bytesIn, unitAt, operandIn}
-use Rattle.model.specs.Lists.{stepOn, needsOf, runs, runNeedsBy}
-use Rattle.model.specs.Step.{fetched, opcodeIn, tetraOf, refusalOf, unruledBy, refusing, planOf, guarded, fromThree, stepPlan, claims, tetraAt, keepsClaim, settledBy, takenBack, instructionPlan, tetraPlan, fetchedPlan, itemPlan}
-use Rattle.model.specs.Ways.{by-fetch, xBy, zBy}
+use Rattle.model.specs.Lists.{Ran, stepOn, needsOf, runs, runNeedsBy}
+use Rattle.model.specs.Step.{fetched, opcodeIn, tetraOf, refusalOf, unruledBy, refusing, planOf, guarded, fromThree, stepPlan, claims, tetraAt, keepsClaim, settledBy, takenBack, instructionPlan, tetraPlan, fetchedPlan, fetchedOf, itemPlan, mmix}
+use Rattle.model.specs.Ways.{by-fetch, xBy, zBy, doneBy}
+use Rattle.model.specs.Demand.{after, afterNeeds}
 use Rattle.model.specs.Bench.{start}
 use Rattle.model.specs.declared.State.{State}
 use Rattle.model.proofs.Bools.{each}
 use Rattle.model.proofs.Computed.{below, rangedState, ranged, offRun, off-run}
-use Rattle.studies.specs.Tasks.{Own, owns, foreign, refusingIn, turnJudge, turnPlan, taskOf, Turn, turn, studies, without32, turnNeeds}
+use Rattle.studies.specs.Tasks.{Own, owns, foreign, refusingIn, turnJudge, turnPlan, taskOf, turn, studies, without32, turnNeeds}
 use Rattle.studies.specs.TaskDemand.{turnOn}
-use Rattle.studies.specs.Parked.{savedBy, untilUnsave, UnparksTo}
+use Rattle.studies.specs.Parked.{untilUnsave, UnparksTo, Unparks}
 use Rattle.studies.specs.ParkedAnywhere.{Park, atSave, savedAt, atUnsave, saverAt, saverX, Unparked}
-use Rattle.studies.proofs.ParkedTasks.{parked-tasks}
+use Rattle.studies.proofs.ParkedTasks.{parked-tasks, parked-survives}
 use Rattle.studies.proofs.ParkedAnywhere.{parked-anywhere}
 
 abbrev octas : List ℕ → List ℕ
@@ -73,6 +74,16 @@ park = record {
   rest = [];
 }
 
+-- the first task without the other, the SWYM in between
+abbrev parked : State
+parked = taskOf tasks 0
+
+abbrev savedAlone : Outcome State Windows
+savedAlone = doneBy by-fetch opSAVE lent parked
+
+abbrev waited : Ran State Windows
+waited = after savedAlone (fetched ∷ [])
+
 computed : (ltb 0 (length (atSave park tasks lent .state)) ≡ true) × (rangedState (saverAt park tasks lent) ≡ true)
     × (opcodeIn (tetraOf (atSave park tasks lent .memory) (saverAt park tasks lent)) ≡ 0xFA) × (ltb (saverX park tasks lent) 256 ≡ true) × (savedAt park tasks lent .reply ≡ 0)
     × (offRun (sp (saverAt park tasks lent) rO) (extent (saverAt park tasks lent)) (runNeedsBy both studies turnNeeds (savedAt park tasks lent .state) (savedAt park tasks lent .memory) (park .list)) ≡ true)
@@ -80,8 +91,11 @@ computed : (ltb 0 (length (atSave park tasks lent .state)) ≡ true) × (rangedS
     × (refusingIn own (shapesOf (atUnsave park tasks lent .memory)) (taskOf (atUnsave park tasks lent .state) 0 .pc) ≡ 0)
     × (reg (taskOf (atUnsave park tasks lent .state) 0) (zBy by-fetch (atUnsave park tasks lent .memory) (taskOf (atUnsave park tasks lent .state) 0))
     ≡ reg (taskOf (savedAt park tasks lent .state) 0) (saverX park tasks lent))
-unfolding over indexed within tab octa part written valueOf bytesOf hideable hides admissible fresh goes halted withSpecial cleared claimLocal stored setRegister putLocals putGlobals spilled shapeOf ruledOne offset has octaBytes writeOcta shapesOf inside octaAt putOcta both ruled shares mapPlan worst named look looks puts perform ups missing needs armOf tell targetOf hole framed slid slide pushedRule pushed pushFrame savedSpecial saved savedUnspilled savedState saveContext unsavedGeneral unsavedSpecial unsavedUnspilled unsaved contextRest contextCount contextAt unsaveContext putRefusal putState unlessHidden putSpecial bytesIn unitAt operandIn stepOn needsOf runs runNeedsBy refusalOf unruledBy refusing planOf guarded fromThree stepPlan claims tetraAt keepsClaim settledBy takenBack instructionPlan tetraPlan fetchedPlan itemPlan start owns foreign refusingIn turnJudge turnPlan studies without32 turnNeeds each below rangedState offRun
-computed = (refl, refl, refl, refl, refl, refl, refl, refl, refl)
+    × ((savedAlone .reply ≡ 0) × (offRun (sp parked rO) (extent parked) (afterNeeds savedAlone (fetched ∷ [])) ≡ true)
+    × (opcodeIn (tetraOf (waited .memory) (waited .state)) ≡ 0xFB) × (refusing (shapesOf (waited .memory)) (waited .state .pc) ≡ 0)
+    × (reg (waited .state) (zBy by-fetch (waited .memory) (waited .state)) ≡ reg (savedAlone .state) (xBy by-fetch lent parked)))
+unfolding over indexed within tab octa part written valueOf bytesOf hideable hides admissible fresh goes halted withSpecial cleared claimLocal stored setRegister putLocals putGlobals spilled shapeOf ruledOne offset has octaBytes writeOcta shapesOf inside octaAt putOcta both ruled shares mapPlan worst named look looks puts perform ups missing needs armOf tell targetOf hole framed slid slide pushedRule pushed pushFrame savedSpecial saved savedUnspilled savedState saveContext unsavedGeneral unsavedSpecial unsavedUnspilled unsaved contextRest contextCount contextAt unsaveContext putRefusal putState unlessHidden putSpecial bytesIn unitAt operandIn stepOn needsOf runs runNeedsBy refusalOf unruledBy refusing planOf guarded fromThree stepPlan claims tetraAt keepsClaim settledBy takenBack instructionPlan tetraPlan fetchedPlan fetchedOf itemPlan mmix start owns foreign refusingIn turnJudge turnPlan studies without32 turnNeeds each below rangedState offRun
+computed = (refl, refl, refl, refl, refl, refl, refl, refl, refl, (refl, refl, refl, refl, refl))
 
 parked-anywhere-met : Unparked park tasks lent
 parked-anywhere-met =
@@ -95,3 +109,9 @@ unfolding runs
 parked-tasks-met =
     parked-tasks own lent tasks 0 by-fetch by-fetch (park .list) (omega arith) (ranged _ (computed .1) .0) (ranged _ (computed .1) .1)
     (computed .2) (ltb-true _ _ (computed .3)) (computed .4) (off-run _ _ _ (computed .5)) (record { names = computed .6; lent = computed .7; address = computed .8 })
+
+parked-survives-met : Unparks parked waited (doneBy by-fetch opUNSAVE (waited .memory) (waited .state))
+unfolding runs
+parked-survives-met =
+    parked-survives lent parked by-fetch by-fetch (fetched ∷ []) (ranged _ (computed .1) .0) (ranged _ (computed .1) .1) (computed .2) (ltb-true _ _ (computed .3))
+    (computed .9 .0) (off-run _ _ _ (computed .9 .1)) (record { names = computed .9 .2; lent = computed .9 .3; address = computed .9 .4 })
