@@ -1,4 +1,4 @@
--- An instance of what a fetched instruction is outside the departures, all hypotheses computed: the call of Instance is Knuth's.
+-- An instance of what a step and a fetched instruction are outside the departures, all hypotheses computed: the call of Instance is Knuth's.
 use mathlib.Core.Path.{_≡_, refl, sym, ap, subst, _∙_}
 use mathlib.Core.Bool.{true, false}
 use Prim.Native.Nat.{ℕ, zero, suc, _<_}
@@ -11,7 +11,7 @@ use Rattle.model.specs.Plan.{mapOutcome, look}
 use Rattle.model.specs.Opcodes.{forward, Arm, pushJump, armOf}
 use Rattle.model.specs.Frames.{hole, noFrame, misplaced}
 use Rattle.model.specs.LoadStore.{bytesIn, unitAt, operandIn}
-use Rattle.model.specs.Step.{unruledBy, claims, opcodeIn, xIn, yIn, zIn, claimedBy, fetchedOf, tetraAt, tetraOf, claimedAt}
+use Rattle.model.specs.Step.{unruledBy, stepOf, claims, opcodeIn, xIn, yIn, zIn, claimedBy, fetchedOf, tetraAt, tetraOf, claimedAt}
 use Rattle.model.specs.Fetched.{Fetches}
 use Rattle.model.specs.Rules.{readRule, After, goesOn, interrupts, settled, settledRule}
 use Rattle.model.specs.Departures.{ReadsAlike, Outside, fetchedRule}
@@ -85,8 +85,12 @@ outside x y z h = record {
   arithmetic-loaded = λ f p q e. absurd (no-call _ refl e);
 }
 
+outside-here : Outside lent claimed (armOf (opcodeIn word)) (xIn word) (yIn word) (zIn word)
+outside-here = subst (λ (a : Arm). Outside lent claimed a (xIn word) (yIn word) (zIn word)) (sym (computed .5)) (outside (xIn word) (yIn word) (zIn word) (computed .6))
+
+by-step-met : mapOutcome goesOn (stepOf lent claimed (opcodeIn word) (xIn word) (yIn word) (zIn word)) ≡ settledRule lent claimed (opcodeIn word) (xIn word) (yIn word) (zIn word)
+by-step-met = departures .by-step lent claimed (opcodeIn word) (xIn word) (yIn word) (zIn word) outside-here
+
 by-fetched-met : mapOutcome goesOn (fetchedOf lent (caller 7))
     ≡ fetchedRule (caller 7) (opcodeIn word) (settledRule lent claimed (opcodeIn word) (xIn word) (yIn word) (zIn word))
-by-fetched-met =
-    departures .by-fetched lent (caller 7) (ranged _ (computed .0) .0) fetches
-    (subst (λ (a : Arm). Outside lent claimed a (xIn word) (yIn word) (zIn word)) (sym (computed .5)) (outside (xIn word) (yIn word) (zIn word) (computed .6)))
+by-fetched-met = departures .by-fetched lent (caller 7) (ranged _ (computed .0) .0) fetches outside-here
