@@ -5,7 +5,7 @@
 //! The subject is the proved library with the feature `library`, else the model. Columns: the Rust's arm in place;
 //! the same instruction fetched from the Rust's memory and decoded; the subject's step on parts, on a lent state
 //! and on an image (there exceptions too). A point of two instructions has the sum of both. Behind the times stand
-//! the ratios, each with its target and whether it is met. The Rust has no arm for loads, stores and arithmetic: they are
+//! the ratios by target, and whether it is met. It is printed as docs/SPEED.md has it. The Rust has no arm for loads, stores and arithmetic: they are
 //! checked by the model, and set against a branch; a subject that has no such arm either has no times there. Arithmetic has
 //! in the Rust's column the operation alone, by Rust's own integers; a division there is one of 128 bits by 64, without
 //! the remainder. The window is lent as B; A is empty, or, where the name says so, the bench program's. Finding a field has a
@@ -299,14 +299,22 @@ fn main() {
         }
     }
     println!(
-        "nanoseconds, the least of {PASSES} x {REPEATS}; memcpy of an image {copy:.1}; subject: {}",
+        "Nanoseconds, the least of {} repeats; subject: {}; a copy of an image {copy:.1}.\n",
+        PASSES * REPEATS,
         subject.name()
     );
+    report::print(&points, &rows);
     let [ahead, behind, none] = fields;
-    println!("a jump's field: ahead {ahead:.1}, behind {behind:.1}, out of reach {none:.1}");
+    println!("\nA jump's field: ahead {ahead:.1}, behind {behind:.1}, out of reach {none:.1}.");
     let [four, most, four_image, most_image] = sets;
-    println!("a set of 4 pairs, of 32: {four:.1}, {most:.1}; on an image {four_image:.1}, {most_image:.1}");
-    report::print(&points, &rows, copy);
-    let branch = points.iter().position(|point| point.name == BRANCH).map_or(f64::NAN, |k| rows[k].arm);
-    runs::print(&programs, &times, branch);
+    println!("A set of 4 pairs {four:.1}, of 32 {most:.1}; on an image {four_image:.1} and {most_image:.1}.");
+    let mut targets = report::targets(&points, &rows, copy);
+    if !programs.is_empty() {
+        println!("\nRuns, nanoseconds an instruction:\n");
+        runs::print(&programs, &times);
+        let branch = points.iter().position(|point| point.name == BRANCH).map_or(f64::NAN, |k| rows[k].arm);
+        targets.extend(runs::targets(&programs, &times, branch));
+    }
+    println!("\nTargets, of this run:\n");
+    report::print_targets(&targets);
 }

@@ -1,4 +1,4 @@
-//! The table of times, and the ratios beside their targets.
+//! The tables of times and of the ratios beside their targets, as docs/SPEED.md has them.
 
 use crate::points::{BRANCH, Kind, Point};
 
@@ -30,12 +30,15 @@ impl Row {
     }
 }
 
-/// A ratio that must be at most, or at least, its target.
-struct Target {
-    what: &'static str,
-    ratio: f64,
-    bound: f64,
-    at_most: bool,
+/// A ratio that must be at most, or at least, its bound.
+pub struct Target {
+    /// The two times of which it is the ratio.
+    pub what: &'static str,
+    /// The row that has it.
+    pub of: String,
+    pub ratio: f64,
+    pub bound: f64,
+    pub at_most: bool,
 }
 
 impl Target {
@@ -44,48 +47,71 @@ impl Target {
     }
 }
 
-fn at_most(bound: f64, what: &'static str, ratio: f64) -> Target {
-    Target { what, ratio, bound, at_most: true }
-}
-
-fn at_least(bound: f64, what: &'static str, ratio: f64) -> Target {
-    Target { what, ratio, bound, at_most: false }
-}
-
 /// What each kind of point is held to; a copy of the image is set against one instruction, a branch's time against a load,
 /// store or operation, and Rust's division against DIVU.
-fn targets(point: &Point, row: &Row, copy: f64, branch: f64) -> Vec<Target> {
-    let copies = copy * point.instructions() as f64;
-    match point.kind {
-        Kind::Simple => vec![
-            at_most(2.0, "parts / arm", row.parts / row.arm),
-            at_least(10.0, "fetched / parts", row.fetched / row.parts),
-            at_most(5.0, "lent / memcpy", row.lent / copies),
-            at_most(14.0, "image / memcpy", row.image / copies),
-        ],
-        Kind::Exception => vec![at_most(14.0, "image / memcpy", row.image / copies)],
-        Kind::Memory { times } => vec![at_least(times as f64, "arm / parts", row.arm / row.parts)],
-        Kind::Transfer => vec![at_most(2.5, "parts / BN", row.parts / branch)],
-        Kind::Operation => vec![at_most(2.0, "parts / BN", row.parts / branch)],
-        Kind::Division { held: true } => vec![at_most(5.0, "parts / Rust's", row.parts / row.arm)],
-        Kind::Division { held: false } => Vec::new(),
-    }
+pub fn targets(points: &[Point], rows: &[Row], copy: f64) -> Vec<Target> {
+    let branch = points.iter().position(|point| point.name == BRANCH).map_or(f64::NAN, |k| rows[k].parts);
+    let of_point = |(point, row): (&Point, &Row)| -> Vec<Target> {
+        let copies = copy * point.instructions() as f64;
+        let held = |at_most, bound, what, ratio| Target { what, of: point.name.clone(), ratio, bound, at_most };
+        match point.kind {
+            Kind::Simple => vec![
+                held(true, 2.0, "simple step in place / the Rust's arm", row.parts / row.arm),
+                held(false, 10.0, "the Rust's fetched instruction / simple step in place", row.fetched / row.parts),
+                held(true, 5.0, "mmix_step_lent / copy of an image", row.lent / copies),
+                held(true, 14.0, "mmix_step, mmix_exceptions / copy of an image", row.image / copies),
+            ],
+            Kind::Exception => {
+                vec![held(true, 14.0, "mmix_step, mmix_exceptions / copy of an image", row.image / copies)]
+            }
+            Kind::Memory { times } => vec![held(
+                false,
+                times as f64,
+                "the Rust's arms / call and return, save and unsave in place",
+                row.arm / row.parts,
+            )],
+            Kind::Transfer => vec![held(true, 2.5, "load or store in place / BN in place", row.parts / branch)],
+            Kind::Operation => vec![held(true, 2.0, "operation in place / BN in place", row.parts / branch)],
+            Kind::Division { held: true } => {
+                vec![held(true, 5.0, "DIVU with rD > 0 in place / Rust's division of 128 bits", row.parts / row.arm)]
+            }
+            Kind::Division { held: false } => Vec::new(),
+        }
+    };
+    points.iter().zip(rows).flat_map(of_point).collect()
 }
 
-pub fn print(points: &[Point], rows: &[Row], copy: f64) {
-    println!("{:<34}{:>10}{:>10}{:>10}{:>10}{:>10}", "point", "arm", "fetched", "parts", "lent", "image");
-    for (row, point) in rows.iter().zip(points) {
-        let columns = row.columns().map(|t| if t.is_finite() { format!("{t:>10.1}") } else { format!("{:>10}", "-") });
-        println!("{:<34}{}", point.name, columns.concat());
-    }
-    println!();
-    let branch = points.iter().position(|point| point.name == BRANCH).map_or(f64::NAN, |k| rows[k].parts);
-    for (row, point) in rows.iter().zip(points) {
-        for target in targets(point, row, copy, branch) {
-            let Target { what, ratio, bound, at_most } = target;
-            let (sense, verdict) = (if at_most { "at most" } else { "at least" }, target.met());
-            let verdict = if verdict { "met" } else { "NOT MET" };
-            println!("{:<34}{what:<18}{ratio:>8.2}   {sense:<8} {bound:>3}   {verdict}", point.name);
+/// A row of a table; a time that there is not is a dash.
+pub fn print_row(name: &str, times: &[f64]) {
+    let columns = times.iter().map(|t| if t.is_finite() { format!(" {t:.1} |") } else { " – |".to_string() });
+    println!("| {name} |{}", columns.collect::<String>());
+}
+
+pub fn print(points: &[Point], rows: &[Row]) {
+    println!("| | arm | fetched | parts | lent | image |\n|---|---|---|---|---|---|");
+    points.iter().zip(rows).for_each(|(point, row)| print_row(&point.name, &row.columns()));
+}
+
+/// The targets, those of one bound in one row: the ratios' range, and which rows miss it.
+pub fn print_targets(targets: &[Target]) {
+    println!("| what | ratio | target | |\n|---|---|---|---|");
+    for (k, first) in targets.iter().enumerate() {
+        let same = |target: &&Target| target.what == first.what && target.bound == first.bound;
+        if targets[..k].iter().any(|target| same(&target)) {
+            continue;
         }
+        let group: Vec<&Target> = targets.iter().filter(same).collect();
+        let least = group.iter().map(|target| target.ratio).fold(f64::INFINITY, f64::min);
+        let most = group.iter().map(|target| target.ratio).fold(0.0, f64::max);
+        let missed: Vec<String> =
+            group.iter().filter(|t| !t.met()).map(|t| format!("{} {:.2}", t.of, t.ratio)).collect();
+        let verdict = if missed.is_empty() { "met".to_string() } else { format!("missed: {}", missed.join("; ")) };
+        let range = if group.len() == 1 { format!("{least:.2}") } else { format!("{least:.2} to {most:.2}") };
+        println!(
+            "| {} | {range} | at {} {} | {verdict} |",
+            first.what,
+            if first.at_most { "most" } else { "least" },
+            first.bound
+        );
     }
 }

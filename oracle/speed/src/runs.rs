@@ -11,6 +11,7 @@ use oracle::state::{MARKS_MAX, RG, RJ, RL, RO, RS, STACK_START, State};
 use oracle::subject::{Subject, Told};
 use taken_plain::mmix::MMix;
 
+use crate::report::{Target, print_row};
 use crate::{Silent, least};
 
 /// Instructions a call: long enough that judging state and windows is not seen, and a call of 100 beside it.
@@ -260,31 +261,25 @@ pub fn chosen(subject: &impl Subject, only: &str) -> Vec<Program> {
     programs
 }
 
-/// The table, and each ratio beside what it is held to; `branch` is the time of the Rust's bare branch arm.
-pub fn print(programs: &[Program], times: &[Times], branch: f64) {
-    if programs.is_empty() {
-        return;
-    }
-    println!("\nruns, nanoseconds an instruction");
-    println!("{:<34}{:>10}{:>10}{:>10}{:>10}{:>10}", "program", "fetched", "run", "of 100", "image", "tasks");
-    for (program, Times(row)) in programs.iter().zip(times) {
-        let columns = row.map(|t| if t.is_finite() { format!("{t:>10.2}") } else { format!("{:>10}", "-") });
-        println!("{:<34}{}", program.name, columns.concat());
-    }
-    println!();
-    for (program, Times([fetched, run, ..])) in programs.iter().zip(times) {
-        let (what, ratio, sense, bound, met) = match program.held {
-            Held::Times(bound) => ("fetched / run", fetched / run, "at least", bound, fetched / run >= bound),
-            Held::Branches(bound) => ("run / BN's arm", run / branch, "at most", bound, run / branch <= bound),
-            Held::Measured => continue,
+pub fn print(programs: &[Program], times: &[Times]) {
+    println!("| | the Rust, fetched | run | run of 100 | on an image | eight tasks |\n|---|---|---|---|---|---|");
+    programs.iter().zip(times).for_each(|(program, Times(row))| print_row(program.name, row));
+}
+
+/// What the programs are held to; `branch` is the time of the Rust's bare branch arm.
+pub fn targets(programs: &[Program], times: &[Times], branch: f64) -> Vec<Target> {
+    let of_program = |(program, Times([fetched, run, .., tasks])): (&Program, &Times)| {
+        let held = |at_most, bound, what, ratio| Target { what, of: program.name.to_string(), ratio, bound, at_most };
+        let of_run = match program.held {
+            Held::Times(bound) => {
+                Some(held(false, bound, "the Rust's fetched instruction / instruction of a run", fetched / run))
+            }
+            Held::Branches(bound) => Some(held(true, bound, "instruction of a run / the Rust's bare BN", run / branch)),
+            Held::Measured => None,
         };
-        let verdict = if met { "met" } else { "NOT MET" };
-        println!("{:<34}{what:<18}{ratio:>8.2}   {sense:<8} {bound:>3}   {verdict}", program.name);
-    }
-    let worst = times.iter().map(|Times([_, run, .., tasks])| tasks / run).fold(0.0, f64::max);
-    let verdict = if worst <= TASKS_HELD { "met" } else { "NOT MET" };
-    println!(
-        "{:<34}{:<18}{worst:>8.2}   at most  {TASKS_HELD:>3}   {verdict}",
-        "eight tasks, the worst of these", "tasks / run"
-    );
+        [of_run, Some(held(true, TASKS_HELD, "instruction in eight tasks / in a run", tasks / run))]
+            .into_iter()
+            .flatten()
+    };
+    programs.iter().zip(times).flat_map(of_program).collect()
 }

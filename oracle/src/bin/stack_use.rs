@@ -288,7 +288,12 @@ fn main() -> ExitCode {
         let depths = depths(&mut painted, &mut reference, seed, batch);
         most.iter_mut().zip(depths).for_each(|(most, depth)| *most = depth.max(*most));
     }
-    println!("bytes of stack, {} cases, seed {seed}; subject: {}", batches * BATCH * ROUND, chosen().name());
-    ENTRIES.iter().zip(&most).for_each(|((name, _), most)| println!("{name:<22}{most:>8}"));
+    println!(
+        "\nBytes of stack at the deepest, {} cases, seed {seed}; subject: {}.\n",
+        batches * BATCH * ROUND,
+        chosen().name()
+    );
+    println!("| function | bytes |\n|---|---|");
+    ENTRIES.iter().zip(&most).for_each(|((name, _), most)| println!("| {name} | {most} |"));
     if most.iter().all(|most| *most <= MOST) { ExitCode::SUCCESS } else { ExitCode::FAILURE }
 }
