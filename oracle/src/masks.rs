@@ -23,8 +23,8 @@ const OPS: [u8; 24] = [
 ];
 
 /// What a call answers beside what it leaves.
-struct Told {
-    answer: Answer,
+pub(crate) struct Told {
+    pub(crate) answer: Answer,
     /// A run's first instructions by the Rust, or all.
     cut: bool,
 }
@@ -100,7 +100,7 @@ fn hidden(state: &State, i: Instruction) -> bool {
     named(i).is_some_and(|k| state.hides(k))
 }
 
-fn mask(random: &mut Random, case: &Case) -> u64 {
+pub(crate) fn mask(random: &mut Random, case: &Case) -> u64 {
     let bit = match case.call {
         Call::Step(i) => named(i).filter(|k| *k < 32).map_or(0, |k| 1 << k),
         _ => 0,
@@ -117,7 +117,7 @@ fn mask(random: &mut Random, case: &Case) -> u64 {
 }
 
 /// A program, often with a GET or PUT near its start of a register that may be hidden.
-fn asking(random: &mut Random) -> Case {
+pub(crate) fn asking(random: &mut Random) -> Case {
     let mut case = programs::single(random);
     let at = (case.state.pc & !3).wrapping_add(4 * random.below(6));
     let register = random.below(32) as u8;
@@ -147,7 +147,7 @@ fn drawn(random: &mut Random) -> Case {
 }
 
 /// What the Rust leaves of the case, and 31 where the mask comes in.
-fn expected(reference: &mut Reference, case: &Case) -> Result<Told, String> {
+pub(crate) fn expected(reference: &mut Reference, case: &Case) -> Result<Told, String> {
     let answer = reference.answer(case)?;
     let stopped = |mut answer: Answer| {
         (answer.reply, answer.state.halt) = (31, 1);

@@ -1,5 +1,5 @@
-//! Points: drawn steps, lists, exceptions, context reads and the initial state, most with two windows, with all that the Rust
-//! leaves of each, the model where the Rust has no arm (`reference`).
+//! Points: drawn steps, fetched instructions and runs, some of them under a mask, lists, exceptions, context reads and the initial state,
+//! most with two windows, with all that the Rust leaves of each, the model where the Rust has no arm (`reference`).
 //! They are short enough for a prover to compute: registers and octabytes in lines (`starts`), most windows of few octabytes.
 
 use crate::case::{Call, Case};
@@ -10,12 +10,12 @@ use crate::lent::Windows;
 use crate::model;
 use crate::opcodes::*;
 use crate::random::Random;
-use crate::reference::{Answer, Reference};
+use crate::reference::{Answer, GRANT_MOST, Reference};
 use crate::rounds::{exception, with_one};
 use crate::situations::{self, SITUATIONS};
 use crate::starts::Start;
 use crate::state::{IMAGE_LEN, RD, RG, RL, RO, RS, STACK_START, State};
-use crate::{states, windows};
+use crate::{masks, programs, states, windows};
 
 /// Bytes of the longest window, a context of 270 octabytes with two to spare, and of most windows.
 const LONGEST: usize = 8 * 272;
@@ -72,12 +72,22 @@ const OPCODES: [u8; 36] = [
 /// The opcodes of points for the sake of their windows.
 const LENT: [u8; 12] = [PUSHJ, PUSHGO, POP, POP, SAVE, SAVE, UNSAVE, UNSAVE, LDO, LDB, STO, STB];
 
+/// The opcodes of points under a mask.
+const MASKED: [u8; 6] = [GET, GET, PUT, PUT, PUTI, SAVE];
+
 /// Points in a turn.
-const TURN: u64 = 28;
+const TURN: u64 = 36;
+/// The most instructions that a run does, and that one is granted unless it is refused whole: the prover goes through all that are granted.
+const DONE: u64 = 12;
+const GRANTED: u64 = 2 * DONE;
+/// The registers that a program finds set are at both ends.
+const LINED: std::ops::Range<usize> = 16..250;
 
 /// One point: what is done, from where, and what the Rust leaves.
 pub enum Point {
     Single { case: Case, answer: Answer, touched: Vec<u64> },
+    Fetched { case: Case, answer: Answer, touched: Vec<u64> },
+    Run { case: Case, answer: Answer },
     List { start: Case, calls: Vec<Call>, replies: Vec<u64>, state: State, windows: Windows },
     Context { case: Case, answer: Answer },
     Initial { state: State },
@@ -87,7 +97,10 @@ impl Point {
     /// The replies, in the order in which they are given.
     pub fn replies(&mut self) -> &mut [u64] {
         match self {
-            Point::Single { answer, .. } | Point::Context { answer, .. } => std::slice::from_mut(&mut answer.reply),
+            Point::Single { answer, .. }
+            | Point::Fetched { answer, .. }
+            | Point::Run { answer, .. }
+            | Point::Context { answer, .. } => std::slice::from_mut(&mut answer.reply),
             Point::List { replies, .. } => replies,
             Point::Initial { .. } => &mut [],
         }
@@ -109,8 +122,8 @@ impl Drawer {
         compare(&mut self.reference, &[], case).map_err(|e| format!("{e}\n{case}"))
     }
 
-    /// The point of a number: singles, added opcodes, limits, exceptions, lists, contexts and windows that lie in some way to
-    /// each other, in turn.
+    /// The point of a number: singles, added opcodes, limits, exceptions, lists, contexts, windows that lie in some way to
+    /// each other, masks, fetched instructions and runs, in turn.
     fn point(&mut self, number: u64) -> Result<Point, String> {
         let (turn, place) = (number / TURN, number % TURN);
         let nth = |first: u64, n: u64| (turn * n + place - first) as usize;
@@ -123,7 +136,71 @@ impl Drawer {
             16..=18 => self.list(),
             19 | 20 => self.context(),
             21 | 22 | 23 => self.lent(nth(21, 3) % (LENDINGS.len() - 1)),
+            28 | 29 => self.masked(),
+            30 | 31 => self.fetched(),
+            32..=35 => self.run(),
             _ => self.single(added().nth(nth(24, 4) % added().count()).expect("an added opcode")),
+        }
+    }
+
+    /// A step under a mask, most of them of a special register.
+    fn masked(&mut self) -> Result<Point, String> {
+        let op = self.random.pick(&MASKED);
+        let mut case = self.straight(op);
+        case.state.mask = masks::mask(&mut self.random, &case);
+        let Call::Step(i) = case.call else { unreachable!("a step") };
+        let case = self.spoiled(case);
+        let touched = model::needs(i, &case.state, &case.windows);
+        Ok(Point::Single { answer: self.veiled(&case)?, case, touched })
+    }
+
+    /// What the Rust leaves, and 31 where the mask comes in.
+    fn veiled(&mut self, case: &Case) -> Result<Answer, String> {
+        masks::expected(&mut self.reference, case).map(|told| told.answer).map_err(|e| format!("{e}\n{case}"))
+    }
+
+    /// A program short enough to compute, one in three under a mask, with registers in lines but for those that it finds set.
+    fn program(&mut self) -> Case {
+        let random = &mut self.random;
+        loop {
+            let mut case = if random.one_in(3) { masks::asking(random) } else { programs::single(random) };
+            if case.windows.a.bytes.len().max(case.windows.b.bytes.len()) > 4 * SHORT {
+                continue;
+            }
+            let (from, by) = (random.any(), random.any());
+            for k in LINED {
+                case.state.general[k] = from.wrapping_add(by.wrapping_mul(k as u64));
+            }
+            if random.one_in(3) {
+                case.state.mask = masks::mask(random, &case);
+            }
+            if let Call::Run { grant } = &mut case.call
+                && *grant <= GRANT_MOST
+            {
+                *grant = GRANTED.min(*grant);
+            }
+            return cut(case);
+        }
+    }
+
+    /// One instruction, fetched.
+    fn fetched(&mut self) -> Result<Point, String> {
+        let mut case = self.program();
+        case.call = Call::Run { grant: 1 };
+        let answer = self.veiled(&case)?;
+        let touched = model::run_needs(1, &case.state, &case.windows);
+        Ok(Point::Fetched { case, answer, touched })
+    }
+
+    /// A run; of two in three some instructions are done.
+    fn run(&mut self) -> Result<Point, String> {
+        let least = if self.random.one_in(3) { 0 } else { 3 };
+        loop {
+            let case = self.program();
+            let answer = self.veiled(&case)?;
+            if (least..=DONE).contains(&answer.done) {
+                return Ok(Point::Run { case, answer });
+            }
         }
     }
 

@@ -22,7 +22,7 @@ use oracle::state::{State, octabyte};
 const CASES_SPEC: &str = include_str!("../../definitions/Cases.antt.in");
 /// Cases in one file.
 const PART: usize = 50;
-const OWN: &str = "counted, numbers, bytesUp, leaves, ends, reads, agrees";
+const OWN: &str = "counted, numbers, bytesUp, leaves, ends, stops, reads, agrees";
 
 // ---- as antt text
 
@@ -89,6 +89,18 @@ fn written(point: &Point) -> String {
             let (done, reply) = (instruction(i), answer.reply);
             format!("single {before}\n    {lent} {done} {reply}\n    {after}\n    {left} {}", runs(touched))
         }
+        Point::Fetched { case, answer, touched } => {
+            let (before, after) = (state(&case.state), state(&answer.state));
+            let (lent, left, reply) = (windows(&case.windows), windows(&answer.windows), answer.reply);
+            format!("fetch {before}\n    {lent} {reply}\n    {after}\n    {left} {}", runs(touched))
+        }
+        Point::Run { case, answer } => {
+            let Call::Run { grant } = case.call else { unreachable!("a run") };
+            let (before, after) = (state(&case.state), state(&answer.state));
+            let (lent, left) = (windows(&case.windows), windows(&answer.windows));
+            let (grant, done) = (number(grant), answer.done);
+            format!("ran {before}\n    {lent} {grant} {} {done}\n    {after}\n    {left}", answer.reply)
+        }
         Point::List { start, calls, replies, state: after, windows: last } => {
             let (before, after) = (state(&start.state), state(after));
             let (lent, left) = (windows(&start.windows), windows(last));
@@ -107,7 +119,10 @@ fn written(point: &Point) -> String {
 /// The case as `differential --replay` takes it, and the calls of a list.
 fn line(point: &Point) -> String {
     match point {
-        Point::Single { case, .. } | Point::Context { case, .. } => case.to_string(),
+        Point::Single { case, .. }
+        | Point::Fetched { case, .. }
+        | Point::Run { case, .. }
+        | Point::Context { case, .. } => case.to_string(),
         Point::List { start, calls, .. } => format!("{start}\nthen {}", list(calls.iter().map(item))),
         Point::Initial { .. } => "initialize".to_string(),
     }
@@ -163,7 +178,7 @@ fn proof(models: &[(String, String)], part: usize, cases: &[String]) -> String {
 fn spec(part: usize, points: &[Point], cases: &[String]) -> String {
     let mut text = format!("-- Part {part} of the answers.\n");
     text += "use mathlib.Core.List.{List, [], _∷_}\nuse Rattle.model.specs.Step.{step, exception}\n";
-    text += "use Rattle.definitions.specs.Cases.{Case, single, list, context, initial, run, state, window, windows}\n";
+    text += "use Rattle.definitions.specs.Cases.{Case, single, fetch, ran, list, context, initial, run, state, window, windows}\n";
     for (case, point) in cases.iter().zip(points) {
         text += &format!("\nunfoldable pub {case} : Case\n{case} =\n    {}\n", written(point));
     }
@@ -194,8 +209,8 @@ fn write(folder: &str, points: &[Point]) -> std::io::Result<()> {
 }
 
 fn summary(points: &mut [Point]) -> String {
-    let (mut kinds, mut items, mut replies, mut long) = ([0; 4], 0, [0; 24], 0);
-    let (mut transfers, mut operations) = (0, 0);
+    let (mut kinds, mut items, mut replies, mut long) = ([0; 6], 0, [0; 34], 0);
+    let (mut transfers, mut operations, mut masked, mut done) = (0, 0, 0, 0);
     let (mut counts, mut lent) = ([0; SITUATIONS.len()], [0; LENDINGS.len()]);
     for point in points {
         if let Point::Single { case, answer, .. } = point {
@@ -206,26 +221,33 @@ fn summary(points: &mut [Point]) -> String {
         if let Point::Single { case, answer, .. } | Point::Context { case, answer } = point {
             lendings::count(case, answer, &mut lent);
         }
-        let (kind, lent) = match point {
-            Point::Single { case, .. } => (0, Some(&case.windows)),
-            Point::List { start, .. } => (1, Some(&start.windows)),
-            Point::Context { case, .. } => (2, Some(&case.windows)),
+        if let Point::Run { answer, .. } = point {
+            done += answer.done;
+        }
+        let (kind, start) = match point {
+            Point::Single { case, .. } => (0, Some(&*case)),
+            Point::List { start, .. } => (1, Some(&*start)),
+            Point::Context { case, .. } => (2, Some(&*case)),
             Point::Initial { .. } => (3, None),
+            Point::Fetched { case, .. } => (4, Some(&*case)),
+            Point::Run { case, .. } => (5, Some(&*case)),
         };
         kinds[kind] += 1;
-        long += lent.is_some_and(|w| w.a.bytes.len().max(w.b.bytes.len()) > 4 * SHORT) as u64;
+        masked += start.is_some_and(|case| case.state.mask != 0) as u64;
+        long += start.is_some_and(|c| c.windows.a.bytes.len().max(c.windows.b.bytes.len()) > 4 * SHORT) as u64;
         for reply in point.replies() {
             items += (kind == 1) as u64;
             replies[*reply as usize] += 1;
         }
     }
-    let [singles, lists, contexts, initials] = kinds;
+    let [singles, lists, contexts, initials, fetches, ran] = kinds;
     let (met, all) = (counts.iter().filter(|n| **n > 0).count(), SITUATIONS.len());
     let (lent, lendings) = (lent.iter().filter(|n| **n > 0).count(), LENDINGS.len());
     format!(
         "{singles} single steps with their needs, {transfers} loads and stores and {operations} of arithmetic among them, in \
-         {met} of {all} situations at limits and {lent} of {lendings} of the windows; {items} steps and exceptions in {lists} lists; {contexts} contexts; {initials} initial state; {long} with a window above {} bytes; replies 0 to 23: \
-         {replies:?}",
+         {met} of {all} situations at limits and {lent} of {lendings} of the windows; {fetches} fetched instructions with their needs; \
+         {ran} runs, in which {done} instructions were done; {items} steps and exceptions in {lists} lists; {contexts} contexts; \
+         {initials} initial state; {masked} under a mask; {long} with a window above {} bytes; replies 0 to 33: {replies:?}",
         4 * SHORT
     )
 }
