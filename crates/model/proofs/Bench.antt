@@ -4,7 +4,7 @@ use mathlib.Core.Path.{refl}
 use lib.Count.{leadingZeros}
 use Rattle.model.specs.Fill.{over, indexed, within, tab}
 use Rattle.model.specs.Octa.{octa, part, written, valueOf, bytesOf}
-use Rattle.model.specs.Registers.{hideable, hides, admissible, fresh, goes, halted, withSpecial, cleared, claimLocal, stored, setRegister, putLocals, putGlobals, spilled}
+use Rattle.model.specs.Registers.{hideable, hides, admissible, fresh, goes, halted, withSpecial, freshAt, cleared, claimLocal, stored, setRegister, putLocals, putGlobals, spilled}
 use Rattle.model.specs.Memory.{shapeOf, ruledOne, offset, has, octaBytes, writeOcta, shapesOf, holder, inside, octaAt, putOcta, both, ruled, shares}
 use Rattle.model.specs.Plan.{worst, named, look, looks, puts, perform, mapPlan}
 use Rattle.model.specs.Opcodes.{operationOf, firstOf, widthOf, signOf, conditionOf, armOf}
@@ -24,7 +24,7 @@ use Rattle.model.specs.Numbers.{numberOf}
 use Rattle.model.specs.Field.{fieldAt, fieldOf, answerOf}
 use Rattle.model.specs.Rules.{readRule, pushRule, belowTop, poppedRule, popHoleRule, popAnyRule, unsavedGeneralRule, unsavedSpecialRule, unsavedRule, unsaveRestRule, unsaveCountRule, unsaveRule, loadRule, storeState, storeRule, ruleOf, stepRule, withAddedRule, raisedRule, exceptionRule, counted, arithmeticRule}
 use Rattle.model.specs.Bench.{start, shows, met, allMet, points, PointsMet}
-use Rattle.model.specs.Points.{ruledShapes, numbered, freshIs, readerPoints, morePoints, MorePointsMet}
+use Rattle.model.specs.Points.{ruledShapes, numbered, freshIs, freshAtIs, readerPoints, morePoints, MorePointsMet}
 use Rattle.model.specs.LoadStorePoints.{loadStorePoints, LoadStorePointsMet}
 use Rattle.model.specs.WindowPoints.{windowReads, windowPoints, WindowPointsMet}
 use Rattle.model.specs.FieldPoints.{fieldPoints, allFound, FieldPointsMet}
@@ -35,8 +35,8 @@ use Rattle.model.specs.ArithmeticStepPoints.{arithmeticStepPoints, Arith
 use Rattle.model.specs.ArithmeticPoints.{allSame, arithmeticPoints, ArithmeticPointsMet}
 
 computed : PointsMet × MorePointsMet × ExamplesShown × LoadStorePointsMet × FieldPointsMet × ArithmeticPointsMet × ArithmeticStepPointsMet × WindowPointsMet
-unfolding leadingZeros over indexed within tab octa part written valueOf bytesOf hideable hides admissible fresh goes halted withSpecial cleared claimLocal stored setRegister putLocals putGlobals spilled shapeOf ruledOne offset has octaBytes writeOcta shapesOf holder inside octaAt putOcta both ruled shares worst named look looks puts perform conditionOf armOf tell targetOf holds hole framed slid slide pushedRule pushed pushFrame countOf lastOutput restored unslide popped popTo popRule noFrame misplaced popFrame savedSpecial saved savedUnspilled savedState saveContext unsavedGeneral unsavedSpecial unsavedUnspilled unsaved contextRest contextCount contextAt unsaveContext putRefusal putState unlessHidden putSpecial got getSpecial syncOf interrupted tripRule tripTo trapOf added withAdded raised stepOn runs refusalOf unruledBy judged refusing planOf guarded fromThree stepPlan exceptionOf itemPlan mmix start shows met allMet points framedRule gotRule trapRule leftmost exactUnderflow addedRule mapPlan stepOf readRule pushRule belowTop poppedRule popHoleRule popAnyRule unsavedGeneralRule unsavedSpecialRule unsavedRule unsaveRestRule unsaveCountRule unsaveRule ruleOf stepRule withAddedRule raisedRule exceptionRule ruledShapes numbered freshIs readerPoints spanOf heldBy across partAt handed readContext morePoints shown allShown shownException allShownExceptions examples exceptionExamples cutExamples countExample counted widthOf signOf bytesIn unitAt operandIn merged extended fits loadFrom storeSays storeTo loadRule storeState storeRule loadStorePoints numberOf fieldAt fieldOf answerOf fieldPoints allFound signedOf octaOf isSigned productHigh productLow floorBy floorQuotient floorRemainder compared powerOf divided dividedWide resultsOf allSame arithmeticPoints operationOf firstOf withResults arithmeticSays arithmeticRule arithmeticStepPoints windowReads windowPoints
-computed = (refl, (refl, refl, refl, refl, refl), (refl, refl, refl, refl), refl, refl, refl, refl, (refl, refl))
+unfolding leadingZeros over indexed within tab octa part written valueOf bytesOf hideable hides admissible fresh goes halted withSpecial freshAt cleared claimLocal stored setRegister putLocals putGlobals spilled shapeOf ruledOne offset has octaBytes writeOcta shapesOf holder inside octaAt putOcta both ruled shares worst named look looks puts perform conditionOf armOf tell targetOf holds hole framed slid slide pushedRule pushed pushFrame countOf lastOutput restored unslide popped popTo popRule noFrame misplaced popFrame savedSpecial saved savedUnspilled savedState saveContext unsavedGeneral unsavedSpecial unsavedUnspilled unsaved contextRest contextCount contextAt unsaveContext putRefusal putState unlessHidden putSpecial got getSpecial syncOf interrupted tripRule tripTo trapOf added withAdded raised stepOn runs refusalOf unruledBy judged refusing planOf guarded fromThree stepPlan exceptionOf itemPlan mmix start shows met allMet points framedRule gotRule trapRule leftmost exactUnderflow addedRule mapPlan stepOf readRule pushRule belowTop poppedRule popHoleRule popAnyRule unsavedGeneralRule unsavedSpecialRule unsavedRule unsaveRestRule unsaveCountRule unsaveRule ruleOf stepRule withAddedRule raisedRule exceptionRule ruledShapes numbered freshIs freshAtIs readerPoints spanOf heldBy across partAt handed readContext morePoints shown allShown shownException allShownExceptions examples exceptionExamples cutExamples countExample counted widthOf signOf bytesIn unitAt operandIn merged extended fits loadFrom storeSays storeTo loadRule storeState storeRule loadStorePoints numberOf fieldAt fieldOf answerOf fieldPoints allFound signedOf octaOf isSigned productHigh productLow floorBy floorQuotient floorRemainder compared powerOf divided dividedWide resultsOf allSame arithmeticPoints operationOf firstOf withResults arithmeticSays arithmeticRule arithmeticStepPoints windowReads windowPoints
+computed = (refl, (refl, refl, refl, refl, refl, refl), (refl, refl, refl, refl), refl, refl, refl, refl, (refl, refl))
 
 pub points-met : PointsMet
 points-met = computed .0

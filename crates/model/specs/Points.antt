@@ -8,7 +8,7 @@ use lib.Dec.{eqb}
 use lib.ListN.{replicate}
 use Rattle.model.specs.Fill.{tab}
 use Rattle.model.specs.Memory.{Windows, Shape, ruled, putOcta}
-use Rattle.model.specs.Registers.{rB, rD, rE, rH, rJ, rM, rR, rBB, rC, rN, rO, rS, rI, rT, rTT, rK, rQ, rU, rV, rG, rL, rA, rF, rP, rW, rX, rY, rZ, rWW, rXX, rYY, rZZ, stackStart, fresh, goes, halted, withSpecial, stored}
+use Rattle.model.specs.Registers.{rB, rD, rE, rH, rJ, rM, rR, rBB, rC, rN, rO, rS, rI, rT, rTT, rK, rQ, rU, rV, rG, rL, rA, rF, rP, rW, rX, rY, rZ, rWW, rXX, rYY, rZZ, stackStart, fresh, goes, halted, withSpecial, freshAt, stored}
 use Rattle.model.specs.Step.{Item, step, exception}
 use Rattle.model.specs.Reader.{readContext}
 use Rattle.model.specs.Bench.{Point, allMet, start, stackAlone, sameList, sameState}
@@ -276,6 +276,19 @@ freshIs = sameState fresh (record {
   mask = 0;
 })
 
+-- with the stack elsewhere rO and rS alone are others
+unfoldable pub freshAtIs : Bool
+freshAtIs = sameState (freshAt stackStart) fresh && sameState (freshAt 0xFEDCBA9876543210) (record {
+  general = replicate 256 0;
+  special = 0 ∷ 0 ∷ 0 ∷ 0 ∷ 0 ∷ 0 ∷ 0 ∷ 0 ∷ 0 ∷ 2009 ∷ 0xFEDCBA9876543210 ∷ 0xFEDCBA9876543210 ∷ 0
+      ∷ 0x8000000500000000 ∷ 0x8000000600000000 ∷ 0xFFFFFFFFFFFFFFFF ∷ 0 ∷ 0 ∷ 0x369C200400000000 ∷ 32
+      ∷ 0 ∷ 0 ∷ 0 ∷ 0 ∷ 0 ∷ 0 ∷ 0 ∷ 0 ∷ 0 ∷ 0 ∷ 0 ∷ 0 ∷ [];
+  pc = 0;
+  halt = 0;
+  marks = 0;
+  mask = 0;
+})
+
 -- ---- the reader: a context of 15 octabytes, rG 255, in a window of 17; none in an empty window, and in one that breaks its rule
 
 abbrev contextual : Windows
@@ -298,4 +311,4 @@ morePoints =
     ++ (trapPoints ++ (interruptPoints ++ (marginalPoint ∷ (branchPoints ++ (controlPoints ++ (callPoints ++ (popPoints ++ (enablePoints ++ (noArmPoints ++ (putPoints ++ admissiblePoints))))))))))))))))))
 
 abbrev pub MorePointsMet : Type 0
-MorePointsMet = (allMet morePoints ≡ true) × (ruledShapes ≡ true) × (numbered ≡ true) × (freshIs ≡ true) × (readerPoints ≡ true)
+MorePointsMet = (allMet morePoints ≡ true) × (ruledShapes ≡ true) × (numbered ≡ true) × (freshIs ≡ true) × (freshAtIs ≡ true) × (readerPoints ≡ true)

@@ -214,6 +214,10 @@ halted s = built s (s .general) (s .special) (s .pc) 1
 unfoldable pub withSpecial : State → ℕ → ℕ → State
 withSpecial s k v = withParts s (s .general) (set (s .special) k v)
 
+-- the fresh state with the register stack at another address: rO and rS are a
+unfoldable pub freshAt : ℕ → State
+freshAt a = withSpecial (withSpecial fresh rO a) rS a
+
 -- $x becomes v, and nothing is claimed
 unfoldable pub stored : State → ℕ → ℕ → State
 stored s x v = withParts s (set (s .general) x v) (s .special)

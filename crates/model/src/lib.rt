@@ -2,7 +2,7 @@
 //! specs/ defines the rest.
 
 ghost use mathlib.Core.Path.{_≡_};
-ghost use Rattle.model.specs.Registers.{fresh};
+ghost use Rattle.model.specs.Registers.{fresh, freshAt};
 
 /// Where the two lent windows lie: the base addresses of A and of B, the stack's.
 pub struct Bases {
@@ -205,11 +205,18 @@ impl State {
     pub fn initialize() -> State
         ensures { λ r. ⌜ r ≡ fresh ⌝ }
     {
+        State::initialize_at(State::STACK_START)
+    }
+
+    /// The same with the register stack at another address, any number.
+    pub fn initialize_at(stack_start: u64) -> State
+        ensures { λ r. ⌜ r ≡ freshAt «stack_start» ⌝ }
+    {
         let mut special = [0u64; 32];
         special[State::RN] = 2009;
         special[State::RG] = 32;
-        special[State::RO] = State::STACK_START;
-        special[State::RS] = State::STACK_START;
+        special[State::RO] = stack_start;
+        special[State::RS] = stack_start;
         special[State::RK] = 0xFFFFFFFFFFFFFFFF;
         special[State::RT] = 0x8000000500000000;
         special[State::RTT] = 0x8000000600000000;

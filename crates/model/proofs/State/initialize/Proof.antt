@@ -1,47 +1,19 @@
--- `State::initialize` meets its contract: the state that it makes is `fresh`.
+-- `State::initialize` meets its contract: with the stack at its usual start the state is `fresh`.
+use mathlib.Core.Path.{_≡_, refl, _∙_}
 use borrow.Author.Needs.{needs}
-use Rattle.model.specs.Registers.{fresh}
+use Rattle.model.specs.Registers.{stackStart, fresh, withSpecial, freshAt}
 use Rattle.model.proofs.State.initialize.Statement.{statement}
 use Rattle.model.proofs.State.initialize.Tie as tie
 
-array-write-special : tie.Need-array-write-special
-array-write-special c = search needs
+at-start : freshAt stackStart ≡ fresh
+unfolding fresh withSpecial freshAt
+at-start = refl
 
-array-write-special-2 : tie.Need-array-write-special-2
-array-write-special-2 c = search needs
-
-array-write-special-3 : tie.Need-array-write-special-3
-array-write-special-3 c = search needs
-
-array-write-special-4 : tie.Need-array-write-special-4
-array-write-special-4 c = search needs
-
-array-write-special-5 : tie.Need-array-write-special-5
-array-write-special-5 c = search needs
-
-array-write-special-6 : tie.Need-array-write-special-6
-array-write-special-6 c = search needs
-
-array-write-special-7 : tie.Need-array-write-special-7
-array-write-special-7 c = search needs
-
-array-write-special-8 : tie.Need-array-write-special-8
-array-write-special-8 c = search needs
+initialize-at-requires : tie.Need-initialize-at-requires
+initialize-at-requires c κs = search needs
 
 returns : tie.Need-returns
-unfolding fresh
-returns c = search needs
+returns c = c .initialize-at .ensures ∙ at-start
 
 pub initialize-spec : {M : Type 1} → statement M
-initialize-spec =
-    tie.close
-    (tie.spec
-    array-write-special
-    array-write-special-2
-    array-write-special-3
-    array-write-special-4
-    array-write-special-5
-    array-write-special-6
-    array-write-special-7
-    array-write-special-8
-    returns)
+initialize-spec = tie.close (tie.spec initialize-at-requires returns)
