@@ -138,7 +138,7 @@ LISTING = examples/grading/grading.mms
 $(HOSTS): build/%: examples/%.c build/libmmix.a $(HEADERS)
 	@gcc -O2 -std=c99 $(WARNINGS) -Ibuild -o $@ $(filter %.c,$^) build/libmmix.a
 
-build/header_test: examples/header_inline.c examples/header_numbers.h examples/header_test.h
+build/header_test: examples/header_inline.c examples/header_start.c examples/header_numbers.h examples/header_test.h
 
 host: need-gcc build/relay_host build/grading
 	@build/relay_host

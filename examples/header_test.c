@@ -1,5 +1,6 @@
 /* The names and the inline functions of mmix.h and mmix_text.h: each name is compared with its number and, where a call can tell, with what the library
- * does; each inline function with the plain one (header_inline.c). examples/header_names looks that none is left out.
+ * does; each inline function with the plain one (header_inline.c); the version, and an image with its stack anywhere (header_start.c). examples/header_names
+ * looks that no name and no inline function is left out.
  *
  *     make host-test
  */
@@ -351,6 +352,7 @@ int main(void)
     try_texts();
     try_print();
     try_inline();
+    try_start();
     if (failed)
         return EXIT_FAILURE;
     printf("header_test: every name and every inline function is as it should be\n");

@@ -15,4 +15,7 @@ void set_octabyte(uint8_t *at, uint64_t value);
 /* The inline functions of mmix.h (header_inline.c). */
 void try_inline(void);
 
+/* The version, mmix_initialize_at and where a task's stack starts (header_start.c). */
+void try_start(void);
+
 #endif

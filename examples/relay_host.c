@@ -311,11 +311,11 @@ static void load_eight_studies(void)
         uint8_t *at = studies + k * MMIX_IMAGE_LEN;
         parts[2 * k] = STUDIES_AT + k * PART_LEN;
         parts[2 * k + 1] = PART_LEN;
-        if (mmix_initialize(at, MMIX_IMAGE_LEN) != MMIX_DONE || mmix_decode(at, MMIX_IMAGE_LEN, &study) != MMIX_DONE)
+        if (mmix_initialize_at(at, MMIX_IMAGE_LEN, MMIX_STACK_START + parts[2 * k]) != MMIX_DONE
+            || mmix_decode(at, MMIX_IMAGE_LEN, &study) != MMIX_DONE)
             end("no image of a study");
         study.general[0] = margins[k];
         study.special[MMIX_RL] = 1;
-        study.special[MMIX_RO] = study.special[MMIX_RS] = MMIX_STACK_START + parts[2 * k];
         study.pc = PROGRAM_AT;
         if (mmix_encode(&study, at, MMIX_IMAGE_LEN) != MMIX_DONE)
             end("no image of a study");

@@ -1,8 +1,8 @@
 /* mmix.h: the MMIX register machine, a program or one step at a time.
  *
  * The library keeps nothing between calls, allocates nothing and calls nothing but memcpy and memset. Every function
- * takes any values, ends, and returns MMIX_DONE (0) or the number of a refusal (1 to 33). That each function does what it
- * should is proved; README.md says what that means.
+ * takes any values, ends, and returns MMIX_DONE (0) or the number of a refusal (1 to 33); mmix_version alone returns another
+ * number. That each function does what it should is proved; README.md says what that means.
  *
  * What the caller owes:
  *  - a pointer is to as many bytes as the length beside it says, or to an object of its type; it may be null only where
@@ -35,9 +35,9 @@
  * its own.
  *
  * Stack, most that was measured, in bytes: mmix_tasks 7,900; mmix_step_lent 5,800; mmix_run 5,600; mmix_decode 4,700; mmix_step 3,500;
- * mmix_run_parts 3,100; mmix_put_set 3,000; mmix_take and mmix_go_back 2,600; mmix_exceptions, mmix_initialize and mmix_encode
- * 2,500; mmix_step_parts 1,000; mmix_context, mmix_exceptions_parts and mmix_put_set_parts 300; mmix_branch_field and
- * mmix_jump_field none. There is no recursion.
+ * mmix_run_parts 3,100; mmix_put_set 3,000; mmix_take and mmix_go_back 2,600; mmix_exceptions, mmix_initialize, mmix_initialize_at
+ * and mmix_encode 2,500; mmix_step_parts 1,000; mmix_context, mmix_exceptions_parts and mmix_put_set_parts 300; mmix_branch_field,
+ * mmix_jump_field and mmix_version none. There is no recursion.
  */
 #ifndef MMIX_H
 #define MMIX_H
@@ -71,9 +71,13 @@ extern "C" {
  * 5.1: mmix_tasks, with MMIX_FOREIGN and MMIX_TASKS_RULE.
  * 6.0: a window may have 1,048,576 bytes, where it had 65,536: a longer one was refused, and all else does what it did. MMIX_WINDOW_MAX
  * has grown, and with it the rooms, to 2,099,528 bytes, and MMIX_STORE_LEN, to 33,592,448: a store of 5 is none of 6, and its points
- * move over as lines. */
+ * move over as lines.
+ * 6.1: mmix_initialize_at and mmix_version. */
 #define MMIX_VERSION_MAJOR 6
-#define MMIX_VERSION_MINOR 0
+#define MMIX_VERSION_MINOR 1
+
+/* The version of the library that is linked, 65536 * major + minor, for a host to compare with the header's two numbers. */
+uint64_t mmix_version(void);
 
 /* The replies. 1 to 6, 22, 24 to 28, 30, 32 and 33 leave every byte as it was; 7 to 18, 29 and 31 set the halt code to 1 and leave all
  * else; 19 and 20 set the halt code to 1 and the trip or trap registers, with PC where it was (an exception refused by 19 has also added to
@@ -224,6 +228,14 @@ struct mmix_state {
 /* Makes the image, of either length, that of the fresh state: rG 32, rL 0, rO and rS at the stack's start, no vector loaded,
  * nothing hidden. */
 uint64_t mmix_initialize(uint8_t *image, size_t image_len);
+
+/* As mmix_initialize, with the stack elsewhere: rO and rS are `stack_start`, any number. So a task starts whose part of B does not
+ * begin at MMIX_STACK_START. A stack that lies below MMIX_STACK_START takes calls and no return, since every POP is then
+ * MMIX_NO_FRAME; so it is with one that is no multiple of 8, or 0x8000000000000000 or more: MMIX_MISPLACED. With no frame left, a
+ * task's last POP is MMIX_NO_FRAME where `stack_start` is MMIX_STACK_START; above, it is MMIX_FOREIGN where the octabyte before
+ * `stack_start` lies in B outside the task's part, and MMIX_MISSING where it lies in neither window. One in A is taken for a
+ * frame's. */
+uint64_t mmix_initialize_at(uint8_t *image, size_t image_len, uint64_t stack_start);
 
 /* One step: the instruction with bytes op, x, y, z, at the image's PC, on image and windows. */
 uint64_t mmix_step(uint64_t base_a, uint64_t base_b, uint8_t op, uint8_t x, uint8_t y, uint8_t z,

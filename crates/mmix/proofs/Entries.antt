@@ -4,7 +4,6 @@ use mathlib.Core.Bool.{true, false}
 use mathlib.Core.List.{List}
 use Prim.Native.Nat.{ℕ, _≤_}
 use native.Mathlib.Omega.{arith}
-use Rattle.model.specs.Registers.{fresh}
 use Rattle.model.specs.Memory.{Windows}
 use Rattle.model.specs.NoMemory.{Said}
 use Rattle.model.specs.Plan.{Outcome}
@@ -24,7 +23,7 @@ use Rattle.image.specs.Image.{isImage, imageAs, storedIn, stateOf, Encoded}
 use Rattle.image.proofs.Coded.{if-other, if-image}
 use Rattle.image.proofs.RoundTrips.{keeps-length}
 use Rattle.sets.specs.Sets.{Pair, SetOutcome, putSetOf, PutSet}
-use Rattle.mmix.specs.Entries.{Initialized, Stepped, SteppedState, RanImage, RanState, Raised, RaisedState, SetImage, FieldTold}
+use Rattle.mmix.specs.Entries.{Stepped, SteppedState, RanImage, RanState, Raised, RaisedState, SetImage, FieldTold}
 
 -- ---- on the parts of a state
 
@@ -115,9 +114,9 @@ module _ (l : List ℕ) (n : isImage l ≡ true) where
         image-is = again s t e q m k ∙ ap (imageAs l) (g .state-is) ∙ ap (λ (o : SetOutcome). imageAs l (o .state)) d ∙ if-image l n _ _;
       }
 
--- the image of the fresh state
-pub initialized : (s : State) → s ≡ fresh → (l : List ℕ) (r : ℕ) (m : List ℕ) → Encoded s l r m → Initialized l r m
-initialized s e l r m g = subst (λ (t : State). Encoded t l r m) e g
+-- an equal state's image is the same
+pub encoded-same : (s t : State) → s ≡ t → (l : List ℕ) (r : ℕ) (m : List ℕ) → Encoded s l r m → Encoded t l r m
+encoded-same s t e l r m g = subst (λ (u : State). Encoded u l r m) e g
 
 -- ---- a field
 

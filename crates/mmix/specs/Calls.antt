@@ -2,8 +2,8 @@
 -- an image or as a struct, goes from one to the other by mmix_decode and mmix_encode, and lends two windows.
 -- In a list: mmix_step, mmix_step_lent, mmix_step_parts, mmix_exceptions, mmix_exceptions_parts, mmix_run, mmix_run_parts, mmix_decode, mmix_encode; and
 -- mmix_take and mmix_context, which leave state and windows as they are. mmix_tasks: crate calls.
--- In none: mmix_initialize starts another run; mmix_put_set and mmix_put_set_parts are the host's own change of the state; mmix_go_back rewinds history;
--- mmix_branch_field and mmix_jump_field are given neither state nor window.
+-- In none: mmix_initialize and mmix_initialize_at start another run; mmix_put_set and mmix_put_set_parts are the host's own change of the state; mmix_go_back rewinds
+-- history; mmix_branch_field, mmix_jump_field and mmix_version are given neither state nor window.
 -- `Stepped`, `Raised`, `RanImage`, `SteppedState`, `RaisedState`, `RanState`, `Decoded`, `Encoded`, `Took` and `ContextAt` are the functions' contracts.
 use Prim.Native.Nat.{ℕ, suc, _+_, _<_}
 use mathlib.Core.Path.{_≡_}

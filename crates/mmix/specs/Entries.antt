@@ -1,10 +1,10 @@
 -- What the exported functions answer, and every byte of image and windows afterwards. An image, 2,336 bytes or an old one's 2,328, keeps its length; one of
 -- another length is 1, judged first, and then nothing changes.
-use Prim.Native.Nat.{ℕ}
+use Prim.Native.Nat.{ℕ, _+_, _*_}
 use mathlib.Core.Path.{_≡_}
 use mathlib.Core.Bool.{cond}
 use mathlib.Core.List.{List}
-use Rattle.model.specs.Registers.{fresh}
+use Rattle.model.specs.Registers.{fresh, freshAt}
 use Rattle.model.specs.Memory.{Windows}
 use Rattle.model.specs.Parts.{lent}
 use Rattle.model.specs.Step.{stepOf, exceptionOf}
@@ -19,8 +19,16 @@ use Rattle.sets.specs.Sets.{Pair, putSetOf}
 abbrev pub lentAt : ℕ → ℕ → List ℕ → List ℕ → Windows
 lentAt base-a base-b a b = lent (record { a = base-a; b = base-b }) a b
 
+-- the library's version, 6.1: the major number times 65536, and the minor one
+abbrev pub version : ℕ
+version = 6 * 65536 + 1
+
 abbrev pub Initialized : List ℕ → ℕ → List ℕ → Type 0
 Initialized l r m = Encoded fresh l r m
+
+-- the same with the stack elsewhere, at any number
+abbrev pub InitializedAt : ℕ → List ℕ → ℕ → List ℕ → Type 0
+InitializedAt a l r m = Encoded (freshAt a) l r m
 
 pub record Stepped (l : List ℕ) (w : Windows) (op x y z r : ℕ) (m : List ℕ) (v : Windows) : Type 0 where
   pub reply-is : r ≡ cond (isImage l) (stepOf w (stateOf l) op x y z .reply) 1

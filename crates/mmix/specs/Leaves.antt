@@ -1,6 +1,6 @@
 -- Which numbers the functions return, and what each leaves, of an image every byte: 01, 'Replies', column 'left'. It is said of any
 -- call that meets its contract, on an image of any length. (mmix_context, mmix_branch_field and mmix_jump_field are given no state: refused,
--- they leave their outputs 0.)
+-- they leave their outputs 0. mmix_version is given nothing.)
 use Prim.Native.Nat.{ℕ, _+_, _*_, _≤_, _<_}
 use mathlib.Core.Path.{_≡_}
 use mathlib.Core.Logic.{_⊎_, _≢_}

@@ -15,8 +15,8 @@ use Rattle.mmix.specs.Calls.{Held, Made, Meets}
 
 -- mmix_take, with the name, what was lent, the reply and the store afterwards; mmix_go_back, with the name, what was lent, the reply and what
 -- became of it; a function of Calls, on what it found (mmix_step, mmix_step_lent, mmix_step_parts, mmix_exceptions, mmix_exceptions_parts, mmix_run,
--- mmix_run_parts, mmix_decode, mmix_encode, mmix_context); another, which is not lent the store either, so that nothing of it is asked: mmix_initialize, mmix_tasks,
--- mmix_put_set, mmix_put_set_parts, mmix_branch_field, mmix_jump_field
+-- mmix_run_parts, mmix_decode, mmix_encode, mmix_context); another, which is not lent the store either, so that nothing of it is asked: mmix_initialize,
+-- mmix_initialize_at, mmix_tasks, mmix_put_set, mmix_put_set_parts, mmix_branch_field, mmix_jump_field, mmix_version
 pub data PointCall : Type 0 where
   taking : ℕ → Point → ℕ → List ℕ → PointCall
   going-back : ℕ → Point → ℕ → Point → PointCall

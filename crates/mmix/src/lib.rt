@@ -1,5 +1,6 @@
-//! The C library: what a relay host calls, on numbers and byte slices. 0 is done; 1 to 33 are the refusals.
+//! The C library: what a relay host calls, on numbers and byte slices. 0 is done; 1 to 33 are the refusals. `mmix_version` alone answers another number.
 
+ghost use mathlib.Core.Path.{_≡_};
 ghost use Rattle.model.specs.Control.{branchFields, jumpFields};
 ghost use Rattle.model.specs.Field.{fieldOf, answerOf};
 ghost use Rattle.model.specs.Parts.{made};
@@ -8,7 +9,7 @@ ghost use Rattle.image.specs.Image.{Decoded, Encoded};
 ghost use Rattle.store.specs.Store.{Took, GoneBack};
 ghost use Rattle.sets.specs.Sets.{pairsOf, pairsIn, PutSet};
 ghost use Rattle.tasks.specs.Images.{TasksRan};
-ghost use Rattle.mmix.specs.Entries.{lentAt, Initialized, Stepped, SteppedState, RanImage, RanState, Raised, RaisedState, SetImage, ContextAt, FieldTold};
+ghost use Rattle.mmix.specs.Entries.{lentAt, version, Initialized, InitializedAt, Stepped, SteppedState, RanImage, RanState, Raised, RaisedState, SetImage, ContextAt, FieldTold};
 use image::Answer;
 use image::Rest;
 use model::Bases;
@@ -16,12 +17,34 @@ use model::Reach;
 use model::Reply;
 use model::State;
 
+/// The library's version, as the header names its own: what a change of each number promises is said there.
+const VERSION_MAJOR: u64 = 6;
+
+const VERSION_MINOR: u64 = 1;
+
+/// 65536 × major + minor.
+#[no_mangle]
+pub extern "C" fn mmix_version() -> u64
+    ensures { λ r. ⌜ r ≡ version ⌝ }
+{
+    65536 * VERSION_MAJOR + VERSION_MINOR
+}
+
 /// The image becomes that of the fresh state; 1 where it is as long as neither image.
 #[no_mangle]
 pub extern "C" fn mmix_initialize(image: &mut [u8]) -> u64
     ensures { λ r. ⌜ Initialized (now (image .entry)) r (now (image .exit)) ⌝ }
 {
     let fresh = State::initialize();
+    image::encode(fresh, image)
+}
+
+/// The same with the register stack at another address, any number: rO and rS are `stack_start`.
+#[no_mangle]
+pub extern "C" fn mmix_initialize_at(image: &mut [u8], stack_start: u64) -> u64
+    ensures { λ r. ⌜ InitializedAt «stack_start» (now (image .entry)) r (now (image .exit)) ⌝ }
+{
+    let fresh = State::initialize_at(stack_start);
     image::encode(fresh, image)
 }
 
