@@ -8,7 +8,7 @@ use crate::fields;
 use crate::guards::WROTE_OUTSIDE;
 use crate::lent::Windows;
 use crate::reference::{Answer, Reference};
-use crate::state::{State, is_image};
+use crate::state::{RO, RS, State, is_image};
 use crate::subject::{Aim, Found, Subject};
 
 /// The reference's answer, or in words how a subject differs from it.
@@ -34,10 +34,19 @@ pub fn same(subject: &dyn Subject, case: &Case, answer: &Answer) -> Result<(), S
     codec(subject, case)
 }
 
+/// The Rust has its stack where it starts; elsewhere is the case's own rO, and rO and rS alone are others.
 fn initialize(subject: &dyn Subject, case: &Case, answer: &Answer) -> Result<(), String> {
     let mut image = case.image();
     let reply = subject.initialize(&mut image);
-    same_image("mmix_initialize", case, answer, reply, &image)
+    same_image("mmix_initialize", case, answer, reply, &image)?;
+
+    let at = case.state.special[RO];
+    let mut moved = answer.clone();
+    moved.state.special[RO] = at;
+    moved.state.special[RS] = at;
+    let mut image = case.image();
+    let reply = subject.initialize_at(&mut image, at);
+    same_image("mmix_initialize_at", case, &moved, reply, &image)
 }
 
 fn exceptions(subject: &dyn Subject, case: &Case, answer: &Answer) -> Result<(), String> {

@@ -148,6 +148,10 @@ impl Subject for Guarded {
         self.call([image], |[image]| self.subject.initialize(image))
     }
 
+    fn initialize_at(&self, image: &mut [u8], stack_start: u64) -> u64 {
+        self.call([image], |[image]| self.subject.initialize_at(image, stack_start))
+    }
+
     fn step(&self, i: Instruction, image: &mut [u8], lent: Lent) -> u64 {
         let Lent { at, a, b } = lent;
         self.call([image, a, b], |[image, a, b]| self.subject.step(i, image, Lent { at, a, b }))

@@ -9,6 +9,7 @@ use crate::subject::{Aim, Found, Parts, Subject, Told};
 
 unsafe extern "C" {
     fn mmix_initialize(image: *mut u8, image_len: usize) -> u64;
+    fn mmix_initialize_at(image: *mut u8, image_len: usize, stack_start: u64) -> u64;
     fn mmix_step(
         base_a: u64,
         base_b: u64,
@@ -205,6 +206,11 @@ impl Subject for Library {
     #[inline]
     fn initialize(&self, image: &mut [u8]) -> u64 {
         unsafe { mmix_initialize(self.lent_mut(image), image.len()) }
+    }
+
+    #[inline]
+    fn initialize_at(&self, image: &mut [u8], stack_start: u64) -> u64 {
+        unsafe { mmix_initialize_at(self.lent_mut(image), image.len(), stack_start) }
     }
 
     #[inline]

@@ -48,6 +48,7 @@ pub struct Told<'a> {
 pub trait Subject {
     fn name(&self) -> &'static str;
     fn initialize(&self, image: &mut [u8]) -> u64;
+    fn initialize_at(&self, image: &mut [u8], stack_start: u64) -> u64;
     fn step(&self, i: Instruction, image: &mut [u8], lent: Lent) -> u64;
     fn exceptions(&self, flags: u8, of: Instruction, y_val: u64, z_val: u64, image: &mut [u8]) -> u64;
     fn context(&self, address: u64, shown: Shown, found: Found) -> u64;

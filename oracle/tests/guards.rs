@@ -56,6 +56,9 @@ impl Subject for Probe {
     fn initialize(&self, image: &mut [u8]) -> u64 {
         self.around(image)
     }
+    fn initialize_at(&self, image: &mut [u8], _: u64) -> u64 {
+        self.around(image)
+    }
     /// X says around which window.
     fn step(&self, i: Instruction, _: &mut [u8], lent: Lent) -> u64 {
         self.around(if i.x == 0 { lent.a } else { lent.b })
@@ -126,7 +129,7 @@ impl Subject for Probe {
 /// window A or B of a step by each of its functions, where loads and stores of its last bytes and its first go, the other one
 /// as long as a window may be; the same of a run, and its count; the reader's word which window it is; the four bytes of a field;
 /// a store, and what is given back; the image of a set, and its place; what a call of eight tasks is lent.
-fn twice(probe: Probe) -> [[u64; 2]; 27] {
+fn twice(probe: Probe) -> [[u64; 2]; 28] {
     let guarded = Guarded::new(Box::new(probe), Guard::Pages);
     let (mut image, mut state) = (vec![0; IMAGE_LEN], State::zero());
     let at = Bases { a: 0, b: 1 << 32 };
@@ -151,6 +154,7 @@ fn twice(probe: Probe) -> [[u64; 2]; 27] {
     let context = || guarded.context(0, shown(), Found { which: &mut 0, start: &mut 0, length: &mut 0 });
     let field = || guarded.field(Kind::Jump, 0, 4, Aim { backward: &mut 0, field: &mut 0 });
     steps.push([guarded.initialize(&mut image), guarded.initialize(&mut image)]);
+    steps.push([guarded.initialize_at(&mut image, 8), guarded.initialize_at(&mut image, 8)]);
     steps.push([context(), context()]);
     steps.push([field(), field()]);
     let mut store = vec![0; STORE_LEN];
@@ -176,16 +180,16 @@ fn twice(probe: Probe) -> [[u64; 2]; 27] {
         };
         steps.push([call(), call()]);
     }
-    steps.try_into().expect("twenty-seven")
+    steps.try_into().expect("twenty-eight")
 }
 
 #[test]
 fn pages_beside_a_buffer_cannot_be_touched() {
-    assert_eq!(twice(Probe::ReadAround), [[2, 1]; 27]);
+    assert_eq!(twice(Probe::ReadAround), [[2, 1]; 28]);
 }
 
 #[test]
 fn canaries_see_a_byte_written() {
-    assert_eq!(twice(Probe::WriteAfter), [[2, WROTE_OUTSIDE]; 27]);
-    assert_eq!(twice(Probe::WriteBefore), [[WROTE_OUTSIDE, 1]; 27]);
+    assert_eq!(twice(Probe::WriteAfter), [[2, WROTE_OUTSIDE]; 28]);
+    assert_eq!(twice(Probe::WriteBefore), [[WROTE_OUTSIDE, 1]; 28]);
 }

@@ -80,6 +80,13 @@ fn lengths() {
             let mut state = start(!0);
             assert_eq!(subject.decode(&image, &mut state), 0);
             assert_eq!((state.special[RG], state.mask), (32, 0));
+            image.fill(0xA5);
+            assert_eq!(subject.initialize_at(&mut image, 0x1238), 0);
+            let mut moved = start(!0);
+            assert_eq!(subject.decode(&image, &mut moved), 0);
+            state.special[RO] = 0x1238;
+            state.special[RS] = 0x1238;
+            assert!(moved.difference(&state).is_none());
             assert_eq!(subject.encode(&start(0), &mut image), 0);
             assert!(image == start(0).image()[..len]);
         }
@@ -89,6 +96,7 @@ fn lengths() {
         for len in [0, OLD_IMAGE_LEN - 8, OLD_IMAGE_LEN + 1, IMAGE_LEN - 1, IMAGE_LEN + 8] {
             let mut other = vec![0xA5; len];
             assert_eq!(subject.initialize(&mut other), 1);
+            assert_eq!(subject.initialize_at(&mut other, 0x1238), 1);
             assert_eq!(subject.encode(&start(0), &mut other), 1);
             assert_eq!(subject.decode(&other, &mut start(0)), 1);
             assert!(other.iter().all(|byte| *byte == 0xA5));

@@ -16,7 +16,7 @@ use oracle::lent::{Lent, Shown, Windows};
 use oracle::model::points::STORE_LEN;
 use oracle::reference::Reference;
 use oracle::rounds::{ROUND, round};
-use oracle::state::{RA, RG, RL, State};
+use oracle::state::{RA, RG, RL, RO, State};
 use oracle::subject::{Aim, Found, Parts, Subject, Told, chosen};
 
 const STACK: usize = 64 * 1024;
@@ -110,6 +110,9 @@ impl Subject for Nothing {
     fn initialize(&self, _: &mut [u8]) -> u64 {
         0
     }
+    fn initialize_at(&self, _: &mut [u8], _: u64) -> u64 {
+        0
+    }
     fn step(&self, _: Instruction, _: &mut [u8], _: Lent) -> u64 {
         0
     }
@@ -163,10 +166,15 @@ impl Subject for Nothing {
 type Entry = fn(&dyn Subject, &mut Buffers);
 
 /// The entries by name; each takes the cases that are its own.
-const ENTRIES: [(&str, Entry); 18] = [
+const ENTRIES: [(&str, Entry); 19] = [
     ("mmix_initialize", |subject, lent| {
         if let Call::Initialize = lent.case.call {
             subject.initialize(&mut lent.image);
+        }
+    }),
+    ("mmix_initialize_at", |subject, lent| {
+        if let Call::Initialize = lent.case.call {
+            subject.initialize_at(&mut lent.image, lent.case.state.special[RO]);
         }
     }),
     ("mmix_step", |subject, lent| {

@@ -144,10 +144,17 @@ impl Subject for Model {
     }
 
     fn initialize(&self, image: &mut [u8]) -> u64 {
+        self.initialize_at(image, STACK_START)
+    }
+
+    fn initialize_at(&self, image: &mut [u8], stack_start: u64) -> u64 {
         if !is_image(image.len()) {
             return 1;
         }
-        put_into(image, &fresh());
+        let mut state = fresh();
+        state.special[RO] = stack_start;
+        state.special[RS] = stack_start;
+        put_into(image, &state);
         0
     }
 
