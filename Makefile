@@ -23,7 +23,7 @@ RATTLE = crates.txt $(shell find crates -name '*.rt' -o -name '*.antt')
 # All that `rt ci` goes by: files, folders (so that one taken away counts), the toolchain.
 CHECKED = crates.txt $(shell find crates) $(shell command -v rt)
 WARNINGS = -Wall -Wextra -Wpedantic -Werror
-HEADERS = build/mmix.h build/mmix_text.h
+HEADERS = build/mmix.h build/mmix_text.h build/mmix_disassemble.h build/mmix_points.h
 VERSION = $(shell sed -n 's/^\#define MMIX_VERSION_[MI].* //p' include/mmix.h | paste -s -d .)
 
 .PHONY: help test quotes prove bench scripts-test points points-test lib install host host-test pop-watch programs oracle oracle-test differential guards mutants speed replay-list definitions constants clean need-rt need-gcc need-script need-points
@@ -138,7 +138,7 @@ LISTING = examples/grading/grading.mms
 $(HOSTS): build/%: examples/%.c build/libmmix.a $(HEADERS)
 	@gcc -O2 -std=c99 $(WARNINGS) -Ibuild -o $@ $(filter %.c,$^) build/libmmix.a
 
-build/header_test: examples/header_inline.c examples/header_start.c examples/header_numbers.h examples/header_test.h
+build/header_test: $(addprefix examples/header_,inline.c start.c text.c disassemble.c points.c numbers.h test.h)
 
 host: need-gcc build/relay_host build/grading
 	@build/relay_host
@@ -148,8 +148,9 @@ host: need-gcc build/relay_host build/grading
 host-test: need-gcc build/relay_host build/grading build/header_test
 	@build/relay_host | diff examples/relay_host.out - && echo 'relay_host: prints what it should'
 	@build/grading $(LISTING) | diff examples/grading.out - && echo 'grading: prints what it should'
+	@examples/readme_first
 	@examples/header_names $(HEADERS)
-	@build/header_test
+	@build/header_test $(LISTING)
 	@for h in $(HEADERS); do gcc -std=c99 $(WARNINGS) -Ibuild -fsyntax-only -x c - < $$h || exit 1; done; echo 'the headers are C99'
 	@if ! command -v g++ >/dev/null 2>&1; then echo 'no test of the headers as C++: g++ is not on the PATH; install the package g++'; \
 	  else for h in $(HEADERS); do g++ -std=c++17 $(WARNINGS) -Ibuild -fsyntax-only -x c++ - < $$h || exit 1; done; echo 'the headers are C++17'; fi
@@ -170,7 +171,7 @@ install: lib
 	@install -m 644 -D -t '$(DESTDIR)$(PREFIX)/share/doc/mmix' LICENSE NOTICE
 	@mkdir -p '$(DESTDIR)$(PREFIX)/lib/pkgconfig'
 	@sed 's|@PREFIX@|$(abspath $(PREFIX))|; s|@VERSION@|$(VERSION)|' include/mmix.pc.in > '$(DESTDIR)$(PREFIX)/lib/pkgconfig/mmix.pc'
-	@echo 'libmmix.a, mmix.h, mmix_text.h, mmix.pc and the licence are under $(DESTDIR)$(PREFIX)'
+	@echo 'libmmix.a, $(notdir $(HEADERS)), mmix.pc and the licence are under $(DESTDIR)$(PREFIX)'
 
 # ---- the Rust beside it
 

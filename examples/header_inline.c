@@ -113,7 +113,7 @@ static void try_runs(void)
 }
 
 /* A point taken, all overwritten, and the point gone back to; the store is longer than it need be. */
-static void try_points(void)
+static void try_stores(void)
 {
     again();
     plain.reply = mmix_take(A_AT, B_AT, POINT, plain.image, MMIX_IMAGE_LEN, plain.a, A_LEN, plain.b, B_LEN, store_plain, sizeof store_plain);
@@ -169,12 +169,30 @@ static void try_one_window(void)
     holds("mmix_one_window", one.a == NULL && one.b == in.b, "the window is not B");
 }
 
+/* An octabyte at every place of an array, and one that has been put there; its neighbours stay. */
+static void try_octabytes(void)
+{
+    static uint8_t bytes[40], should[40];
+
+    for (size_t at = 0; at + 8 <= sizeof bytes; at++) {
+        for (size_t k = 0; k < sizeof bytes; k++)
+            bytes[k] = should[k] = (uint8_t)(201 * k + 170);
+        is("mmix_octabyte", mmix_octabyte(bytes, at), octabyte(bytes + at));
+        mmix_set_octabyte(bytes, at, UINT64_C(0xFEDCBA9876543210));
+        set_octabyte(should + at, UINT64_C(0xFEDCBA9876543210));
+        holds("mmix_set_octabyte", memcmp(bytes, should, sizeof bytes) == 0, "it writes something else, or elsewhere");
+        is("mmix_octabyte, put there", mmix_octabyte(bytes, at), UINT64_C(0xFEDCBA9876543210));
+    }
+    is("mmix_octabyte, rV of a fresh state", mmix_octabyte(start.image, MMIX_AT_SPECIAL(MMIX_RV)), UINT64_C(0x369C200400000000));
+}
+
 void try_inline(void)
 {
     set_start();
     try_steps();
     try_runs();
-    try_points();
+    try_stores();
     try_contexts();
     try_one_window();
+    try_octabytes();
 }

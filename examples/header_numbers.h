@@ -1,8 +1,9 @@
-/* The names of mmix.h, each with its number; the replies with their sentences too. For header_test.c alone. */
+/* The names of the headers, each with its number; the replies with their sentences too. For header_test.c and its parts. */
 #ifndef HEADER_NUMBERS_H
 #define HEADER_NUMBERS_H
 
 #include "mmix.h"
+#include "mmix_text.h"
 
 struct named {
     const char *name;
@@ -42,6 +43,13 @@ static const struct named opcodes[] = {
     NAMED(MMIX_OP_TRIP, 0xFF)
 };
 
+/* The system calls. */
+static const struct named traps[] = {
+    NAMED(MMIX_TRAP_HALT, 0), NAMED(MMIX_TRAP_FOPEN, 1), NAMED(MMIX_TRAP_FCLOSE, 2), NAMED(MMIX_TRAP_FREAD, 3), NAMED(MMIX_TRAP_FGETS, 4),
+    NAMED(MMIX_TRAP_FGETWS, 5), NAMED(MMIX_TRAP_FWRITE, 6), NAMED(MMIX_TRAP_FPUTS, 7), NAMED(MMIX_TRAP_FPUTWS, 8), NAMED(MMIX_TRAP_FSEEK, 9),
+    NAMED(MMIX_TRAP_FTELL, 10), NAMED(MMIX_TRAP_FPUTC, 0x80), NAMED(MMIX_TRAP_TIME, 0x81), NAMED(MMIX_TRAP_DEBUG, 0x82)
+};
+
 static const struct named specials[] = {
     NAMED(MMIX_RB, 0), NAMED(MMIX_RD, 1), NAMED(MMIX_RE, 2), NAMED(MMIX_RH, 3), NAMED(MMIX_RJ, 4), NAMED(MMIX_RM, 5),
     NAMED(MMIX_RR, 6), NAMED(MMIX_RBB, 7), NAMED(MMIX_RC, 8), NAMED(MMIX_RN, 9), NAMED(MMIX_RO, 10), NAMED(MMIX_RS, 11),
@@ -63,7 +71,9 @@ static const struct named others[] = {
     NAMED(MMIX_AT_MARKS, 2320), NAMED(MMIX_AT_MASK, 2328), NAMED(MMIX_HIDEABLE, 0xF047F380), NAMED(MMIX_WINDOW_MAX, 1048576),
     NAMED(MMIX_POINTS, 16), NAMED(MMIX_ROOM_LEN, 2099528), NAMED(MMIX_STORE_LEN, 33592448), NAMED(MMIX_GRANT_MAX, 1000000),
     NAMED(MMIX_TASKS_MAX, 8), NAMED(MMIX_TURN_MAX, 1000), NAMED(MMIX_PAIRS_MAX, 32), NAMED(MMIX_STACK_START, 0x6000000000000000),
-    NAMED(sizeof(struct mmix_state), 2336)
+    NAMED(sizeof(struct mmix_state), 2336), NAMED(MMIX_DISASSEMBLY_LEN, 32), NAMED(MMIX_OLD_WINDOW_MAX, 65536),
+    NAMED(MMIX_ROOM_LEN_4, 133440), NAMED(MMIX_ROOM_LEN_5, 133448), NAMED(MMIX_LINE_DONE, 0), NAMED(MMIX_LINE_NONE, 1),
+    NAMED(MMIX_LINE_BAD, 2), NAMED(MMIX_LINE_FAILED, 3)
 };
 
 static const struct {

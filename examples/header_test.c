@@ -1,8 +1,9 @@
-/* The names and the inline functions of mmix.h and mmix_text.h: each name is compared with its number and, where a call can tell, with what the library
- * does; each inline function with the plain one (header_inline.c); the version, and an image with its stack anywhere (header_start.c). examples/header_names
- * looks that no name and no inline function is left out.
+/* The names and the inline functions of the headers: each name is compared with its number and, where a call can tell, with what the library
+ * does; each inline function with the plain one (header_inline.c), with what it should write (header_text.c, header_points.c) and with another
+ * way to the same lines (header_disassemble.c); the version, and an image with its stack anywhere (header_start.c). examples/header_names looks
+ * that none is left out.
  *
- *     make host-test
+ *     header_test LISTING      make host-test
  */
 #include <inttypes.h>
 #include <stdio.h>
@@ -162,6 +163,21 @@ static void try_opcodes(void)
     }
 }
 
+/* TRAP 0,Y,Z is a system call where Y is named, and no other TRAP is. */
+static void try_traps(void)
+{
+    for (unsigned y = 0; y < 256; y++) {
+        const char *name = NULL;
+        for (size_t k = 0; k < COUNT(traps); k++)
+            if (traps[k].value == y)
+                name = traps[k].name;
+        for (unsigned x = 0; x < 256; x++) {
+            fresh();
+            is(name == NULL ? "TRAP without a name" : name, step(MMIX_OP_TRAP, (uint8_t)x, (uint8_t)y, (uint8_t)(x + y)), x == 0 && name != NULL ? 4 : 20);
+        }
+    }
+}
+
 /* GET reads the register that the image has at that number, which has that name. */
 static void try_specials(void)
 {
@@ -246,7 +262,9 @@ static void try_limits(void)
     holds("MMIX_ROOM_LEN", memcmp(store + (MMIX_POINTS - 1) * MMIX_ROOM_LEN, image, 2336) == 0, "the last point is elsewhere");
 }
 
-#define MEET(reply, call) (fresh(), is(#reply, call, reply), met[reply] = 1)
+/* That a reply is met; and what a host does next says whether the halt code is 1. */
+#define MEET(reply, call) (fresh(), is(#reply, call, reply), met[reply] = 1, \
+                           is("mmix_reply_next of " #reply ", halt code", s.halt, strstr(mmix_reply_next(reply), "the halt code is 1") != NULL))
 
 /* Every reply is met. */
 static void try_replies(void)
@@ -293,49 +311,14 @@ static void try_replies(void)
         holds(replies[k].reply.name, met[k], "it was not met");
 }
 
-/* ---- words */
-
-static void try_texts(void)
+int main(int count, char **words)
 {
-    for (size_t k = 0; k < COUNT(replies); k++) {
-        const char *text = mmix_reply_text(k);
-        holds("mmix_reply_text", strcmp(text, replies[k].text) == 0, replies[k].reply.name);
-        for (size_t j = 0; j < k; j++)
-            holds("mmix_reply_text", strcmp(text, mmix_reply_text(j)) != 0, "two replies have one sentence");
+    if (count != 2) {
+        printf("header_test LISTING: a listing is needed\n");
+        return EXIT_FAILURE;
     }
-    holds("mmix_reply_text", strcmp(mmix_reply_text(34), "no reply of this version") == 0, "34 has a sentence");
-    holds("mmix_reply_text", strcmp(mmix_reply_text(UINT64_MAX), "no reply of this version") == 0, "all ones have a sentence");
-}
-
-static void try_print(void)
-{
-    static const char should[] =
-        "PC 1f0  halt code 12  marks 00a  mask 00008000\n"
-        "   rB 0000000000000007   rN 00000000000007d9   rO 6000000000000000   rS 6000000000000000\n"
-        "   rT 8000000500000000  rTT 8000000600000000   rK ffffffffffffffff   rV 369c200400000000\n"
-        "   rG 0000000000000020  rZZ fedcba9876543210\n"
-        "  $0   0000000000000001  $9   0000000000000002  $10  0000000000000003  $99  0000000000000004\n"
-        "  $255 0123456789abcdef\n";
-    char text[1024];
-    FILE *file = tmpfile();
-
-    if (file == NULL) {
-        perror("header_test: tmpfile");
-        exit(EXIT_FAILURE);
-    }
-    fresh();
-    s.pc = 0x1F0, s.halt = 12, s.marks = 10, s.mask = 0x8000, s.special[0] = 7, s.special[31] = UINT64_C(0xFEDCBA9876543210);
-    s.general[0] = 1, s.general[9] = 2, s.general[10] = 3, s.general[99] = 4, s.general[255] = UINT64_C(0x0123456789ABCDEF);
-    mmix_print_state(file, &s);
-    rewind(file);
-    text[fread(text, 1, sizeof text - 1, file)] = 0;
-    fclose(file);
-    holds("mmix_print_state", strcmp(text, should) == 0, text);
-}
-
-int main(void)
-{
     try_numbers(opcodes, COUNT(opcodes));
+    try_numbers(traps, COUNT(traps));
     try_numbers(specials, COUNT(specials));
     try_numbers(flags, COUNT(flags));
     try_numbers(others, COUNT(others));
@@ -344,15 +327,17 @@ int main(void)
     if (failed)
         return EXIT_FAILURE;        /* what follows rests on lengths and limits */
     try_opcodes();
+    try_traps();
     try_specials();
     try_flags();
     try_offsets();
     try_limits();
     try_replies();
-    try_texts();
-    try_print();
     try_inline();
     try_start();
+    try_texts();
+    try_disassembly(words[1]);
+    try_points();
     if (failed)
         return EXIT_FAILURE;
     printf("header_test: every name and every inline function is as it should be\n");

@@ -12,6 +12,14 @@
  *    apart from each other;
  *  - nothing else reads or writes them during the call.
  *
+ * Units:
+ *   bytes          image_len, images_len, a_len, b_len, store_len; pairs_len of mmix_put_set; starts and lengths in `parts`; *start
+ *                  and *length of mmix_context; MMIX_AT_.., MMIX_.._LEN, MMIX_WINDOW_MAX; `at` of mmix_octabyte
+ *   octabytes      the two lengths that a room of a store keeps, and nothing else
+ *   numbers        parts_len, two a task; pairs_len of mmix_put_set_parts, two a pair
+ *   instructions   grant, q, *done, counts
+ *   tetras         *field of mmix_branch_field and mmix_jump_field
+ *
  * What can hurt:
  *  - A run stops at a refusal, never at the halt code: a host that calls mmix_run again after 7 to 20, 29 or 31 comes to the
  *    same instruction again, or to the next one if it has moved PC.
@@ -34,10 +42,10 @@
  * Threads: a function touches only what it is handed, so threads may call any of them at the same time, each on objects of
  * its own.
  *
- * Stack, most that was measured, in bytes: mmix_tasks 7,900; mmix_step_lent 5,800; mmix_run 5,600; mmix_decode 4,700; mmix_step 3,500;
- * mmix_run_parts 3,100; mmix_put_set 3,000; mmix_take and mmix_go_back 2,600; mmix_exceptions, mmix_initialize, mmix_initialize_at
- * and mmix_encode 2,500; mmix_step_parts 1,000; mmix_context, mmix_exceptions_parts and mmix_put_set_parts 300; mmix_branch_field,
- * mmix_jump_field and mmix_version none. There is no recursion.
+ * Stack, most that was measured, in bytes (docs/SPEED.md): mmix_tasks 7,784; mmix_step_lent 5,240; mmix_run 5,208; mmix_decode 4,696;
+ * mmix_put_set 3,000; mmix_step 2,968; mmix_run_parts 2,824; mmix_take and mmix_go_back 2,544; mmix_exceptions 2,480; mmix_encode 2,384;
+ * mmix_initialize and mmix_initialize_at 2,352; mmix_step_parts 440; mmix_context 288; mmix_put_set_parts 176; mmix_exceptions_parts 120;
+ * mmix_branch_field, mmix_jump_field and mmix_version none. There is no recursion.
  */
 #ifndef MMIX_H
 #define MMIX_H
@@ -72,7 +80,8 @@ extern "C" {
  * 6.0: a window may have 1,048,576 bytes, where it had 65,536: a longer one was refused, and all else does what it did. MMIX_WINDOW_MAX
  * has grown, and with it the rooms, to 2,099,528 bytes, and MMIX_STORE_LEN, to 33,592,448: a store of 5 is none of 6, and its points
  * move over as lines.
- * 6.1: mmix_initialize_at and mmix_version. */
+ * 6.1: mmix_initialize_at and mmix_version; enum mmix_trap, mmix_octabyte and mmix_set_octabyte. Beside mmix_text.h stand mmix_disassemble.h and
+ * mmix_points.h. */
 #define MMIX_VERSION_MAJOR 6
 #define MMIX_VERSION_MINOR 1
 
@@ -146,6 +155,15 @@ enum mmix_opcode {
     MMIX_OP_JMP = 0xF0, MMIX_OP_JMPB, MMIX_OP_PUSHJ, MMIX_OP_PUSHJB, MMIX_OP_GETA, MMIX_OP_GETAB, MMIX_OP_PUT, MMIX_OP_PUTI,
     MMIX_OP_POP = 0xF8,
     MMIX_OP_SAVE = 0xFA, MMIX_OP_UNSAVE, MMIX_OP_SYNC, MMIX_OP_SWYM, MMIX_OP_GET, MMIX_OP_TRIP
+};
+
+/* The system calls: the Y of TRAP 0,Y,Z that are MMIX_NAMED_TRAP, which the host serves. Any other Y, and any X but 0, is MMIX_TRAPPED.
+ * HALT ends a program. Z is a file's handle, of TIME a unit, of DEBUG a text's number; a further argument is in $255, or, where there are two,
+ * they are in memory from the address in $255 on. The first eleven are Knuth's; FPUTC, TIME and DEBUG the ported simulator's own. */
+enum mmix_trap {
+    MMIX_TRAP_HALT = 0x00, MMIX_TRAP_FOPEN, MMIX_TRAP_FCLOSE, MMIX_TRAP_FREAD, MMIX_TRAP_FGETS, MMIX_TRAP_FGETWS, MMIX_TRAP_FWRITE,
+    MMIX_TRAP_FPUTS, MMIX_TRAP_FPUTWS, MMIX_TRAP_FSEEK, MMIX_TRAP_FTELL,
+    MMIX_TRAP_FPUTC = 0x80, MMIX_TRAP_TIME, MMIX_TRAP_DEBUG
 };
 
 /* The special registers, as indices. */
@@ -306,6 +324,11 @@ uint64_t mmix_put_set_parts(uint64_t general[256], uint64_t special[32], uint64_
  * MMIX_OLD_IMAGE_LEN bytes. Each call starts with task 0, all running, and goes on in order of number, `q` instructions a turn as mmix_run
  * does them, until `grant` instructions are done in all or every task has stopped. A task that is refused stops, and is passed over.
  *
+ * `q` comes before `grant`, and no compiler notices where they are exchanged: such a call is 33 where the grant was above MMIX_TURN_MAX,
+ * and otherwise stops too soon. With names for both, and the windows in a struct (below):
+ *
+ *     mmix_tasks_in(&lent, TURN, GRANT, images, sizeof images, parts, sizeof parts / sizeof *parts, counts, refusals);
+ *
  * MMIX_DONE, whatever became of the tasks: counts[k] is how many instructions task k did, refusals[k] the number that stopped it, or 0
  * where the grant was spent first. An instruction that needs an octabyte of B outside its task's part, or lies there, is refused by
  * MMIX_FOREIGN; octabytes of B that are in no part are so for all. Within a call a task still running waits for at most 7 * q
@@ -351,6 +374,26 @@ uint64_t mmix_go_back(uint64_t base_a, uint64_t base_b, uint64_t name, uint8_t *
  * may be given; misaligned ones too, since their difference counts. */
 uint64_t mmix_branch_field(uint64_t from, uint64_t to, uint8_t *backward, uint32_t *field);
 uint64_t mmix_jump_field(uint64_t from, uint64_t to, uint8_t *backward, uint32_t *field);
+
+/* ---- octabytes in bytes, for images, pairs, stores and windows: not proved and in no library */
+
+/* The octabyte whose high byte is bytes[at]: `at` counts bytes, as MMIX_AT_PC and its like do and as address - base does in a window. It
+ * takes the array and the place apart, so that a call reads like the names: mmix_octabyte(image, MMIX_AT_SPECIAL(MMIX_RO)). All of bytes[at]
+ * to bytes[at + 7] must be in the array; `at` need not be a multiple of 8. */
+static inline uint64_t mmix_octabyte(const uint8_t *bytes, size_t at)
+{
+    uint64_t value = 0;
+
+    for (size_t k = 0; k < 8; k++)
+        value = value << 8 | bytes[at + k];
+    return value;
+}
+
+static inline void mmix_set_octabyte(uint8_t *bytes, size_t at, uint64_t value)
+{
+    for (size_t k = 0; k < 8; k++)
+        bytes[at + k] = (uint8_t)(value >> (56 - 8 * k));
+}
 
 /* ---- the two windows in a struct, for people: the functions above under shorter calls, not proved and in no library */
 

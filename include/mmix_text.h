@@ -1,4 +1,5 @@
-/* mmix_text.h: replies, special registers and states in words, for people.
+/* mmix_text.h: the machine in words, for people. Replies and states are here, instructions in mmix_disassemble.h, points in mmix_points.h; this
+ * header brings all.
  *
  * Unlike the library, nothing here is proved: it prints what mmix.h names, and no function of the library calls it.
  */
@@ -9,6 +10,8 @@
 #include <stdio.h>
 
 #include "mmix.h"
+#include "mmix_disassemble.h"
+#include "mmix_points.h"
 
 /* The sentence of a reply. */
 static inline const char *mmix_reply_text(uint64_t reply)
@@ -52,15 +55,41 @@ static inline const char *mmix_reply_text(uint64_t reply)
     }
 }
 
-/* The name of special register k, "r?" above 31. */
-static inline const char *mmix_special_name(unsigned k)
+/* What a host does next. Where the halt code has become 1, it says so. */
+static inline const char *mmix_reply_next(uint64_t reply)
 {
-    static const char *const names[32] = {
-        "rB", "rD", "rE", "rH", "rJ", "rM", "rR", "rBB", "rC", "rN", "rO", "rS", "rI", "rT", "rTT", "rK",
-        "rQ", "rU", "rV", "rG", "rL", "rA", "rF", "rP", "rW", "rX", "rY", "rZ", "rWW", "rXX", "rYY", "rZZ"
-    };
-
-    return k < 32 ? names[k] : "r?";
+    switch (reply) {
+    case MMIX_DONE: return "go on";
+    case MMIX_NOT_ADMISSIBLE: return "mend rG, rL, rA, the marks or the mask, or give an image of 2,336 or 2,328 bytes, and ask again";
+    case MMIX_WINDOW_RULE: return "lend windows of at most 1,048,576 bytes, whose lengths and bases are multiples of 8, and ask again";
+    case MMIX_NO_ARM: return "do the instruction at PC yourself and move PC to @ + 4, or report it";
+    case MMIX_NAMED_TRAP: return "Y 0 is Halt: the program has ended; any other: serve it, write $255 and move PC to @ + 4";
+    case MMIX_NO_SPECIAL: return "report the program's fault at PC";
+    case MMIX_MISSING: return "lend a window that has the octabyte and ask again, or report a bad address";
+    case MMIX_PUT_UNKNOWN: case MMIX_PUT_PRIVILEGED: case MMIX_PUT_ILLEGAL: case MMIX_PUT_THRESHOLD: case MMIX_PUT_STATUS:
+        return "report the program's fault at PC, of a set the pair's place; the halt code is 1. A host writes such a register in the image";
+    case MMIX_MISPLACED: return "report the program's fault at PC: rO has been moved; the halt code is 1";
+    case MMIX_SAVE_LOCAL: return "report the program's fault at PC: SAVE takes a global register; the halt code is 1";
+    case MMIX_SAVED_THRESHOLD: case MMIX_SAVED_STATUS: case MMIX_SAVED_COUNT:
+        return "report it: no context is there, or it has been written over; the halt code is 1 after UNSAVE";
+    case MMIX_SYNC_PRIVILEGED: case MMIX_SYNC_ILLEGAL: return "report the program's fault at PC; the halt code is 1";
+    case MMIX_NOT_LOADED: return "report the trip, or pass over it: $255 as in rB, PC as in rW; the halt code is 1, and rX has the instruction";
+    case MMIX_TRAPPED: return "report the trap, or pass over it: $255 as in rBB, PC as in rWW; the halt code is 1, and rXX has the instruction";
+    case MMIX_OUT_OF_REACH: return "place the code nearer, or go there by GO or PUSHGO";
+    case MMIX_SHARED: return "lend windows that are apart, and ask again";
+    case MMIX_ACROSS: return "lend one window that has the whole context, and ask again";
+    case MMIX_NOT_FETCHED: return "lend a window that has the tetra at PC and run on, or report a jump to nowhere";
+    case MMIX_GRANT_TOO_LARGE: return "grant at most 1,000,000, and more in the next call";
+    case MMIX_STORE_TOO_SHORT: return "lend a store of 33,592,448 bytes, and ask again";
+    case MMIX_NO_POINT: return "take a point under that name first; names are 0 to 15";
+    case MMIX_OTHER_POINT: return "lend windows with the bases and lengths at which the point was taken, and ask again";
+    case MMIX_NO_FRAME: return "the outermost routine has returned: end the program, or report it; the halt code is 1";
+    case MMIX_TOO_MANY_PAIRS: return "put at most 32 pairs a call";
+    case MMIX_HIDDEN: return "report the program's fault at PC, or take the register out of the mask; the halt code is 1";
+    case MMIX_FOREIGN: return "report the task, or give it a part that has the octabyte; its rO and rS must lie in its part";
+    case MMIX_TASKS_RULE: return "give 1 to 8 tasks, turns of 1 to 1,000, and parts that are apart, inside B and of whole octabytes";
+    default: return "look for a newer mmix_text.h";
+    }
 }
 
 /* PC, halt code, marks and mask in a line, then each special register and each general one that is not 0, four in a line. */
