@@ -55,20 +55,16 @@ static uint8_t image[MMIX_IMAGE_LEN];
 static uint8_t low[LOW_LEN], stack[STACK_LEN];
 static const struct mmix_windows lent = { 0, MMIX_STACK_START, low, LOW_LEN, stack, STACK_LEN };
 
-/* `n` bytes, high byte first. */
-static uint64_t number(const uint8_t *at, unsigned n)
+/* The four bytes of a tetra, high byte first. */
+static uint32_t tetra(const uint8_t *at)
 {
-    uint64_t value = 0;
-
-    for (unsigned k = 0; k < n; k++)
-        value = value << 8 | at[k];
-    return value;
+    return (uint32_t)at[0] << 24 | (uint32_t)at[1] << 16 | (uint32_t)at[2] << 8 | at[3];
 }
 
-static void set_number(uint8_t *at, unsigned n, uint64_t value)
+static void set_tetra(uint8_t *at, uint32_t value)
 {
-    for (unsigned k = 0; k < n; k++)
-        at[k] = (uint8_t)(value >> (8 * (n - 1 - k)));
+    for (unsigned k = 0; k < 4; k++)
+        at[k] = (uint8_t)(value >> (24 - 8 * k));
 }
 
 /* Says why the host ends, and ends. */
@@ -109,20 +105,20 @@ static void load_block(const struct direction *direction)
 {
     uint8_t *block = low + direction->block;
 
-    set_number(block + AT_RELAYS, 8, RELAYS);
-    set_number(block + AT_MARGIN, 8, MARGIN);
-    set_number(block + AT_LATE, 8, LATE);
-    set_number(block + AT_VERDICTS, 8, direction->block + VERDICTS);
-    set_number(block + AT_VERDICTS_LATE, 8, direction->block + VERDICTS_LATE);
+    mmix_set_octabyte(block, AT_RELAYS, RELAYS);
+    mmix_set_octabyte(block, AT_MARGIN, MARGIN);
+    mmix_set_octabyte(block, AT_LATE, LATE);
+    mmix_set_octabyte(block, AT_VERDICTS, direction->block + VERDICTS);
+    mmix_set_octabyte(block, AT_VERDICTS_LATE, direction->block + VERDICTS_LATE);
     for (unsigned k = 0; k < RELAYS; k++) {
         const struct relay *relay = &direction->relays[k];
 
-        set_number(block + AT_FAULTS + 8 * k, 8, relay->fault);
+        mmix_set_octabyte(block, AT_FAULTS + 8 * k, relay->fault);
         for (unsigned j = 0; j < POINTS; j++) {
             uint8_t *point = block + AT_CURVES + 8 * (POINTS * k + j);
 
-            set_number(point, 4, relay->curve[j].current);
-            set_number(point + 4, 4, relay->curve[j].time);
+            set_tetra(point, relay->curve[j].current);
+            set_tetra(point + 4, relay->curve[j].time);
         }
     }
 }
@@ -139,10 +135,10 @@ static void run(void)
         grants++;
     } while (reply == MMIX_DONE && total < MOST);
 
-    uint64_t pc = number(image + MMIX_AT_PC, 8);
+    uint64_t pc = mmix_octabyte(image, MMIX_AT_PC);
     if (reply != MMIX_NAMED_TRAP)
         end("the program stops", mmix_reply_text(reply));
-    if (pc > LOW_LEN - 4 || number(low + pc, 4) != 0)
+    if (pc > LOW_LEN - 4 || tetra(low + pc) != 0)               /* TRAP 0,Halt,0 */
         end("the program stops", "it asks for a system call that this host does not serve");
     printf("The study ran to its halt at %" PRIx64 ": %" PRIu64 " instructions in %u grants of %d.\n", pc, total, grants, GRANT);
 }
@@ -153,8 +149,8 @@ static void print_pairs(const struct direction *direction, unsigned verdicts, in
     for (unsigned k = 1; k < RELAYS; k++) {
         const uint8_t *verdict = low + direction->block + verdicts + VERDICT_LEN * (k - 1);
         const struct relay *nearer = &direction->relays[k], *farther = nearer - 1;
-        int64_t first = (int64_t)number(verdict, 8), second = (int64_t)number(verdict + 8, 8);
-        int64_t left = (int64_t)number(verdict + 16, 8);
+        int64_t first = (int64_t)mmix_octabyte(verdict, 0), second = (int64_t)mmix_octabyte(verdict, 8);
+        int64_t left = (int64_t)mmix_octabyte(verdict, 16);
 
         if (second - first - needed != left)
             end(nearer->station, "the margin that is left is not what the two times say");
@@ -174,10 +170,10 @@ static void print_direction(const struct direction *direction)
 
     printf("Feed %s (marker %02x)\n", direction->name, direction->marker);
     printf("  the nearer breaker must open first, the next one %d ms later: %" PRIu64 " of %d pairs not graded\n", MARGIN,
-           number(block + AT_OPEN, 8), RELAYS - 1);
+           mmix_octabyte(block, AT_OPEN), RELAYS - 1);
     print_pairs(direction, VERDICTS, MARGIN);
     printf("  the case of a breaker that opens %d ms late, %d ms needed: %" PRIu64 " of %d pairs not graded\n", LATE,
-           MARGIN + LATE, number(block + AT_OPEN_LATE, 8), RELAYS - 1);
+           MARGIN + LATE, mmix_octabyte(block, AT_OPEN_LATE), RELAYS - 1);
     print_pairs(direction, VERDICTS_LATE, MARGIN + LATE);
 }
 
@@ -188,7 +184,7 @@ int main(int count, char **words)
     load_program(words[1]);
     if (mmix_initialize(image, sizeof image) != MMIX_DONE)
         end("the fresh state", "is refused");
-    set_number(image + MMIX_AT_PC, 8, PROGRAM);
+    mmix_set_octabyte(image, MMIX_AT_PC, PROGRAM);
     for (unsigned k = 0; k < 2; k++)
         load_block(&directions[k]);
 
@@ -196,7 +192,7 @@ int main(int count, char **words)
     for (unsigned k = 0; k < 2; k++)
         print_direction(&directions[k]);
 
-    uint64_t marker = number(image + MMIX_AT_GENERAL(0), 8), ro = number(image + MMIX_AT_SPECIAL(MMIX_RO), 8);
+    uint64_t marker = mmix_octabyte(image, MMIX_AT_GENERAL(0)), ro = mmix_octabyte(image, MMIX_AT_SPECIAL(MMIX_RO));
     printf("The direction in the caller's local, when all calls had returned and the parked context was back: %02" PRIx64 "\n",
            marker);
     if (marker != directions[1].marker || ro != MMIX_STACK_START)

@@ -17,8 +17,6 @@
 
 enum { LOW_LEN = 2048, STACK_LEN = 8192, CURVE_AT = 0x400, MESSAGE_AT = 0x500, DEPTH = 5 };   /* A starts at address 0 */
 
-enum { FPUTS = 7 };                     /* the system call that this host serves: Y of TRAP 0,Fputs,.. */
-
 static const uint64_t FORWARD = 0xF0;   /* direction markers: feed forward, feed reversed */
 static const uint64_t REVERSED = 0x0F;
 
@@ -30,16 +28,12 @@ static const struct mmix_windows lent = { 0, MMIX_STACK_START, low, LOW_LEN, sta
 /* The octabyte that starts at a byte of the image. */
 static uint64_t octabyte(size_t at)
 {
-    uint64_t value = 0;
-    for (size_t k = 0; k < 8; k++)
-        value = value << 8 | image[at + k];
-    return value;
+    return mmix_octabyte(image, at);
 }
 
 static void set_octabyte(size_t at, uint64_t value)
 {
-    for (size_t k = 0; k < 8; k++)
-        image[at + k] = (uint8_t)(value >> (56 - 8 * k));
+    mmix_set_octabyte(image, at, value);
 }
 
 static uint64_t general(size_t k)
@@ -93,8 +87,8 @@ static uint64_t put_set(const uint64_t *numbers, size_t count, uint64_t *place)
 {
     uint8_t pairs[16 * MMIX_PAIRS_MAX];
 
-    for (size_t k = 0; k < 8 * count; k++)
-        pairs[k] = (uint8_t)(numbers[k / 8] >> (56 - 8 * (k % 8)));
+    for (size_t k = 0; k < count; k++)
+        mmix_set_octabyte(pairs, 8 * k, numbers[k]);
     return mmix_put_set(image, sizeof image, pairs, 8 * count, place);
 }
 
@@ -144,20 +138,19 @@ static void as_before(const uint8_t before[MMIX_IMAGE_LEN])
 /* Parks the context at the top of the stack in $255, works another case, and takes the context up again. */
 static void work_another_case(void)
 {
+    const struct mmix_windows halves = { MMIX_STACK_START, MMIX_STACK_START + 1024, stack, 1024, stack + 1024, STACK_LEN - 1024 };
     uint8_t before[MMIX_IMAGE_LEN];
-    uint64_t which;
-    size_t start, length;
+    const uint8_t *context;
+    size_t length;
 
     memcpy(before, image, sizeof image);
     step("SAVE $255: park", MMIX_OP_SAVE, 255, 0, 0);
-    uint64_t reply = mmix_context(0, MMIX_STACK_START, general(255), low, sizeof low, stack, sizeof stack, &which, &start, &length);
+    uint64_t reply = mmix_context_in(&lent, general(255), &context, &length);
     if (reply != MMIX_DONE)
         end(mmix_reply_text(reply));
-    printf("%-28s reply %2" PRIu64 "  window %c, bytes %zu to %zu\n", "the parked context", reply, which == 1 ? 'B' : 'A', start,
-           start + length);
-    refused("read in two windows",
-            mmix_context(MMIX_STACK_START, MMIX_STACK_START + 1024, general(255), stack, 1024, stack + 1024, STACK_LEN - 1024,
-                         &which, &start, &length), MMIX_ACROSS);
+    size_t start = (size_t)(context - stack);       /* the stack is in B, and so is what SAVE puts there */
+    printf("%-28s reply %2" PRIu64 "  window B, bytes %zu to %zu\n", "the parked context", reply, start, start + length);
+    refused("read in two windows", mmix_context_in(&halves, general(255), &context, &length), MMIX_ACROSS);
 
     step("the other case: GETA $0", MMIX_OP_GETA, 0, 0x40, 0);
     step("the other case: PUSHJ $1", MMIX_OP_PUSHJ, 1, 0, 8);
@@ -244,7 +237,7 @@ static void serve_a_call(void)
 
     memcpy(low + MESSAGE_AT, message, sizeof message);
     set_octabyte(MMIX_AT_GENERAL(255), MESSAGE_AT);
-    refused("TRAP 0,Fputs,1", ask(MMIX_OP_TRAP, 0, FPUTS, 1), MMIX_NAMED_TRAP);
+    refused("TRAP 0,Fputs,1", ask(MMIX_OP_TRAP, 0, MMIX_TRAP_FPUTS, 1), MMIX_NAMED_TRAP);
 
     uint64_t from = general(255);
     const char *zero = from < sizeof low ? memchr(low + from, 0, sizeof low - from) : NULL;
@@ -295,7 +288,7 @@ static void load_eight_studies(void)
     static const uint8_t program[] = {
         MMIX_OP_ADDUI, 2, 0, 0,            /* 600: the routine's argument */
         MMIX_OP_PUSHJ, 1, 0, 2,            /* 604: $0 is kept below the hole */
-        MMIX_OP_TRAP, 0, 0, 0,             /* 608: Halt, the host's */
+        MMIX_OP_TRAP, 0, MMIX_TRAP_HALT, 0,  /* 608: the host's */
         MMIX_OP_BZ, 0, 0, 6,               /* 60c: the sum up to 0 is 0 */
         MMIX_OP_GET, 1, 0, MMIX_RJ,
         MMIX_OP_SUBUI, 3, 0, 1,

@@ -1,4 +1,5 @@
-/* Runs programs that GCC compiled for MMIX, by grants, on mmix_run_parts, and compares what they leave with what they should.
+/* Runs programs that GCC compiled for MMIX, by grants, by mmix_run_parts_in, the fastest way, and compares what they leave with
+ * what they should.
  *
  *     run_program FOLDER [NAME]      make programs
  *
@@ -99,8 +100,7 @@ static int store(uint64_t address, uint64_t value)
 
     if (at == NULL)
         return 0;
-    for (unsigned k = 0; k < 8; k++)
-        at[k] = (uint8_t)(value >> (56 - 8 * k));
+    mmix_set_octabyte(at, 0, value);
     return 1;
 }
 
