@@ -132,7 +132,7 @@ build/%.h: include/%.h
 	@mkdir -p build
 	@cp $< $@
 
-HOSTS = build/relay_host build/grading build/run_program build/header_test build/pop_watch
+HOSTS = build/relay_host build/grading build/run_program build/header_test build/facts_test build/pop_watch
 LISTING = examples/grading/grading.mms
 
 $(HOSTS): build/%: examples/%.c build/libmmix.a $(HEADERS)
@@ -144,13 +144,15 @@ host: need-gcc build/relay_host build/grading
 	@build/relay_host
 	@build/grading $(LISTING)
 
-# What the hosts print is the stored text; the headers' names and inline functions are as they should be, and each header serves C99 and C++17 by itself.
-host-test: need-gcc build/relay_host build/grading build/header_test
+# What the hosts print is the stored text; what README tells a host is so; the headers' names and inline functions are as they should be, and each header
+# serves C99 and C++17 by itself.
+host-test: need-gcc build/relay_host build/grading build/header_test build/facts_test
 	@build/relay_host | diff examples/relay_host.out - && echo 'relay_host: prints what it should'
 	@build/grading $(LISTING) | diff examples/grading.out - && echo 'grading: prints what it should'
 	@examples/readme_first
 	@examples/header_names $(HEADERS)
 	@build/header_test $(LISTING)
+	@build/facts_test README.md
 	@for h in $(HEADERS); do gcc -std=c99 $(WARNINGS) -Ibuild -fsyntax-only -x c - < $$h || exit 1; done; echo 'the headers are C99'
 	@if ! command -v g++ >/dev/null 2>&1; then echo 'no test of the headers as C++: g++ is not on the PATH; install the package g++'; \
 	  else for h in $(HEADERS); do g++ -std=c++17 $(WARNINGS) -Ibuild -fsyntax-only -x c++ - < $$h || exit 1; done; echo 'the headers are C++17'; fi

@@ -86,7 +86,7 @@ static inline const char *mmix_reply_next(uint64_t reply)
     case MMIX_NO_FRAME: return "the outermost routine has returned: end the program, or report it; the halt code is 1";
     case MMIX_TOO_MANY_PAIRS: return "put at most 32 pairs a call";
     case MMIX_HIDDEN: return "report the program's fault at PC, or take the register out of the mask; the halt code is 1";
-    case MMIX_FOREIGN: return "report the task, or give it a part that has the octabyte; its rO and rS must lie in its part";
+    case MMIX_FOREIGN: return "report the task, or give it a part that has the octabyte; its rO must lie in its part";
     case MMIX_TASKS_RULE: return "give 1 to 8 tasks, turns of 1 to 1,000, and parts that are apart, inside B and of whole octabytes";
     default: return "look for a newer mmix_text.h";
     }
