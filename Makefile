@@ -26,13 +26,14 @@ WARNINGS = -Wall -Wextra -Wpedantic -Werror
 HEADERS = build/mmix.h build/mmix_text.h build/mmix_disassemble.h build/mmix_points.h
 VERSION = $(shell sed -n 's/^\#define MMIX_VERSION_[MI].* //p' include/mmix.h | paste -s -d .)
 
-.PHONY: help test quotes prove bench scripts-test points points-test lib install host host-test pop-watch programs oracle oracle-test differential guards mutants speed replay-list definitions constants clean need-rt need-gcc need-script need-points
+.PHONY: help test quotes prove bench scripts-test points points-test lib shared install host host-test pop-watch programs oracle oracle-test differential guards mutants speed replay-list definitions constants clean need-rt need-gcc need-script need-points
 
 help:
 	@echo 'make bench SCRIPT=path       the bench program on a script (examples/scripts/first.script)'
 	@echo 'make points FILE=path        the points of a file, a line each, written anew (examples/points/first.points)'
 	@echo 'make test                    the gate: all proofs and must-fail edits, the hosts, compiled programs, the scripts, the points, the comparison with the Rust'
 	@echo 'make lib                     build/libmmix.a with its headers, proved'
+	@echo 'make shared                  build/libmmix.so, the same code as a shared library, for Python and others'
 	@echo 'make host                    build and run examples/relay_host.c and grading.c, a program that grades relays'
 	@echo 'make pop-watch               watch in which order the POP of the library writes registers'
 	@echo 'make programs                run compiled programs (PROGRAMS=folder) by grants, and compare answers and counts'
@@ -128,6 +129,12 @@ build/libmmix.a: $(RATTLE)
 	@set -o pipefail; rt staticlib mmix 2>&1 | tee build/lib.log | grep --line-buffered '^rt:' || { cat build/lib.log; exit 1; }
 	@cp target/staticlib/libmmix.a $@
 
+# The whole archive: no other object asks for its functions.
+shared: need-gcc build/libmmix.so
+
+build/libmmix.so: build/libmmix.a
+	@gcc -shared -o $@ -Wl,--whole-archive $< -Wl,--no-whole-archive -Wl,-z,defs
+
 build/%.h: include/%.h
 	@mkdir -p build
 	@cp $< $@
@@ -145,8 +152,9 @@ host: need-gcc build/relay_host build/grading
 	@build/grading $(LISTING)
 
 # What the hosts print is the stored text; what README tells a host is so; the headers' names and inline functions are as they should be, and each header
-# serves C99 and C++17 by itself.
-host-test: need-gcc build/relay_host build/grading build/header_test build/facts_test
+# serves C99 and C++17 by itself; the shared library has the archive's functions, and Python prints on it what README's C program prints. Without python3 it
+# says so, and fails only where CI is true.
+host-test: need-gcc build/relay_host build/grading build/header_test build/facts_test build/libmmix.so
 	@build/relay_host | diff examples/relay_host.out - && echo 'relay_host: prints what it should'
 	@build/grading $(LISTING) | diff examples/grading.out - && echo 'grading: prints what it should'
 	@examples/readme_first
@@ -156,6 +164,11 @@ host-test: need-gcc build/relay_host build/grading build/header_test build/facts
 	@for h in $(HEADERS); do gcc -std=c99 $(WARNINGS) -Ibuild -fsyntax-only -x c - < $$h || exit 1; done; echo 'the headers are C99'
 	@if ! command -v g++ >/dev/null 2>&1; then echo 'no test of the headers as C++: g++ is not on the PATH; install the package g++'; \
 	  else for h in $(HEADERS); do g++ -std=c++17 $(WARNINGS) -Ibuild -fsyntax-only -x c++ - < $$h || exit 1; done; echo 'the headers are C++17'; fi
+
+	@diff <(nm -g --defined-only build/libmmix.a | awk '$$2 == "T" { print $$3 }' | sort) <(nm -D --defined-only build/libmmix.so | awk '$$2 == "T" { print $$3 }' | sort) \
+	  && echo 'libmmix.so: it has the functions of libmmix.a'
+	@if ! command -v python3 >/dev/null 2>&1; then echo 'no test of Python: python3 is not on the PATH; install the package python3'; [ "$${CI:-}" != true ]; \
+	  else python3 examples/first.py build/libmmix.so > build/told && build/first | diff - build/told && echo 'first.py: prints what first.c prints'; fi
 
 # POP's order of work, write by write; first the watcher itself.
 pop-watch: need-gcc build/pop_watch
