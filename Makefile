@@ -33,6 +33,7 @@ help:
 	@echo 'make points FILE=path        the points of a file, a line each, written anew (examples/points/first.points)'
 	@echo 'make test                    the gate: all proofs and must-fail edits, the hosts, compiled programs, the scripts, the points, the comparison with the Rust'
 	@echo 'make lib                     build/libmmix.a with its headers, proved'
+	@echo 'make build/store_lines       the program that moves points from one store to another as lines'
 	@echo 'make shared                  build/libmmix.so, the same code as a shared library, for Python and others'
 	@echo 'make host                    build and run examples/relay_host.c and grading.c, a program that grades relays'
 	@echo 'make pop-watch               watch in which order the POP of the library writes registers'
@@ -110,9 +111,10 @@ points: need-rt need-points build/points
 need-points:
 	@[ -r '$(FILE)' ] || { echo "no points at '$(FILE)': make points FILE=path" >&2; exit 1; }
 
-# Points come out as they went in, bad lines are told, however the input is split; and a failure is told.
-points-test: need-rt build/points
+# Points come out as they went in, bad lines are told, however the input is split; and a failure is told. The functions of mmix_points.h do the same.
+points-test: need-rt need-gcc build/points build/store_lines build/take_points
 	@examples/points/test build/points
+	@examples/points/test_store build/points build/store_lines build/take_points
 	@if $(MAKE) --no-print-directory points FILE=no.points > build/told 2>&1; [ $$? = 0 ] || ! grep -q "no points at 'no.points'" build/told; then \
 	  echo 'make points: a path that is not there is not told'; exit 1; fi
 	@if $(MAKE) --no-print-directory points > /dev/full 2> build/told; then echo 'make points: a write that fails passes'; exit 1; fi
@@ -139,7 +141,7 @@ build/%.h: include/%.h
 	@mkdir -p build
 	@cp $< $@
 
-HOSTS = build/relay_host build/grading build/run_program build/header_test build/facts_test build/pop_watch
+HOSTS = $(addprefix build/,relay_host grading run_program store_lines take_points header_test facts_test pop_watch)
 LISTING = examples/grading/grading.mms
 
 $(HOSTS): build/%: examples/%.c build/libmmix.a $(HEADERS)
