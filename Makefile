@@ -64,6 +64,7 @@ test: need-rt need-gcc
 	@docs/check_theorems
 	@$(MAKE) --no-print-directory quotes
 	@docs/check_contracts
+	@docs/check_progress
 	@if $(MAKE) --no-print-directory -q build/ci.log; then echo 'proofs and edits: nothing has changed since they passed; make clean to repeat them'; \
 	  else $(MAKE) --no-print-directory build/ci.log; fi
 	@$(MAKE) --no-print-directory host-test pop-watch programs scripts-test points-test oracle-test differential
@@ -78,7 +79,7 @@ quotes:
 # It is there only where `rt ci` has passed.
 build/ci.log: $(CHECKED)
 	@mkdir -p build; rm -f $@
-	@set -o pipefail; rt ci 2>&1 | tee build/ci.part | sed -u '$$d' || { tail -n 1 build/ci.part; exit 1; }
+	@set -o pipefail; rt ci 2>&1 | tee build/ci.part | sed -u '$$d' | docs/progress || { tail -n 1 build/ci.part; exit 1; }
 	@mv build/ci.part $@
 
 prove: need-rt
@@ -88,7 +89,7 @@ prove: need-rt
 
 build/bench build/points: build/%: $(RATTLE) examples/scripts/bench
 	@mkdir -p build
-	@set -o pipefail; rt check $* 2>&1 | tee build/$*.log | grep --line-buffered '^rt:' || { cat build/$*.log; exit 1; }
+	@set -o pipefail; rt check $* 2>&1 | tee build/$*.log | grep --line-buffered '^rt:' | docs/progress $* || { cat build/$*.log; exit 1; }
 	@cp target/bin/$* $@-proved
 	@cp examples/scripts/bench $@
 
@@ -123,12 +124,12 @@ points-test: need-rt need-gcc build/points build/store_lines build/take_points
 
 lib: build/libmmix.a $(HEADERS)
 
-# The log is shown as it goes, crate by crate, and whole where something is not proved. Only this rule needs rt: what is built can be
+# The log is shown as it goes, crate by crate, each named before it begins, and whole where something is not proved. Only this rule needs rt: what is built can be
 # installed without it.
 build/libmmix.a: $(RATTLE)
 	@$(MAKE) --no-print-directory need-rt
 	@mkdir -p build
-	@set -o pipefail; rt staticlib mmix 2>&1 | tee build/lib.log | grep --line-buffered '^rt:' || { cat build/lib.log; exit 1; }
+	@set -o pipefail; rt staticlib mmix 2>&1 | tee build/lib.log | grep --line-buffered '^rt:' | docs/progress --one mmix || { cat build/lib.log; exit 1; }
 	@cp target/staticlib/libmmix.a $@
 
 # The whole archive: no other object asks for its functions.
