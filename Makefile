@@ -65,6 +65,7 @@ test: need-rt need-gcc
 	@$(MAKE) --no-print-directory quotes
 	@docs/check_contracts
 	@docs/check_progress
+	@docs/check_stack
 	@if $(MAKE) --no-print-directory -q build/ci.log; then echo 'proofs and edits: nothing has changed since they passed; make clean to repeat them'; \
 	  else $(MAKE) --no-print-directory build/ci.log; fi
 	@$(MAKE) --no-print-directory host-test pop-watch programs scripts-test points-test oracle-test differential

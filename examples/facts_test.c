@@ -1,4 +1,4 @@
-/* README's 'What a host should know', tried on the library, fact by fact. Where README names values (the fresh state, a context's order, the store's size) they are
+/* README's 'What a host should know', and what it says of a claim, tried on the library, fact by fact. Where README names values (the fresh state, a context's order, the store's size) they are
  * put into words from what the library does, and the words are looked for in README.
  *
  *     facts_test README      make host-test
@@ -290,9 +290,32 @@ static void try_units(void)
     is("one task has 2 numbers", mmix_tasks_in(&lent, 1, 1, image, sizeof image, parts, 2, counts, refusals), MMIX_DONE);
     is("a frame in a part of bytes 8 to 15", refusals[0], MMIX_DONE);
     is("its count of instructions", counts[0], 1);
+    mmix_set_octabyte(image, MMIX_AT_PC, A_AT);
+    is("q above 1,000, as where q and grant are exchanged", mmix_tasks_in(&lent, 5000, 5, image, sizeof image, parts, 2, counts, refusals), MMIX_TASKS_RULE);
+    low[0] = MMIX_OP_JMP, low[3] = 0;
+    is("q and grant exchanged", mmix_tasks_in(&lent, 900, 5, image, sizeof image, parts, 2, counts, refusals), MMIX_DONE);
+    is("so few instructions are done then", counts[0], 5);
     is("one number of parts", mmix_tasks_in(&lent, 1, 1, image, sizeof image, parts, 1, counts, refusals), MMIX_TASKS_RULE);
     parts[1] = 1;
     is("a part of one byte", mmix_tasks_in(&lent, 1, 1, image, sizeof image, parts, 2, counts, refusals), MMIX_TASKS_RULE);
+}
+
+/* In a run an instruction that writes $X claims it: the marginal registers up to $X become locals, 0, and rL is X + 1. */
+static void try_claim(void)
+{
+    static const uint8_t copy[] = { MMIX_OP_NEGUI, 5, 7, 0 };
+    uint64_t done;
+
+    fresh();
+    memcpy(low, copy, sizeof copy);
+    set_special(MMIX_RL, 2);
+    for (size_t k = 0; k < 10; k++)
+        set_general(k, MARK + k);
+    is("a claim", mmix_run_in(&lent, 1, image, sizeof image, &done), MMIX_DONE);
+    is("a claim, rL", special(MMIX_RL), 6);
+    for (size_t k = 0; k < 5; k++)
+        is("a claim, the registers below", general(k), k < 2 ? MARK + k : 0);
+    is("a claim, $X", general(5), 7);
 }
 
 static void try_store(void)
@@ -322,6 +345,7 @@ int main(int count, char **words)
     try_context();
     try_units();
     try_store();
+    try_claim();
     if (failed)
         return EXIT_FAILURE;
     printf("facts_test: what README tells a host is so\n");
