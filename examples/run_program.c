@@ -227,8 +227,12 @@ static int check(const char *folder, const struct program *program)
         && served == program->served;
     printf("%-14s %016" PRIx64 " %9" PRIu64 " %7" PRIu64 " %8.1f %6.1f  %s\n", program->name, state.general[0], done, served,
            (double)(done + served) / least * 1e-6, least * 1e9 / (double)(done + served), same ? "as it should" : "DIFFERS");
-    if (!halts)
-        printf("  stopped at %" PRIx64 ", tetra %08" PRIx32 ": %s\n", state.pc, tetra_at_pc(), mmix_reply_text(reply));
+    if (!halts) {
+        char line[MMIX_DISASSEMBLY_LEN];
+
+        mmix_disassemble(line, sizeof line, state.pc, tetra_at_pc());
+        printf("  stopped at %" PRIx64 ", %s: %s: %s\n", state.pc, line, mmix_reply_text(reply), mmix_reply_next(reply));
+    }
     if (!same)
         printf("  should be: answer %016" PRIx64 ", done %" PRIu64 ", served %" PRIu64 "\n", program->answer, program->done,
                program->served);
