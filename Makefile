@@ -149,7 +149,7 @@ LISTING = examples/grading/grading.mms
 $(HOSTS): build/%: examples/%.c build/libmmix.a $(HEADERS)
 	@gcc -O2 -std=c99 $(WARNINGS) -Ibuild -o $@ $(filter %.c,$^) build/libmmix.a
 
-build/header_test: $(addprefix examples/header_,inline.c start.c text.c disassemble.c points.c numbers.h test.h)
+build/header_test: $(addprefix examples/header_,inline.c start.c text.c disassemble.c assemble.c points.c numbers.h test.h assemble.h)
 
 host: need-gcc build/relay_host build/grading
 	@build/relay_host
