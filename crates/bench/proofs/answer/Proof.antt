@@ -13,12 +13,6 @@ slice-aggregate-run c =
     let s = c .before .before .before in
     sym (length-take-le (s .args .got) (s .args .input .now) (s .pre .held))
 
-run-requires : tie.Need-run-requires
-run-requires c κs = search needs
-
-same-length : tie.Need-same-length
-same-length c = search needs
-
 returns : tie.Need-returns
 returns c =
     let ran = c .before .before in
@@ -30,4 +24,4 @@ returns c =
     }
 
 pub answer-spec : {M : Type 1} → statement M
-answer-spec = tie.close (tie.spec slice-aggregate-run run-requires same-length returns)
+answer-spec = tie.close (tie.spec slice-aggregate-run (λ c κs. search needs) (λ c. search needs) returns)

@@ -25,24 +25,9 @@ abbrev μ-loop : tie.MeasureT-loop
 loop-holds : tie.Need-loop-holds Inv-loop μ-loop
 loop-holds c = (omega arith, refl)
 
-read-more-requires : tie.Need-read-more-requires Inv-loop μ-loop
-read-more-requires c κs = search needs
-
-enum-known-more : tie.Need-enum-known-more Inv-loop μ-loop
-enum-known-more c = search needs
-
-enum-told : tie.Need-enum-told Inv-loop μ-loop
-enum-told c = search needs
-
-same-length : tie.Need-same-length Inv-loop μ-loop
-same-length c = search needs
-
 returns : tie.Need-returns Inv-loop μ-loop
 unfolding Within
 returns c = search needs
-
-same-length-2 : tie.Need-same-length-2 Inv-loop μ-loop
-same-length-2 c = search needs
 
 returns-2 : tie.Need-returns-2 Inv-loop μ-loop
 unfolding Within
@@ -64,9 +49,6 @@ loop-again c =
     let j = joined _ _ (at-loop .loop .buf) (at-loop .loop .done) _ (reading .read-more .ensures) (told .more .given .1) in
     (j .2, reading .read-more .kept .1 .0 ∙ at-loop .loop .inv .1)
 
-same-length-3 : tie.Need-same-length-3 Inv-loop μ-loop
-same-length-3 c = search needs
-
 returns-3 : tie.Need-returns-3 Inv-loop μ-loop
 unfolding Within
 returns-3 c = search needs
@@ -78,14 +60,11 @@ read-all-spec =
     Inv-loop
     μ-loop
     loop-holds
-    read-more-requires
-    enum-known-more
-    enum-told
-    same-length
+    (λ c κs. search needs) (λ c. search needs) (λ c. search needs) (λ c. search needs)
     returns
-    same-length-2
+    (λ c. search needs)
     returns-2
     loop-less
     loop-again
-    same-length-3
+    (λ c. search needs)
     returns-3)

@@ -7,17 +7,8 @@ use Rattle.exceptions.proofs.Interrupts.{not-admissible, exception-told
 use Rattle.exceptions.proofs.raise_exceptions.Statement.{statement}
 use Rattle.exceptions.proofs.raise_exceptions.Tie as tie
 
-admissible-requires : tie.Need-admissible-requires
-admissible-requires c κs = search needs
-
 returns : tie.Need-returns
 returns c = not-admissible _ _ _ _ _ _ _ _ (sym (c .before .admissible .ensures _ _ _) ∙ not-true _ (c .if1 .taken))
-
-word-of-requires : tie.Need-word-of-requires
-word-of-requires c κs = search needs
-
-raise-requires : tie.Need-raise-requires
-raise-requires c κs = search needs
 
 returns-2 : tie.Need-returns-2
 returns-2 c =
@@ -29,4 +20,4 @@ returns-2 c =
     exception-told s _ _ _ _ _ _ _ _ _ _ (sym (else .before .admissible .ensures (s .general) (s .pc) (s .halt)) ∙ not-false _ (else .if1 .left)) (words .word-of .ensures) (c .raise .ensures (a .mask))
 
 pub raise-exceptions-spec : {M : Type 1} → statement M
-raise-exceptions-spec = tie.close (tie.spec admissible-requires returns word-of-requires raise-requires returns-2)
+raise-exceptions-spec = tie.close (tie.spec (λ c κs. search needs) returns (λ c κs. search needs) (λ c κs. search needs) returns-2)

@@ -6,15 +6,6 @@ use Rattle.exceptions.proofs.Interrupts.{trip-loaded, trip-not-loaded}
 use Rattle.exceptions.proofs.trip.Statement.{statement}
 use Rattle.exceptions.proofs.trip.Tie as tie
 
-set-interrupt-requires : tie.Need-set-interrupt-requires
-set-interrupt-requires c κs = search needs
-
-is-loaded-requires : tie.Need-is-loaded-requires
-is-loaded-requires c κs = search needs
-
-mul-pc : tie.Need-mul-pc
-mul-pc c = search needs
-
 returns : tie.Need-returns
 returns c =
     λ mask.
@@ -30,4 +21,4 @@ returns-2 c =
     trip-not-loaded s _ _ _ _ _ _ (c .before .before .set-interrupt .ensures (a .halt .now) (a .marks) mask) (sym (c .before .is-loaded .ensures) ∙ c .if1 .left)
 
 pub trip-spec : {M : Type 1} → statement M
-trip-spec = tie.close (tie.spec set-interrupt-requires is-loaded-requires mul-pc returns returns-2)
+trip-spec = tie.close (tie.spec (λ c κs. search needs) (λ c κs. search needs) (λ c. search needs) returns returns-2)

@@ -5,9 +5,6 @@ use borrow.Author.Needs.{needs}
 use Rattle.image.proofs.decode.Statement.{statement}
 use Rattle.image.proofs.decode.Tie as tie
 
-is-image-requires : tie.Need-is-image-requires
-is-image-requires c κs = search needs
-
 returns : tie.Need-returns
 returns c = decoded-else _ (denied _ _ (c .before .is-image .ensures) (c .if1 .taken)) _
 
@@ -20,4 +17,4 @@ returns-2 c =
     decoded _ (granted _ _ (test .before .is-image .ensures) (test .if1 .left)) _ _ (c .load-parts .ensures)
 
 pub decode-spec : {M : Type 1} → statement M
-decode-spec = tie.close (tie.spec is-image-requires returns load-parts-requires returns-2)
+decode-spec = tie.close (tie.spec (λ c κs. search needs) returns load-parts-requires returns-2)

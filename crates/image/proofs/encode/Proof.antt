@@ -5,12 +5,6 @@ use borrow.Author.Needs.{needs}
 use Rattle.image.proofs.encode.Statement.{statement}
 use Rattle.image.proofs.encode.Tie as tie
 
-has-room-requires : tie.Need-has-room-requires
-has-room-requires c κs = search needs
-
-same-length : tie.Need-same-length
-same-length c = search needs
-
 returns : tie.Need-returns
 returns c = encoded-else _ _ (denied _ _ (c .before .has-room .ensures) (c .if1 .taken))
 
@@ -19,9 +13,6 @@ store-parts-requires c κs =
     let test = c .before .before .before .before .before in
     room-image _ _ (granted _ _ (test .before .has-room .ensures) (test .if1 .left))
 
-same-length-2 : tie.Need-same-length-2
-same-length-2 c = search needs
-
 returns-2 : tie.Need-returns-2
 returns-2 c =
     let storing = c .before .before in
@@ -29,4 +20,4 @@ returns-2 c =
     encoded _ _ _ (granted _ _ (test .before .has-room .ensures) (test .if1 .left)) (storing .store-parts .ensures)
 
 pub encode-spec : {M : Type 1} → statement M
-encode-spec = tie.close (tie.spec has-room-requires same-length returns store-parts-requires same-length-2 returns-2)
+encode-spec = tie.close (tie.spec (λ c κs. search needs) (λ c. search needs) returns store-parts-requires (λ c. search needs) returns-2)

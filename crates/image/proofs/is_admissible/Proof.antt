@@ -9,19 +9,10 @@ use borrow.Author.Needs.{needs}
 use Rattle.image.proofs.is_admissible.Statement.{statement}
 use Rattle.image.proofs.is_admissible.Tie as tie
 
-is-image-requires : tie.Need-is-image-requires
-is-image-requires c κs = search needs
-
 returns : tie.Need-returns
 returns c =
     let l = c .before .before .before .args .image .now in
     sym (ap (λ (t : Bool). t && admissible (stateOf l)) (denied _ _ (c .before .is-image .ensures) (c .if1 .taken)))
-
-load-state-requires : tie.Need-load-state-requires
-load-state-requires c κs = search needs
-
-admissible-requires : tie.Need-admissible-requires
-admissible-requires c κs = search needs
 
 returns-2 : tie.Need-returns-2
 returns-2 c =
@@ -36,4 +27,4 @@ returns-2 c =
 pub is-admissible-spec : {M : Type 1} → statement M
 is-admissible-spec =
     tie.close
-    (tie.spec is-image-requires returns load-state-requires admissible-requires returns-2)
+    (tie.spec (λ c κs. search needs) returns (λ c κs. search needs) (λ c κs. search needs) returns-2)

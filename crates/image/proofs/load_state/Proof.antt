@@ -6,9 +6,6 @@ use borrow.Author.Needs.{needs}
 use Rattle.image.proofs.load_state.Statement.{statement}
 use Rattle.image.proofs.load_state.Tie as tie
 
-is-image-requires : tie.Need-is-image-requires
-is-image-requires c κs = search needs
-
 returns : tie.Need-returns
 returns c = if-other _ (denied _ _ (c .before .is-image .ensures) (c .if1 .taken)) _ _
 
@@ -21,4 +18,4 @@ returns-2 c =
     c .load-parts .ensures ∙ if-image _ (granted _ _ (test .before .is-image .ensures) (test .if1 .left)) _ _
 
 pub load-state-spec : {M : Type 1} → statement M
-load-state-spec = tie.close (tie.spec is-image-requires returns load-parts-requires returns-2)
+load-state-spec = tie.close (tie.spec (λ c κs. search needs) returns load-parts-requires returns-2)

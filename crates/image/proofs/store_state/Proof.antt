@@ -5,14 +5,8 @@ use borrow.Author.Needs.{needs}
 use Rattle.image.proofs.store_state.Statement.{statement}
 use Rattle.image.proofs.store_state.Tie as tie
 
-has-room-requires : tie.Need-has-room-requires
-has-room-requires c κs = search needs
-
 store-parts-requires : tie.Need-store-parts-requires
 store-parts-requires c κs = let test = c .before in room-image _ _ (sym (test .before .has-room .ensures) ∙ test .if1 .taken)
-
-same-length : tie.Need-same-length
-same-length c = search needs
 
 returns : tie.Need-returns
 returns c =
@@ -20,11 +14,8 @@ returns c =
     let test = storing .before .before in
     storing .store-parts .ensures ∙ sym (stored-is _ _ (sym (test .before .has-room .ensures) ∙ test .if1 .taken))
 
-same-length-2 : tie.Need-same-length-2
-same-length-2 c = search needs
-
 returns-2 : tie.Need-returns-2
 returns-2 c = sym (stored-not _ _ (sym (c .before .has-room .ensures) ∙ c .if1 .left))
 
 pub store-state-spec : {M : Type 1} → statement M
-store-state-spec = tie.close (tie.spec has-room-requires store-parts-requires same-length returns same-length-2 returns-2)
+store-state-spec = tie.close (tie.spec (λ c κs. search needs) store-parts-requires (λ c. search needs) returns (λ c. search needs) returns-2)

@@ -4,14 +4,8 @@ use Rattle.mmix.proofs.Entries.{field-told}
 use Rattle.mmix.proofs.mmix_branch_field.Statement.{statement}
 use Rattle.mmix.proofs.mmix_branch_field.Tie as tie
 
-branch-field-requires : tie.Need-branch-field-requires
-branch-field-requires c κs = search needs
-
-tell-reach-requires : tie.Need-tell-reach-requires
-tell-reach-requires c κs = search needs
-
 returns : tie.Need-returns
 returns c = field-told _ _ (c .before .before .before .branch-field .ensures) _ _ _ (c .tell-reach .ensures)
 
 pub mmix-branch-field-spec : {M : Type 1} → statement M
-mmix-branch-field-spec = tie.close (tie.spec branch-field-requires tell-reach-requires returns)
+mmix-branch-field-spec = tie.close (tie.spec (λ c κs. search needs) (λ c κs. search needs) returns)

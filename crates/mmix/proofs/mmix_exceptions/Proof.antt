@@ -7,26 +7,8 @@ use borrow.Author.Needs.{needs}
 use Rattle.mmix.proofs.mmix_exceptions.Statement.{statement}
 use Rattle.mmix.proofs.mmix_exceptions.Tie as tie
 
-is-image-requires : tie.Need-is-image-requires
-is-image-requires c κs = search needs
-
-same-length : tie.Need-same-length
-same-length c = search needs
-
 returns : tie.Need-returns
 returns c = raised-else _ (denied _ _ (c .before .is-image .ensures) (c .if1 .taken)) _ _ _ _ _ _ _
-
-load-state-requires : tie.Need-load-state-requires
-load-state-requires c κs = search needs
-
-mmix-exceptions-parts-requires : tie.Need-mmix-exceptions-parts-requires
-mmix-exceptions-parts-requires c κs = search needs
-
-store-state-requires : tie.Need-store-state-requires
-store-state-requires c κs = search needs
-
-same-length-2 : tie.Need-same-length-2
-same-length-2 c = search needs
 
 returns-2 : tie.Need-returns-2
 returns-2 c =
@@ -42,11 +24,7 @@ pub mmix-exceptions-spec : {M : Type 1} → statement M
 mmix-exceptions-spec =
     tie.close
     (tie.spec
-    is-image-requires
-    same-length
+    (λ c κs. search needs) (λ c. search needs)
     returns
-    load-state-requires
-    mmix-exceptions-parts-requires
-    store-state-requires
-    same-length-2
+    (λ c κs. search needs) (λ c κs. search needs) (λ c κs. search needs) (λ c. search needs)
     returns-2)

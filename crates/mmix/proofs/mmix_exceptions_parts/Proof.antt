@@ -4,14 +4,8 @@ use borrow.Author.Needs.{needs}
 use Rattle.mmix.proofs.mmix_exceptions_parts.Statement.{statement}
 use Rattle.mmix.proofs.mmix_exceptions_parts.Tie as tie
 
-raise-exceptions-requires : tie.Need-raise-exceptions-requires
-raise-exceptions-requires c κs = search needs
-
-number-of-requires : tie.Need-number-of-requires
-number-of-requires c κs = search needs
-
 returns : tie.Need-returns
 returns c = raised-state _ _ _ _ _ _ _ _ _ _ (c .before .raise-exceptions .ensures) _ (c .number-of .ensures)
 
 pub mmix-exceptions-parts-spec : {M : Type 1} → statement M
-mmix-exceptions-parts-spec = tie.close (tie.spec raise-exceptions-requires number-of-requires returns)
+mmix-exceptions-parts-spec = tie.close (tie.spec (λ c κs. search needs) (λ c κs. search needs) returns)

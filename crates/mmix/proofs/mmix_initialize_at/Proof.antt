@@ -4,17 +4,8 @@ use borrow.Author.Needs.{needs}
 use Rattle.mmix.proofs.mmix_initialize_at.Statement.{statement}
 use Rattle.mmix.proofs.mmix_initialize_at.Tie as tie
 
-initialize-at-requires : tie.Need-initialize-at-requires
-initialize-at-requires c κs = search needs
-
-encode-requires : tie.Need-encode-requires
-encode-requires c κs = search needs
-
-same-length : tie.Need-same-length
-same-length c = search needs
-
 returns : tie.Need-returns
 returns c = encoded-same _ _ (c .before .before .before .before .initialize-at .ensures) _ _ _ (c .before .before .encode .ensures)
 
 pub mmix-initialize-at-spec : {M : Type 1} → statement M
-mmix-initialize-at-spec = tie.close (tie.spec initialize-at-requires encode-requires same-length returns)
+mmix-initialize-at-spec = tie.close (tie.spec (λ c κs. search needs) (λ c κs. search needs) (λ c. search needs) returns)

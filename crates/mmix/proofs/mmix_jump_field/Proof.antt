@@ -4,14 +4,8 @@ use Rattle.mmix.proofs.Entries.{field-told}
 use Rattle.mmix.proofs.mmix_jump_field.Statement.{statement}
 use Rattle.mmix.proofs.mmix_jump_field.Tie as tie
 
-jump-field-requires : tie.Need-jump-field-requires
-jump-field-requires c κs = search needs
-
-tell-reach-requires : tie.Need-tell-reach-requires
-tell-reach-requires c κs = search needs
-
 returns : tie.Need-returns
 returns c = field-told _ _ (c .before .before .before .jump-field .ensures) _ _ _ (c .tell-reach .ensures)
 
 pub mmix-jump-field-spec : {M : Type 1} → statement M
-mmix-jump-field-spec = tie.close (tie.spec jump-field-requires tell-reach-requires returns)
+mmix-jump-field-spec = tie.close (tie.spec (λ c κs. search needs) (λ c κs. search needs) returns)

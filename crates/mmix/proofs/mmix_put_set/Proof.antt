@@ -7,29 +7,8 @@ use borrow.Author.Needs.{needs}
 use Rattle.mmix.proofs.mmix_put_set.Statement.{statement}
 use Rattle.mmix.proofs.mmix_put_set.Tie as tie
 
-is-image-requires : tie.Need-is-image-requires
-is-image-requires c κs = search needs
-
-same-length : tie.Need-same-length
-same-length c = search needs
-
 returns : tie.Need-returns
 returns c = set-else _ (denied _ _ (c .before .is-image .ensures) (c .if1 .taken)) _
-
-load-state-requires : tie.Need-load-state-requires
-load-state-requires c κs = search needs
-
-put-set-bytes-requires : tie.Need-put-set-bytes-requires
-put-set-bytes-requires c κs = search needs
-
-store-state-requires : tie.Need-store-state-requires
-store-state-requires c κs = search needs
-
-number-of-requires : tie.Need-number-of-requires
-number-of-requires c κs = search needs
-
-same-length-2 : tie.Need-same-length-2
-same-length-2 c = search needs
 
 returns-2 : tie.Need-returns-2
 returns-2 c =
@@ -46,12 +25,7 @@ pub mmix-put-set-spec : {M : Type 1} → statement M
 mmix-put-set-spec =
     tie.close
     (tie.spec
-    is-image-requires
-    same-length
+    (λ c κs. search needs) (λ c. search needs)
     returns
-    load-state-requires
-    put-set-bytes-requires
-    store-state-requires
-    number-of-requires
-    same-length-2
+    (λ c κs. search needs) (λ c κs. search needs) (λ c κs. search needs) (λ c κs. search needs) (λ c. search needs)
     returns-2)

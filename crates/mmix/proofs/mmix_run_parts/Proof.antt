@@ -4,15 +4,6 @@ use Rattle.mmix.proofs.Entries.{ran-state}
 use Rattle.mmix.proofs.mmix_run_parts.Statement.{statement}
 use Rattle.mmix.proofs.mmix_run_parts.Tie as tie
 
-run-requires : tie.Need-run-requires
-run-requires c κs = search needs
-
-same-length : tie.Need-same-length
-same-length c = search needs
-
-same-length-2 : tie.Need-same-length-2
-same-length-2 c = search needs
-
 returns : tie.Need-returns
 returns c = ran-state _ _ _ _ _ _ _ (c .before .before .before .before .run .ensures)
 
@@ -20,7 +11,5 @@ pub mmix-run-parts-spec : {M : Type 1} → statement M
 mmix-run-parts-spec =
     tie.close
     (tie.spec
-    run-requires
-    same-length
-    same-length-2
+    (λ c κs. search needs) (λ c. search needs) (λ c. search needs)
     returns)

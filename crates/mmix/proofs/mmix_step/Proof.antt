@@ -7,32 +7,8 @@ use borrow.Author.Needs.{needs}
 use Rattle.mmix.proofs.mmix_step.Statement.{statement}
 use Rattle.mmix.proofs.mmix_step.Tie as tie
 
-is-image-requires : tie.Need-is-image-requires
-is-image-requires c κs = search needs
-
-same-length : tie.Need-same-length
-same-length c = search needs
-
 returns : tie.Need-returns
 returns c = stepped-else _ (denied _ _ (c .before .is-image .ensures) (c .if1 .taken)) _ _ _ _ _
-
-load-state-requires : tie.Need-load-state-requires
-load-state-requires c κs = search needs
-
-mmix-step-parts-requires : tie.Need-mmix-step-parts-requires
-mmix-step-parts-requires c κs = search needs
-
-store-state-requires : tie.Need-store-state-requires
-store-state-requires c κs = search needs
-
-same-length-2 : tie.Need-same-length-2
-same-length-2 c = search needs
-
-same-length-3 : tie.Need-same-length-3
-same-length-3 c = search needs
-
-same-length-4 : tie.Need-same-length-4
-same-length-4 c = search needs
 
 returns-2 : tie.Need-returns-2
 returns-2 c =
@@ -48,13 +24,8 @@ pub mmix-step-spec : {M : Type 1} → statement M
 mmix-step-spec =
     tie.close
     (tie.spec
-    is-image-requires
-    same-length
+    (λ c κs. search needs) (λ c. search needs)
     returns
-    load-state-requires
-    mmix-step-parts-requires
-    store-state-requires
-    same-length-2
-    same-length-3
-    same-length-4
+    (λ c κs. search needs) (λ c κs. search needs) (λ c κs. search needs) (λ c. search needs) (λ c. search needs)
+    (λ c. search needs)
     returns-2)

@@ -4,15 +4,6 @@ use Rattle.mmix.proofs.Entries.{stepped-state}
 use Rattle.mmix.proofs.mmix_step_parts.Statement.{statement}
 use Rattle.mmix.proofs.mmix_step_parts.Tie as tie
 
-step-requires : tie.Need-step-requires
-step-requires c κs = search needs
-
-same-length : tie.Need-same-length
-same-length c = search needs
-
-same-length-2 : tie.Need-same-length-2
-same-length-2 c = search needs
-
 returns : tie.Need-returns
 returns c = stepped-state _ _ _ _ _ _ _ _ _ (c .before .before .before .before .step .ensures)
 
@@ -20,7 +11,5 @@ pub mmix-step-parts-spec : {M : Type 1} → statement M
 mmix-step-parts-spec =
     tie.close
     (tie.spec
-    step-requires
-    same-length
-    same-length-2
+    (λ c κs. search needs) (λ c. search needs) (λ c. search needs)
     returns)

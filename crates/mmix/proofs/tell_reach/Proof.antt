@@ -5,23 +5,8 @@ use Rattle.mmix.proofs.Entries.{case-told}
 use Rattle.mmix.proofs.tell_reach.Statement.{statement}
 use Rattle.mmix.proofs.tell_reach.Tie as tie
 
-enum-known-reach : tie.Need-enum-known-reach
-enum-known-reach c = search needs
-
-number-of-requires : tie.Need-number-of-requires
-number-of-requires c κs = search needs
-
-enum-known-reach-2 : tie.Need-enum-known-reach-2
-enum-known-reach-2 c = search needs
-
-number-of-requires-2 : tie.Need-number-of-requires-2
-number-of-requires-2 c κs = search needs
-
 enum-told : tie.Need-enum-told
 enum-told c = search needs
-
-number-of-requires-3 : tie.Need-number-of-requires-3
-number-of-requires-3 c κs = search needs
 
 returns : tie.Need-returns
 unfolding answerOf
@@ -39,12 +24,9 @@ pub tell-reach-spec : {M : Type 1} → statement M
 tell-reach-spec =
     tie.close
     (tie.spec
-    enum-known-reach
-    number-of-requires
-    enum-known-reach-2
-    number-of-requires-2
+    (λ c. search needs) (λ c κs. search needs) (λ c. search needs) (λ c κs. search needs)
     enum-told
-    number-of-requires-3
+    (λ c κs. search needs)
     returns
     returns-2
     returns-3)

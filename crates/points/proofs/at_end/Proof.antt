@@ -9,12 +9,6 @@ returns c =
     let s = c .before .before .before in
     ends-well (s .args .held .now) (s .args .place) (s .pre .1) (c .if1 .taken)
 
-put-bad-requires : tie.Need-put-bad-requires
-put-bad-requires c κs = search needs
-
-same-length : tie.Need-same-length
-same-length c = search needs
-
 returns-2 : tie.Need-returns-2
 returns-2 c =
     let putting = c .before .before in
@@ -23,4 +17,4 @@ returns-2 c =
     ends-bad (s .args .held .now) (s .args .place) (s .pre .1) (begun .if1 .left) (s .pre .0) _ _ (putting .put-bad .kept .0) (putting .put-bad .ensures .0) (putting .put-bad .ensures .1)
 
 pub at-end-spec : {M : Type 1} → statement M
-at-end-spec = tie.close (tie.spec returns put-bad-requires same-length returns-2)
+at-end-spec = tie.close (tie.spec returns (λ c κs. search needs) (λ c. search needs) returns-2)

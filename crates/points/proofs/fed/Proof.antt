@@ -4,12 +4,6 @@ use borrow.Author.Needs.{needs}
 use Rattle.points.proofs.fed.Statement.{statement}
 use Rattle.points.proofs.fed.Tie as tie
 
-at-end-requires : tie.Need-at-end-requires
-at-end-requires c κs = search needs
-
-same-length : tie.Need-same-length
-same-length c = search needs
-
 returns : tie.Need-returns
 returns c =
     let ending = c .before .before in
@@ -23,4 +17,4 @@ returns-2 c =
     fed-on (s .args .k) (s .args .input .now) (s .args .held .now) (s .args .place) (s .pre .0) (s .pre .1) (s .pre .2)
 
 pub fed-spec : {M : Type 1} → statement M
-fed-spec = tie.close (tie.spec at-end-requires same-length returns returns-2)
+fed-spec = tie.close (tie.spec (λ c κs. search needs) (λ c. search needs) returns returns-2)

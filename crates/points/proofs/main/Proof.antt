@@ -7,24 +7,6 @@ use borrow.Author.Needs.{needs}
 use Rattle.points.proofs.main.Statement.{statement}
 use Rattle.points.proofs.main.Tie as tie
 
-large-buffer-requires : tie.Need-large-buffer-requires
-large-buffer-requires c κs = search needs
-
-held-buffer-requires : tie.Need-held-buffer-requires
-held-buffer-requires c κs = search needs
-
-slice-aggregate-run : tie.Need-slice-aggregate-run
-slice-aggregate-run c = search needs
-
-slice-aggregate-run-2 : tie.Need-slice-aggregate-run-2
-slice-aggregate-run-2 c = search needs
-
-run-requires : tie.Need-run-requires
-run-requires c κs = search needs
-
-enum-known-after : tie.Need-enum-known-after
-enum-known-after c = search needs
-
 array-share-prefix-held : tie.Need-array-share-prefix-held
 array-share-prefix-held c =
     let told = c .before in
@@ -37,27 +19,13 @@ slice-aggregate-print c =
     let running = told .before .before .before .before in
     sym (length-take-le _ (running .run .last .1 .0) (last-within _ _ _ _ (running .run .ensures) (told .after .given .1)))
 
-print-requires : tie.Need-print-requires
-print-requires c κs = search needs
-
-returns : tie.Need-returns
-returns c = search needs
-
-returns-2 : tie.Need-returns-2
-returns-2 c = search needs
-
 pub main-spec : {M : Type 1} → statement M
 main-spec =
     tie.close
     (tie.spec
-    large-buffer-requires
-    held-buffer-requires
-    slice-aggregate-run
-    slice-aggregate-run-2
-    run-requires
-    enum-known-after
+    (λ c κs. search needs) (λ c κs. search needs) (λ c. search needs) (λ c. search needs) (λ c κs. search needs)
+    (λ c. search needs)
     array-share-prefix-held
     slice-aggregate-print
-    print-requires
-    returns
-    returns-2)
+    (λ c κs. search needs) (λ c. search needs)
+    (λ c. search needs))

@@ -5,33 +5,9 @@ use borrow.Author.Needs.{needs}
 use Rattle.points.proofs.refill.Statement.{statement}
 use Rattle.points.proofs.refill.Tie as tie
 
-read-requires : tie.Need-read-requires
-read-requires c κs = search needs
-
-slice-aggregate-fail : tie.Need-slice-aggregate-fail
-slice-aggregate-fail c = search needs
-
-fail-requires : tie.Need-fail-requires
-fail-requires c κs = search needs
-
-same-length : tie.Need-same-length
-same-length c = search needs
-
 returns : tie.Need-returns
 unfolding Refills
 returns c = tt
-
-count-requires : tie.Need-count-requires
-count-requires c κs = search needs
-
-fed-requires : tie.Need-fed-requires
-fed-requires c κs = search needs
-
-same-length-2 : tie.Need-same-length-2
-same-length-2 c = search needs
-
-same-length-3 : tie.Need-same-length-3
-same-length-3 c = search needs
 
 returns-2 : tie.Need-returns-2
 returns-2 c =
@@ -44,13 +20,7 @@ pub refill-spec : {M : Type 1} → statement M
 refill-spec =
     tie.close
     (tie.spec
-    read-requires
-    slice-aggregate-fail
-    fail-requires
-    same-length
+    (λ c κs. search needs) (λ c. search needs) (λ c κs. search needs) (λ c. search needs)
     returns
-    count-requires
-    fed-requires
-    same-length-2
-    same-length-3
+    (λ c κs. search needs) (λ c κs. search needs) (λ c. search needs) (λ c. search needs)
     returns-2)

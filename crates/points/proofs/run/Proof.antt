@@ -17,12 +17,6 @@ Inv-loop input₀ held₀ left₀ place₀ t9 input held left place =
 abbrev μ-loop : tie.MeasureT-loop
 μ-loop input₀ held₀ left₀ place₀ t9 input held left place = left
 
-turns-most-requires : tie.Need-turns-most-requires Inv-loop μ-loop
-turns-most-requires c κs = search needs
-
-start-requires : tie.Need-start-requires Inv-loop μ-loop
-start-requires c κs = search needs
-
 loop-holds : tie.Need-loop-holds Inv-loop μ-loop
 loop-holds c =
     let s = c .before .before .before .before in
@@ -34,16 +28,10 @@ loop-holds c =
       rw e (reached-start (s .args .input .now) (s .args .held .now)),
     )
 
-sub-left : tie.Need-sub-left Inv-loop μ-loop
-sub-left c = search needs
-
 turn-requires : tie.Need-turn-requires Inv-loop μ-loop
 turn-requires c κs =
     let at-loop = c .before .before .before in
     (at-loop .loop .inv .3, omega (arith, at-loop .loop .inv .2, c .before .before .loop-test .taken))
-
-enum-known-after : tie.Need-enum-known-after Inv-loop μ-loop
-enum-known-after c = search needs
 
 slice-reshare-prefix-print : tie.Need-slice-reshare-prefix-print Inv-loop μ-loop
 slice-reshare-prefix-print c =
@@ -59,21 +47,9 @@ slice-aggregate-print c =
     let at-loop = turning .before .before .before .before in
     sym (length-take-le _ (turning .turn .last .1 .0) (turned (at-loop .loop .input) (at-loop .loop .held) (at-loop .loop .place) (at-loop .loop .inv .4) _ _ _ _ _ (turning .turn .ensures) (told .after .given .1) .within))
 
-print-requires : tie.Need-print-requires Inv-loop μ-loop
-print-requires c κs = search needs
-
-same-length : tie.Need-same-length Inv-loop μ-loop
-same-length c = search needs
-
-same-length-2 : tie.Need-same-length-2 Inv-loop μ-loop
-same-length-2 c = search needs
-
 returns : tie.Need-returns Inv-loop μ-loop
 unfolding Finishes
 returns c = tt
-
-loop-less : tie.Need-loop-less Inv-loop μ-loop
-loop-less c = search needs
 
 loop-again : tie.Need-loop-again Inv-loop μ-loop
 loop-again c =
@@ -88,15 +64,6 @@ loop-again c =
       reached-on (at-loop .loop .input) (at-loop .loop .held) (at-loop .loop .place) (at-loop .loop .inv .4) _ _ _ _ x,
     )
 
-enum-known-after-2 : tie.Need-enum-known-after-2 Inv-loop μ-loop
-enum-known-after-2 c = search needs
-
-same-length-3 : tie.Need-same-length-3 Inv-loop μ-loop
-same-length-3 c = search needs
-
-same-length-4 : tie.Need-same-length-4 Inv-loop μ-loop
-same-length-4 c = search needs
-
 returns-2 : tie.Need-returns-2 Inv-loop μ-loop
 returns-2 c =
     let told = c .before in
@@ -104,30 +71,9 @@ returns-2 c =
     let at-loop = turning .before .before .before .before in
     finishes-last (at-loop .loop .input) (at-loop .loop .held) (at-loop .loop .place) (at-loop .loop .inv .4) _ _ _ _ _ (turning .turn .ensures) (told .after2 .given .1)
 
-enum-told : tie.Need-enum-told Inv-loop μ-loop
-enum-told c = search needs
-
-same-length-5 : tie.Need-same-length-5 Inv-loop μ-loop
-same-length-5 c = search needs
-
-same-length-6 : tie.Need-same-length-6 Inv-loop μ-loop
-same-length-6 c = search needs
-
 returns-3 : tie.Need-returns-3 Inv-loop μ-loop
 unfolding Finishes
 returns-3 c = tt
-
-slice-aggregate-write-all : tie.Need-slice-aggregate-write-all Inv-loop μ-loop
-slice-aggregate-write-all c = search needs
-
-write-all-requires : tie.Need-write-all-requires Inv-loop μ-loop
-write-all-requires c κs = search needs
-
-same-length-7 : tie.Need-same-length-7 Inv-loop μ-loop
-same-length-7 c = search needs
-
-same-length-8 : tie.Need-same-length-8 Inv-loop μ-loop
-same-length-8 c = search needs
 
 returns-4 : tie.Need-returns-4 Inv-loop μ-loop
 unfolding Finishes
@@ -139,30 +85,20 @@ run-spec =
     (tie.spec
     Inv-loop
     μ-loop
-    turns-most-requires
-    start-requires
+    (λ c κs. search needs) (λ c κs. search needs)
     loop-holds
-    sub-left
+    (λ c. search needs)
     turn-requires
-    enum-known-after
+    (λ c. search needs)
     slice-reshare-prefix-print
     slice-aggregate-print
-    print-requires
-    same-length
-    same-length-2
+    (λ c κs. search needs) (λ c. search needs) (λ c. search needs)
     returns
-    loop-less
+    (λ c. search needs)
     loop-again
-    enum-known-after-2
-    same-length-3
-    same-length-4
+    (λ c. search needs) (λ c. search needs) (λ c. search needs)
     returns-2
-    enum-told
-    same-length-5
-    same-length-6
+    (λ c. search needs) (λ c. search needs) (λ c. search needs)
     returns-3
-    slice-aggregate-write-all
-    write-all-requires
-    same-length-7
-    same-length-8
+    (λ c. search needs) (λ c κs. search needs) (λ c. search needs) (λ c. search needs)
     returns-4)

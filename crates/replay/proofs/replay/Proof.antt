@@ -22,62 +22,8 @@ abbrev μ-loop : tie.MeasureT-loop
 returns : tie.Need-returns Inv-loop μ-loop
 returns c = record { records-are = records-none _ (omega arith); agree-most = omega arith; first-most = omega arith; before-first = λ k h. absurd (omega arith); all-agree = λ e. e }
 
-octabyte-requires : tie.Need-octabyte-requires Inv-loop μ-loop
-octabyte-requires c κs = search needs
-
 loop-holds : tie.Need-loop-holds Inv-loop μ-loop
 loop-holds c = (omega arith, omega arith, omega arith, omega arith, record-first _, λ e. e, λ k h. absurd (omega arith))
-
-record-len-requires : tie.Need-record-len-requires Inv-loop μ-loop
-record-len-requires c κs = search needs
-
-add-if2 : tie.Need-add-if2 Inv-loop μ-loop
-add-if2 c = search needs
-
-mul-if2 : tie.Need-mul-if2 Inv-loop μ-loop
-mul-if2 c = search needs
-
-add-end : tie.Need-add-end Inv-loop μ-loop
-add-end c = search needs
-
-mul-told : tie.Need-mul-told Inv-loop μ-loop
-mul-told c = search needs
-
-sub-told : tie.Need-sub-told Inv-loop μ-loop
-sub-told c = search needs
-
-sub-agrees : tie.Need-sub-agrees Inv-loop μ-loop
-sub-agrees c = search needs
-
-part-agrees-start : tie.Need-part-agrees-start Inv-loop μ-loop
-part-agrees-start c = search needs
-
-part-agrees-end : tie.Need-part-agrees-end Inv-loop μ-loop
-part-agrees-end c = search needs
-
-sub-agrees-2 : tie.Need-sub-agrees-2 Inv-loop μ-loop
-sub-agrees-2 c = search needs
-
-part-agrees-start-2 : tie.Need-part-agrees-start-2 Inv-loop μ-loop
-part-agrees-start-2 c = search needs
-
-part-agrees-end-2 : tie.Need-part-agrees-end-2 Inv-loop μ-loop
-part-agrees-end-2 c = search needs
-
-agrees-requires : tie.Need-agrees-requires Inv-loop μ-loop
-agrees-requires c κs = search needs
-
-add-first : tie.Need-add-first Inv-loop μ-loop
-add-first c = search needs
-
-add-agree : tie.Need-add-agree Inv-loop μ-loop
-add-agree c = search needs
-
-add-number : tie.Need-add-number Inv-loop μ-loop
-add-number c = search needs
-
-loop-less : tie.Need-loop-less Inv-loop μ-loop
-loop-less c = search needs
 
 loop-again : tie.Need-loop-again Inv-loop μ-loop
 loop-again c =
@@ -139,25 +85,11 @@ replay-spec =
     Inv-loop
     μ-loop
     returns
-    octabyte-requires
+    (λ c κs. search needs)
     loop-holds
-    record-len-requires
-    add-if2
-    mul-if2
-    add-end
-    mul-told
-    sub-told
-    sub-agrees
-    part-agrees-start
-    part-agrees-end
-    sub-agrees-2
-    part-agrees-start-2
-    part-agrees-end-2
-    agrees-requires
-    add-first
-    add-agree
-    add-number
-    loop-less
+    (λ c κs. search needs) (λ c. search needs) (λ c. search needs) (λ c. search needs) (λ c. search needs) (λ c. search needs)
+    (λ c. search needs) (λ c. search needs) (λ c. search needs) (λ c. search needs) (λ c. search needs) (λ c. search needs)
+    (λ c κs. search needs) (λ c. search needs) (λ c. search needs) (λ c. search needs) (λ c. search needs)
     loop-again
     returns-2
     returns-3)

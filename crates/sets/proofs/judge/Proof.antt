@@ -41,15 +41,6 @@ mul-v-2 c = omega arith
 shared-slice-read-v : tie.Need-shared-slice-read-v Inv-loop μ-loop
 shared-slice-read-v c = omega arith
 
-put-refusal-requires : tie.Need-put-refusal-requires Inv-loop μ-loop
-put-refusal-requires c κs = search needs
-
-enum-told : tie.Need-enum-told Inv-loop μ-loop
-enum-told c = search needs
-
-locals-after-requires : tie.Need-locals-after-requires Inv-loop μ-loop
-locals-after-requires c κs = search needs
-
 returns : tie.Need-returns Inv-loop μ-loop
 returns c =
     let before = c .before in
@@ -96,9 +87,7 @@ judge-spec =
     add-v
     mul-v-2
     shared-slice-read-v
-    put-refusal-requires
-    enum-told
-    locals-after-requires
+    (λ c κs. search needs) (λ c. search needs) (λ c κs. search needs)
     returns
     add-i
     loop-less

@@ -6,9 +6,6 @@ use Rattle.sets.specs.Judged.{localsAfter}
 use Rattle.sets.proofs.locals_after.Statement.{statement}
 use Rattle.sets.proofs.locals_after.Tie as tie
 
-least-requires : tie.Need-least-requires
-least-requires c κs = search needs
-
 returns : tie.Need-returns
 unfolding localsAfter
 returns c = rw (eq-eqb _ 20 (c .before .if1 .taken)) (c .least .ensures)
@@ -18,4 +15,4 @@ unfolding localsAfter
 returns-2 c = rw (ne-eqb _ 20 (c .if1 .left))
 
 pub locals-after-spec : {M : Type 1} → statement M
-locals-after-spec = tie.close (tie.spec least-requires returns returns-2)
+locals-after-spec = tie.close (tie.spec (λ c κs. search needs) returns returns-2)

@@ -43,9 +43,6 @@ mul-put-state-4 c = omega arith
 shared-slice-read-put-state-2 : tie.Need-shared-slice-read-put-state-2 Inv-loop μ-loop
 shared-slice-read-put-state-2 c = omega arith
 
-put-state-requires : tie.Need-put-state-requires Inv-loop μ-loop
-put-state-requires c κs = search needs
-
 add-i : tie.Need-add-i Inv-loop μ-loop
 add-i c = omega arith
 
@@ -79,7 +76,7 @@ put-all-spec =
     add-put-state
     mul-put-state-4
     shared-slice-read-put-state-2
-    put-state-requires
+    (λ c κs. search needs)
     add-i
     loop-less
     loop-again

@@ -4,17 +4,8 @@ use Rattle.sets.proofs.Answers.{of-read}
 use Rattle.sets.proofs.put_read.Statement.{statement}
 use Rattle.sets.proofs.put_read.Tie as tie
 
-load-octas-requires : tie.Need-load-octas-requires
-load-octas-requires c κs = search needs
-
-put-set-requires : tie.Need-put-set-requires
-put-set-requires c κs = search needs
-
-same-length : tie.Need-same-length
-same-length c = search needs
-
 returns : tie.Need-returns
 returns c = λ pc. of-read _ _ _ (c .before .before .before .before .before .before .before .before .load-octas .ensures) _ _ _ (c .put-set .ensures pc)
 
 pub put-read-spec : {M : Type 1} → statement M
-put-read-spec = tie.close (tie.spec load-octas-requires put-set-requires same-length returns)
+put-read-spec = tie.close (tie.spec (λ c κs. search needs) (λ c κs. search needs) (λ c. search needs) returns)

@@ -10,9 +10,6 @@ use Rattle.sets.proofs.Answers.{not-admissible, too-many, all-put, none
 use Rattle.sets.proofs.put_set.Statement.{statement}
 use Rattle.sets.proofs.put_set.Tie as tie
 
-admissible-requires : tie.Need-admissible-requires
-admissible-requires c κs = search needs
-
 returns : tie.Need-returns
 returns c =
     let judged = c .before in
@@ -30,21 +27,6 @@ returns-2 c =
     let s = made (a .general .now) (a .special .now) pc (a .halt .now) (a .marks) (a .mask) in
     too-many s (pairsOf (a .pairs .now)) (granted _ _ (judged .admissible .ensures (a .general .now) pc (a .halt .now)) (passed .if1 .left))
     (omega (arith, pairs-count (a .pairs .now)))
-
-counted-requires : tie.Need-counted-requires
-counted-requires c κs = search needs
-
-element-copy-out-rl : tie.Need-element-copy-out-rl
-element-copy-out-rl c = search needs
-
-judge-requires : tie.Need-judge-requires
-judge-requires c κs = search needs
-
-enum-told : tie.Need-enum-told
-enum-told c = search needs
-
-put-all-requires : tie.Need-put-all-requires
-put-all-requires c κs = search needs
 
 returns-3 : tie.Need-returns-3
 returns-3 c =
@@ -82,13 +64,9 @@ pub put-set-spec : {M : Type 1} → statement M
 put-set-spec =
     tie.close
     (tie.spec
-    admissible-requires
+    (λ c κs. search needs)
     returns
     returns-2
-    counted-requires
-    element-copy-out-rl
-    judge-requires
-    enum-told
-    put-all-requires
+    (λ c κs. search needs) (λ c. search needs) (λ c κs. search needs) (λ c. search needs) (λ c κs. search needs)
     returns-3
     returns-4)

@@ -12,27 +12,9 @@ use borrow.Author.Needs.{needs}
 use Rattle.store.proofs.go_back.Statement.{statement}
 use Rattle.store.proofs.go_back.Tie as tie
 
-is-image-requires : tie.Need-is-image-requires
-is-image-requires c κs = search needs
-
-same-length : tie.Need-same-length
-same-length c = search needs
-
 returns : tie.Need-returns
 unfolding numberOf
 returns c = back-not _ _ _ 1 (λ z. omega arith) (back-one _ _ _ (denied _ _ (c .before .is-image .ensures) (c .if1 .taken)))
-
-windows-refusal-requires : tie.Need-windows-refusal-requires
-windows-refusal-requires c κs = search needs
-
-same-length-2 : tie.Need-same-length-2
-same-length-2 c = search needs
-
-same-length-3 : tie.Need-same-length-3
-same-length-3 c = search needs
-
-same-length-4 : tie.Need-same-length-4
-same-length-4 c = search needs
 
 returns-2 : tie.Need-returns-2
 unfolding numberOf
@@ -42,15 +24,6 @@ returns-2 c =
     let is = granted _ _ (images .before .is-image .ensures) (images .if1 .left) in
     back-not _ _ _ 2 (λ z. omega arith)
     (back-two _ _ _ is 2 (two-unruled _ _ _ _ _ (windows .windows-refusal .ensures) (λ z. omega arith) ∙ c .if2 .taken))
-
-same-length-5 : tie.Need-same-length-5
-same-length-5 c = search needs
-
-same-length-6 : tie.Need-same-length-6
-same-length-6 c = search needs
-
-same-length-7 : tie.Need-same-length-7
-same-length-7 c = search needs
 
 returns-3 : tie.Need-returns-3
 unfolding numberOf
@@ -63,15 +36,6 @@ returns-3 c =
     (two-unruled _ _ _ _ _ (windows .windows-refusal .ensures) (c .if3 .taken)
     ∙ shared-left _ _ (windows .windows-refusal .ensures) (c .before .if2 .left) (c .if3 .taken)))
 
-same-length-8 : tie.Need-same-length-8
-same-length-8 c = search needs
-
-same-length-9 : tie.Need-same-length-9
-same-length-9 c = search needs
-
-same-length-10 : tie.Need-same-length-10
-same-length-10 c = search needs
-
 returns-4 : tie.Need-returns-4
 unfolding numberOf
 returns-4 c =
@@ -81,15 +45,6 @@ returns-4 c =
     back-not _ _ _ 26 (λ z. omega arith)
     (back-two _ _ _ is 26 (two-short _ _ _ _ _ (windows .windows-refusal .ensures) (c .before .if3 .left) (omega arith)))
 
-same-length-11 : tie.Need-same-length-11
-same-length-11 c = search needs
-
-same-length-12 : tie.Need-same-length-12
-same-length-12 c = search needs
-
-same-length-13 : tie.Need-same-length-13
-same-length-13 c = search needs
-
 returns-5 : tie.Need-returns-5
 unfolding numberOf
 returns-5 c =
@@ -98,33 +53,6 @@ returns-5 c =
     let is = granted _ _ (images .before .is-image .ensures) (images .if1 .left) in
     back-not _ _ _ 27 (λ z. omega arith)
     (back-two _ _ _ is 27 (two-name _ _ _ _ _ (windows .windows-refusal .ensures) (c .before .before .if3 .left) (omega arith) (omega arith)))
-
-mul-start : tie.Need-mul-start
-mul-start c = search needs
-
-add-end : tie.Need-add-end
-add-end c = search needs
-
-sub-room : tie.Need-sub-room
-sub-room c = search needs
-
-part-room-start : tie.Need-part-room-start
-part-room-start c = search needs
-
-part-room-end : tie.Need-part-room-end
-part-room-end c = search needs
-
-is-taken-requires : tie.Need-is-taken-requires
-is-taken-requires c κs = search needs
-
-same-length-14 : tie.Need-same-length-14
-same-length-14 c = search needs
-
-same-length-15 : tie.Need-same-length-15
-same-length-15 c = search needs
-
-same-length-16 : tie.Need-same-length-16
-same-length-16 c = search needs
 
 returns-6 : tie.Need-returns-6
 unfolding numberOf
@@ -140,18 +68,6 @@ returns-6 c =
     (two-open _ _ _ _ _ (windows .windows-refusal .ensures) (found .before .before .before .before .if3 .left) (omega arith) (omega arith)
     ∙ room-none _ _ room _ (denied _ _ (found .is-taken .ensures) (c .if6 .taken))))
 
-suits-requires : tie.Need-suits-requires
-suits-requires c κs = search needs
-
-same-length-17 : tie.Need-same-length-17
-same-length-17 c = search needs
-
-same-length-18 : tie.Need-same-length-18
-same-length-18 c = search needs
-
-same-length-19 : tie.Need-same-length-19
-same-length-19 c = search needs
-
 returns-7 : tie.Need-returns-7
 unfolding numberOf
 returns-7 c =
@@ -165,18 +81,6 @@ returns-7 c =
     (back-two _ _ _ is 28
     (two-open _ _ _ _ _ (windows .windows-refusal .ensures) (taken .before .before .before .before .before .if3 .left) (omega arith) (omega arith)
     ∙ room-unlike _ _ room _ (granted _ _ (taken .before .is-taken .ensures) (taken .if6 .left)) (denied _ _ (c .before .suits .ensures) (c .if7 .taken))))
-
-mask-fits-requires : tie.Need-mask-fits-requires
-mask-fits-requires c κs = search needs
-
-same-length-20 : tie.Need-same-length-20
-same-length-20 c = search needs
-
-same-length-21 : tie.Need-same-length-21
-same-length-21 c = search needs
-
-same-length-22 : tie.Need-same-length-22
-same-length-22 c = search needs
 
 returns-8 : tie.Need-returns-8
 unfolding numberOf
@@ -206,15 +110,6 @@ restore-requires c κs =
     = lent-fits _ _ (windows .windows-refusal .ensures) (taken .before .before .before .before .before .if3 .left) in
     (search needs, at-most (a .image .now) is, fits .long-a, fits .long-b)
 
-same-length-23 : tie.Need-same-length-23
-same-length-23 c = search needs
-
-same-length-24 : tie.Need-same-length-24
-same-length-24 c = search needs
-
-same-length-25 : tie.Need-same-length-25
-same-length-25 c = search needs
-
 returns-9 : tie.Need-returns-9
 unfolding numberOf
 returns-9 c =
@@ -241,48 +136,23 @@ pub go-back-spec : {M : Type 1} → statement M
 go-back-spec =
     tie.close
     (tie.spec
-    is-image-requires
-    same-length
+    (λ c κs. search needs) (λ c. search needs)
     returns
-    windows-refusal-requires
-    same-length-2
-    same-length-3
-    same-length-4
+    (λ c κs. search needs) (λ c. search needs) (λ c. search needs) (λ c. search needs)
     returns-2
-    same-length-5
-    same-length-6
-    same-length-7
+    (λ c. search needs) (λ c. search needs) (λ c. search needs)
     returns-3
-    same-length-8
-    same-length-9
-    same-length-10
+    (λ c. search needs) (λ c. search needs) (λ c. search needs)
     returns-4
-    same-length-11
-    same-length-12
-    same-length-13
+    (λ c. search needs) (λ c. search needs) (λ c. search needs)
     returns-5
-    mul-start
-    add-end
-    sub-room
-    part-room-start
-    part-room-end
-    is-taken-requires
-    same-length-14
-    same-length-15
-    same-length-16
+    (λ c. search needs) (λ c. search needs) (λ c. search needs) (λ c. search needs) (λ c. search needs) (λ c κs. search needs)
+    (λ c. search needs) (λ c. search needs) (λ c. search needs)
     returns-6
-    suits-requires
-    same-length-17
-    same-length-18
-    same-length-19
+    (λ c κs. search needs) (λ c. search needs) (λ c. search needs) (λ c. search needs)
     returns-7
-    mask-fits-requires
-    same-length-20
-    same-length-21
-    same-length-22
+    (λ c κs. search needs) (λ c. search needs) (λ c. search needs) (λ c. search needs)
     returns-8
     restore-requires
-    same-length-23
-    same-length-24
-    same-length-25
+    (λ c. search needs) (λ c. search needs) (λ c. search needs)
     returns-9)

@@ -12,15 +12,9 @@ use Rattle.store.proofs.Answers.{lent-fits, shared-left, two-unruled, t
 use Rattle.store.proofs.take.Statement.{statement}
 use Rattle.store.proofs.take.Tie as tie
 
-is-admissible-requires : tie.Need-is-admissible-requires
-is-admissible-requires c κs = search needs
-
 returns : tie.Need-returns
 unfolding numberOf
 returns c = took-not _ _ _ 1 (λ z. omega arith) (take-one _ _ _ (denied _ _ (c .before .is-admissible .ensures) (c .if1 .taken)))
-
-windows-refusal-requires : tie.Need-windows-refusal-requires
-windows-refusal-requires c κs = search needs
 
 returns-2 : tie.Need-returns-2
 unfolding numberOf
@@ -59,21 +53,6 @@ returns-5 c =
     (take-two _ _ _ (granted _ _ (state .before .is-admissible .ensures) (state .if1 .left)) 27
     (two-name _ _ _ _ _ (windows .windows-refusal .ensures) (c .before .before .if3 .left) (omega arith) (omega arith)))
 
-mul-start : tie.Need-mul-start
-mul-start c = search needs
-
-add-end : tie.Need-add-end
-add-end c = search needs
-
-sub-fill : tie.Need-sub-fill
-sub-fill c = search needs
-
-part-fill-start : tie.Need-part-fill-start
-part-fill-start c = search needs
-
-part-fill-end : tie.Need-part-fill-end
-part-fill-end c = search needs
-
 fill-requires : tie.Need-fill-requires
 fill-requires c κs =
     let windows = c .before .before .before .before .before in
@@ -83,9 +62,6 @@ fill-requires c κs =
     = lent-fits _ _ (windows .windows-refusal .ensures) (c .before .before .before .if3 .left) in
     let is = and-left _ _ (granted _ _ (state .before .is-admissible .ensures) (state .if1 .left)) in
     (search needs, at-least (a .image .now) is, at-most (a .image .now) is, fits .long-a, fits .long-b)
-
-same-length : tie.Need-same-length
-same-length c = search needs
 
 returns-6 : tie.Need-returns-6
 unfolding numberOf
@@ -103,18 +79,14 @@ pub take-spec : {M : Type 1} → statement M
 take-spec =
     tie.close
     (tie.spec
-    is-admissible-requires
+    (λ c κs. search needs)
     returns
-    windows-refusal-requires
+    (λ c κs. search needs)
     returns-2
     returns-3
     returns-4
     returns-5
-    mul-start
-    add-end
-    sub-fill
-    part-fill-start
-    part-fill-end
+    (λ c. search needs) (λ c. search needs) (λ c. search needs) (λ c. search needs) (λ c. search needs)
     fill-requires
-    same-length
+    (λ c. search needs)
     returns-6)

@@ -7,18 +7,6 @@ use borrow.Author.Needs.{needs}
 use Rattle.tasks.proofs.run.Statement.{statement}
 use Rattle.tasks.proofs.run.Tie as tie
 
-call-refusal-requires : tie.Need-call-refusal-requires
-call-refusal-requires c κs = search needs
-
-same-length : tie.Need-same-length
-same-length c = search needs
-
-same-length-2 : tie.Need-same-length-2
-same-length-2 c = search needs
-
-same-length-3 : tie.Need-same-length-3
-same-length-3 c = search needs
-
 returns : tie.Need-returns
 returns c =
     let judged = c .before in
@@ -31,15 +19,6 @@ rounds-requires c κs =
     let a = judged .before .before .before .before .before .before .before .before .before .before .args in
     ready-first (a .images .now) (lent (a .at) (a .a .now) (a .b .now)) (a .parts .now) (a .q) (a .grant)
     (sym (judged .call-refusal .ensures) ∙ c .before .before .before .before .before .if1 .left)
-
-same-length-4 : tie.Need-same-length-4
-same-length-4 c = search needs
-
-same-length-5 : tie.Need-same-length-5
-same-length-5 c = search needs
-
-same-length-6 : tie.Need-same-length-6
-same-length-6 c = search needs
 
 returns-2 : tie.Need-returns-2
 returns-2 c =
@@ -59,13 +38,8 @@ pub run-spec : {M : Type 1} → statement M
 run-spec =
     tie.close
     (tie.spec
-    call-refusal-requires
-    same-length
-    same-length-2
-    same-length-3
+    (λ c κs. search needs) (λ c. search needs) (λ c. search needs) (λ c. search needs)
     returns
     rounds-requires
-    same-length-4
-    same-length-5
-    same-length-6
+    (λ c. search needs) (λ c. search needs) (λ c. search needs)
     returns-2)

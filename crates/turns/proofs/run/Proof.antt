@@ -45,40 +45,13 @@ passes c = sym (c .before .refusal .ensures _ _ _) ∙ c .if1 .left
 ruled : (c : tie.Else3) → partRuled (length (start (c .before .before .before .before) .args .b .now)) (own (c .before .before .before .before)) ≡ true
 ruled c = granted _ _ (c .before .is-part .ensures) (c .if3 .left)
 
-counted-requires : tie.Need-counted-requires
-counted-requires c κs = search needs
-
-refusal-requires : tie.Need-refusal-requires
-refusal-requires c κs = search needs
-
-same-length : tie.Need-same-length
-same-length c = search needs
-
-same-length-2 : tie.Need-same-length-2
-same-length-2 c = search needs
-
 returns : tie.Need-returns
 returns c = turn-unopened (own (c .before)) (windows (c .before)) (state (c .before)) _ _ (c .before .refusal .ensures _ _ _) (c .if1 .taken)
-
-same-length-3 : tie.Need-same-length-3
-same-length-3 c = search needs
-
-same-length-4 : tie.Need-same-length-4
-same-length-4 c = search needs
 
 returns-2 : tie.Need-returns-2
 returns-2 c =
     let asks = c .before .before in
     turn-large (own asks) (windows asks) (state asks) _ (passes (c .before)) (c .if2 .taken)
-
-is-part-requires : tie.Need-is-part-requires
-is-part-requires c κs = search needs
-
-same-length-5 : tie.Need-same-length-5
-same-length-5 c = search needs
-
-same-length-6 : tie.Need-same-length-6
-same-length-6 c = search needs
 
 returns-3 : tie.Need-returns-3
 returns-3 c =
@@ -88,15 +61,6 @@ returns-3 c =
 
 add-end : tie.Need-add-end
 add-end c = omega (arith, part-ruled _ _ (ruled c) .within)
-
-wrapping-add-requires : tie.Need-wrapping-add-requires
-wrapping-add-requires c κs = search needs
-
-sub-run-own : tie.Need-sub-run-own
-sub-run-own c = search needs
-
-part-run-own-start : tie.Need-part-run-own-start
-part-run-own-start c = search needs
 
 part-run-own-end : tie.Need-part-run-own-end
 part-run-own-end c = omega (arith, part-ruled _ _ (ruled (c .before .before .before .before .before .before)) .within)
@@ -114,12 +78,6 @@ run-own-requires c κs =
       lent-own (a .at) (a .a .now) (a .b .now) (own asks) (state asks) e (ruled part) _ n (adds .wrapping-add .ensures) (omega arith),
     )
 
-same-length-7 : tie.Need-same-length-7
-same-length-7 c = search needs
-
-same-length-8 : tie.Need-same-length-8
-same-length-8 c = search needs
-
 returns-4 : tie.Need-returns-4
 returns-4 c =
     let call = c .before .before .before .before in
@@ -134,24 +92,15 @@ pub run-spec : {M : Type 1} → statement M
 run-spec =
     tie.close
     (tie.spec
-    counted-requires
-    refusal-requires
-    same-length
-    same-length-2
+    (λ c κs. search needs) (λ c κs. search needs) (λ c. search needs) (λ c. search needs)
     returns
-    same-length-3
-    same-length-4
+    (λ c. search needs) (λ c. search needs)
     returns-2
-    is-part-requires
-    same-length-5
-    same-length-6
+    (λ c κs. search needs) (λ c. search needs) (λ c. search needs)
     returns-3
     add-end
-    wrapping-add-requires
-    sub-run-own
-    part-run-own-start
+    (λ c κs. search needs) (λ c. search needs) (λ c. search needs)
     part-run-own-end
     run-own-requires
-    same-length-7
-    same-length-8
+    (λ c. search needs) (λ c. search needs)
     returns-4)

@@ -19,21 +19,6 @@ start c = counted c .before .before .before .before .before
 sized : (c : tie.After-run) → Sized (made (start c .args .general .now) (start c .args .special .now) (start c .args .pc .now) (start c .args .halt .now) (start c .args .marks) (start c .args .mask))
 sized c = record { generals = counted c .counted .ensures .0; specials = counted c .counted .ensures .1 }
 
-counted-requires : tie.Need-counted-requires
-counted-requires c κs = search needs
-
-run-requires : tie.Need-run-requires
-run-requires c κs = search needs
-
-is-lost-requires : tie.Need-is-lost-requires
-is-lost-requires c κs = search needs
-
-same-length : tie.Need-same-length
-same-length c = search needs
-
-same-length-2 : tie.Need-same-length-2
-same-length-2 c = search needs
-
 returns : tie.Need-returns
 returns c =
     let run = call (c .before) in
@@ -48,12 +33,6 @@ asks-foreign-requires c κs =
       end-fine _ _ _ _ (sized run) (start run .pre .0) (start run .pre .1) (start run .pre .2) _ _ (made _ _ _ _ _ _) (lent _ _ _) (run .run .ensures),
     )
 
-same-length-3 : tie.Need-same-length-3
-same-length-3 c = search needs
-
-same-length-4 : tie.Need-same-length-4
-same-length-4 c = search needs
-
 returns-2 : tie.Need-returns-2
 returns-2 c =
     let asked = c .before in
@@ -63,12 +42,6 @@ returns-2 c =
     (granted _ _ (left .before .is-lost .ensures) (left .if1 .left)) _
     (asked .asks-foreign .ensures _ _ _
     (end-admissible _ _ _ _ (sized run) (start run .pre .0) (start run .pre .1) (start run .pre .2) _ _ (made _ _ _ _ _ _) (lent _ _ _) (run .run .ensures))) (c .if2 .taken)
-
-same-length-5 : tie.Need-same-length-5
-same-length-5 c = search needs
-
-same-length-6 : tie.Need-same-length-6
-same-length-6 c = search needs
 
 returns-3 : tie.Need-returns-3
 returns-3 c =
@@ -84,16 +57,10 @@ pub run-own-spec : {M : Type 1} → statement M
 run-own-spec =
     tie.close
     (tie.spec
-    counted-requires
-    run-requires
-    is-lost-requires
-    same-length
-    same-length-2
+    (λ c κs. search needs) (λ c κs. search needs) (λ c κs. search needs) (λ c. search needs) (λ c. search needs)
     returns
     asks-foreign-requires
-    same-length-3
-    same-length-4
+    (λ c. search needs) (λ c. search needs)
     returns-2
-    same-length-5
-    same-length-6
+    (λ c. search needs) (λ c. search needs)
     returns-3)

@@ -6,36 +6,21 @@ use Rattle.model.specs.Step.{claims}
 use Rattle.decode.proofs.opcode.claims.Statement.{statement}
 use Rattle.decode.proofs.opcode.claims.Tie as tie
 
-is-among-requires : tie.Need-is-among-requires
-is-among-requires c κs = search needs
-
 returns : tie.Need-returns
 unfolding claims
 returns c = simp (sym (c .before .is-among .ensures) ∙ c .if1 .taken)
-
-is-among-requires-2 : tie.Need-is-among-requires-2
-is-among-requires-2 c κs = search needs
 
 returns-2 : tie.Need-returns-2
 unfolding claims
 returns-2 c = simp (sym (c .before .before .before .is-among .ensures) ∙ c .before .before .if1 .left, sym (c .before .is-among2 .ensures) ∙ c .if2 .taken)
 
-is-among-requires-3 : tie.Need-is-among-requires-3
-is-among-requires-3 c κs = search needs
-
 returns-3 : tie.Need-returns-3
 unfolding claims
 returns-3 c = simp (sym (c .before .before .before .before .before .is-among .ensures) ∙ c .before .before .before .before .if1 .left, sym (c .before .before .before .is-among2 .ensures) ∙ c .before .before .if2 .left, sym (c .before .is-among3 .ensures) ∙ c .if3 .taken)
 
-is-among-requires-4 : tie.Need-is-among-requires-4
-is-among-requires-4 c κs = search needs
-
 returns-4 : tie.Need-returns-4
 unfolding claims
 returns-4 c = simp (sym (c .before .before .before .before .before .before .before .is-among .ensures) ∙ c .before .before .before .before .before .before .if1 .left, sym (c .before .before .before .before .before .is-among2 .ensures) ∙ c .before .before .before .before .if2 .left, sym (c .before .before .before .is-among3 .ensures) ∙ c .before .before .if3 .left, sym (c .before .is-among4 .ensures) ∙ c .if4 .taken)
-
-is-among-requires-5 : tie.Need-is-among-requires-5
-is-among-requires-5 c κs = search needs
 
 returns-5 : tie.Need-returns-5
 unfolding claims
@@ -57,15 +42,15 @@ pub claims-spec : {M : Type 1} → statement M
 claims-spec =
     tie.close
     (tie.spec
-    is-among-requires
+    (λ c κs. search needs)
     returns
-    is-among-requires-2
+    (λ c κs. search needs)
     returns-2
-    is-among-requires-3
+    (λ c κs. search needs)
     returns-3
-    is-among-requires-4
+    (λ c κs. search needs)
     returns-4
-    is-among-requires-5
+    (λ c κs. search needs)
     returns-5
     returns-6
     returns-7

@@ -7,20 +7,11 @@ use Rattle.decode.proofs.operand.extended.Tie as tie
 returns : tie.Need-returns
 returns c = extended-unsigned _ _ (c .if1 .taken)
 
-most-requires : tie.Need-most-requires
-most-requires c κs = search needs
-
 returns-2 : tie.Need-returns-2
 returns-2 c = extended-positive _ _ (c .before .before .if1 .left) _ (c .before .most .ensures) (c .if2 .taken)
-
-sub-result : tie.Need-sub-result
-sub-result c = search needs
-
-add-result : tie.Need-add-result
-add-result c = search needs
 
 returns-3 : tie.Need-returns-3
 returns-3 c = extended-negative _ _ (c .before .before .if1 .left) _ (c .before .most .ensures) (c .if2 .left)
 
 pub extended-spec : {M : Type 1} → statement M
-extended-spec = tie.close (tie.spec returns most-requires returns-2 sub-result add-result returns-3)
+extended-spec = tie.close (tie.spec returns (λ c κs. search needs) returns-2 (λ c. search needs) (λ c. search needs) returns-3)

@@ -9,9 +9,6 @@ use Rattle.decode.proofs.operand.fits.Tie as tie
 returns : tie.Need-returns
 returns c = fits-unsigned _ _ (c .if1 .taken)
 
-low-bytes-requires : tie.Need-low-bytes-requires
-low-bytes-requires c κs = search needs
-
 extended-requires : tie.Need-extended-requires
 extended-requires c κs = rw (c .low-bytes .ensures) (mod-lt _ (values-positive _))
 
@@ -19,4 +16,4 @@ returns-2 : tie.Need-returns-2
 returns-2 c = rw (c .extended .ensures, c .before .low-bytes .ensures) (fits-signed _ _ (c .before .before .if1 .left))
 
 pub fits-spec : {M : Type 1} → statement M
-fits-spec = tie.close (tie.spec returns low-bytes-requires extended-requires returns-2)
+fits-spec = tie.close (tie.spec returns (λ c κs. search needs) extended-requires returns-2)

@@ -4,9 +4,6 @@ use Rattle.model.proofs.LoadStore.{operand-small}
 use Rattle.decode.proofs.operand.loaded.Statement.{statement}
 use Rattle.decode.proofs.operand.loaded.Tie as tie
 
-operand-requires : tie.Need-operand-requires
-operand-requires c κs = search needs
-
 extended-requires : tie.Need-extended-requires
 extended-requires c κs = rw (c .operand .ensures) (operand-small _ _ _)
 
@@ -14,4 +11,4 @@ returns : tie.Need-returns
 returns c = rw (c .before .operand .ensures) at (c .extended .ensures)
 
 pub loaded-spec : {M : Type 1} → statement M
-loaded-spec = tie.close (tie.spec operand-requires extended-requires returns)
+loaded-spec = tie.close (tie.spec (λ c κs. search needs) extended-requires returns)

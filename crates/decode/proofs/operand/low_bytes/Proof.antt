@@ -4,11 +4,8 @@ use Rattle.decode.proofs.Operands.{low-masked}
 use Rattle.decode.proofs.operand.low_bytes.Statement.{statement}
 use Rattle.decode.proofs.operand.low_bytes.Tie as tie
 
-most-requires : tie.Need-most-requires
-most-requires c κs = search needs
-
 returns : tie.Need-returns
 returns c = low-masked _ _ _ (c .most .ensures)
 
 pub low-bytes-spec : {M : Type 1} → statement M
-low-bytes-spec = tie.close (tie.spec most-requires returns)
+low-bytes-spec = tie.close (tie.spec (λ c κs. search needs) returns)

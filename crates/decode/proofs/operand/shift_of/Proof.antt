@@ -7,24 +7,6 @@ use Rattle.decode.proofs.Operands.{width-byte, width-wyde, width-tetra,
 use Rattle.decode.proofs.operand.shift_of.Statement.{statement}
 use Rattle.decode.proofs.operand.shift_of.Tie as tie
 
-mul-result : tie.Need-mul-result
-mul-result c = search needs
-
-sub-result : tie.Need-sub-result
-sub-result c = search needs
-
-mul-result-2 : tie.Need-mul-result-2
-mul-result-2 c = search needs
-
-sub-result-2 : tie.Need-sub-result-2
-sub-result-2 c = search needs
-
-mul-result-3 : tie.Need-mul-result-3
-mul-result-3 c = search needs
-
-sub-result-3 : tie.Need-sub-result-3
-sub-result-3 c = search needs
-
 returns : tie.Need-returns
 unfolding bytesIn
 returns c = shift-is _ _ _ byte (width-byte _ (c .match .keys1)) (omega arith)
@@ -45,12 +27,7 @@ pub shift-of-spec : {M : Type 1} → statement M
 shift-of-spec =
     tie.close
     (tie.spec
-    mul-result
-    sub-result
-    mul-result-2
-    sub-result-2
-    mul-result-3
-    sub-result-3
+    (λ c. search needs) (λ c. search needs) (λ c. search needs) (λ c. search needs) (λ c. search needs) (λ c. search needs)
     returns
     returns-2
     returns-3

@@ -5,17 +5,8 @@ use Rattle.decode.proofs.Operands.{tetra-is}
 use Rattle.decode.proofs.operand.tetra_at.Statement.{statement}
 use Rattle.decode.proofs.operand.tetra_at.Tie as tie
 
-mul-shift : tie.Need-mul-shift
-mul-shift c = search needs
-
-sub-shift : tie.Need-sub-shift
-sub-shift c = search needs
-
-shr-result : tie.Need-shr-result
-shr-result c = search needs
-
 returns : tie.Need-returns
 returns c = (tetra-is _ _, omega arith)
 
 pub tetra-at-spec : {M : Type 1} → statement M
-tetra-at-spec = tie.close (tie.spec mul-shift sub-shift shr-result returns)
+tetra-at-spec = tie.close (tie.spec (λ c. search needs) (λ c. search needs) (λ c. search needs) returns)

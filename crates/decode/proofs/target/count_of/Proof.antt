@@ -5,19 +5,10 @@ use Rattle.decode.proofs.Counts.{behind-fits, count-ahead, count-back}
 use Rattle.decode.proofs.target.count_of.Statement.{statement}
 use Rattle.decode.proofs.target.count_of.Tie as tie
 
-cast-result : tie.Need-cast-result
-cast-result c = search needs
-
 returns : tie.Need-returns
 returns c =
     let a = c .before .args in
     count-ahead (a .op) (a .size) (a .field) (omega arith) (omega arith) (omega arith)
-
-cast-result-2 : tie.Need-cast-result-2
-cast-result-2 c = search needs
-
-cast-result-3 : tie.Need-cast-result-3
-cast-result-3 c = search needs
 
 sub-result : tie.Need-sub-result
 sub-result c = behind-fits (c .before .args .op) (c .before .args .size) (c .before .args .field) (omega arith) (omega arith)
@@ -29,4 +20,4 @@ returns-2 c =
 
 pub count-of-spec : {M : Type 1} → statement M
 count-of-spec =
-    tie.close (tie.spec cast-result returns cast-result-2 cast-result-3 sub-result returns-2)
+    tie.close (tie.spec (λ c. search needs) returns (λ c. search needs) (λ c. search needs) sub-result returns-2)

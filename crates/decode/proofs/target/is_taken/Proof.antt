@@ -10,9 +10,6 @@ use Rattle.decode.proofs.Conditions.{both-right, both-left, either-left
 use Rattle.decode.proofs.target.is_taken.Statement.{statement}
 use Rattle.decode.proofs.target.is_taken.Tie as tie
 
-is-negative-requires : tie.Need-is-negative-requires
-is-negative-requires c κs = search needs
-
 returns : tie.Need-returns
 unfolding holds conditionOf
 returns c = rw (c .match .keys1) (c .before .is-negative .ensures)
@@ -59,7 +56,7 @@ pub is-taken-spec : {M : Type 1} → statement M
 is-taken-spec =
     tie.close
     (tie.spec
-    is-negative-requires
+    (λ c κs. search needs)
     returns
     returns-2
     returns-3

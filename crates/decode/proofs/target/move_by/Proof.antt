@@ -29,9 +29,6 @@ cast-wrapping-sub c =
     let b = negative c in
     rw (b .magnitude) (tt, record { fits = omega arith })
 
-wrapping-sub-requires : tie.Need-wrapping-sub-requires
-wrapping-sub-requires c κs = search needs
-
 returns : tie.Need-returns
 unfolding fourfold
 returns c = moved _ _ _ (c .before .before .pre) (applied-back _ _ (fourfold (c .before .before .args .count)) (negative (c .before)) (c .wrapping-sub .ensures))
@@ -41,9 +38,6 @@ unfolding fourfold
 cast-wrapping-add c =
     let b = other c in
     rw (b .magnitude) (tt, record { fits = omega arith })
-
-wrapping-add-requires : tie.Need-wrapping-add-requires
-wrapping-add-requires c κs = search needs
 
 returns-2 : tie.Need-returns-2
 unfolding fourfold
@@ -56,8 +50,8 @@ move-by-spec =
     mul-offset
     sub-wrapping-sub
     cast-wrapping-sub
-    wrapping-sub-requires
+    (λ c κs. search needs)
     returns
     cast-wrapping-add
-    wrapping-add-requires
+    (λ c κs. search needs)
     returns-2)

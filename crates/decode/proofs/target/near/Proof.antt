@@ -5,15 +5,6 @@ use Rattle.decode.proofs.Counts.{passed-small, passed-target}
 use Rattle.decode.proofs.target.near.Statement.{statement}
 use Rattle.decode.proofs.target.near.Tie as tie
 
-mul-field : tie.Need-mul-field
-mul-field c = search needs
-
-add-field : tie.Need-add-field
-add-field c = search needs
-
-count-of-requires : tie.Need-count-of-requires
-count-of-requires c κs = search needs
-
 move-by-requires : tie.Need-move-by-requires
 move-by-requires c κs = passed-small _ _ _ (omega arith) (omega arith) _ (c .count-of .ensures)
 
@@ -21,4 +12,4 @@ returns : tie.Need-returns
 returns c = passed-target _ _ _ (omega arith) (omega arith) _ (c .before .count-of .ensures) _ _ (c .move-by .ensures)
 
 pub near-spec : {M : Type 1} → statement M
-near-spec = tie.close (tie.spec mul-field add-field count-of-requires move-by-requires returns)
+near-spec = tie.close (tie.spec (λ c. search needs) (λ c. search needs) (λ c κs. search needs) move-by-requires returns)

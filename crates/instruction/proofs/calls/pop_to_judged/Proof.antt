@@ -10,35 +10,8 @@ use Rattle.instruction.proofs.PushPopSent.{pop-done, pop-refused}
 use Rattle.instruction.proofs.calls.pop_to_judged.Statement.{statement}
 use Rattle.instruction.proofs.calls.pop_to_judged.Tie as tie
 
-mul-yz : tie.Need-mul-yz
-mul-yz c = search needs
-
-add-yz : tie.Need-add-yz
-add-yz c = search needs
-
-pop-frame-judged-requires : tie.Need-pop-frame-judged-requires
-pop-frame-judged-requires c κs = search needs
-
-enum-known-found : tie.Need-enum-known-found
-enum-known-found c = search needs
-
 enum-told : tie.Need-enum-told
 enum-told c = search needs
-
-enum-told-2 : tie.Need-enum-told-2
-enum-told-2 c = search needs
-
-enum-told-3 : tie.Need-enum-told-3
-enum-told-3 c = search needs
-
-enum-told-4 : tie.Need-enum-told-4
-enum-told-4 c = search needs
-
-enum-told-5 : tie.Need-enum-told-5
-enum-told-5 c = search needs
-
-enum-told-6 : tie.Need-enum-told-6
-enum-told-6 c = search needs
 
 returns : tie.Need-returns
 unfolding goes
@@ -100,16 +73,9 @@ pub pop-to-judged-spec : {M : Type 1} → statement M
 pop-to-judged-spec =
     tie.close
     (tie.spec
-    mul-yz
-    add-yz
-    pop-frame-judged-requires
-    enum-known-found
+    (λ c. search needs) (λ c. search needs) (λ c κs. search needs) (λ c. search needs)
     enum-told
-    enum-told-2
-    enum-told-3
-    enum-told-4
-    enum-told-5
-    enum-told-6
+    (λ c. search needs) (λ c. search needs) (λ c. search needs) (λ c. search needs) (λ c. search needs)
     returns
     returns-2
     returns-3

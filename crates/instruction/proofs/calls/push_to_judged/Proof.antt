@@ -6,18 +6,6 @@ use Rattle.instruction.proofs.PushPopSent.{push-done, push-refused}
 use Rattle.instruction.proofs.calls.push_to_judged.Statement.{statement}
 use Rattle.instruction.proofs.calls.push_to_judged.Tie as tie
 
-push-frame-judged-requires : tie.Need-push-frame-judged-requires
-push-frame-judged-requires c κs = search needs
-
-enum-told : tie.Need-enum-told
-enum-told c = search needs
-
-same-length : tie.Need-same-length
-same-length c = search needs
-
-same-length-2 : tie.Need-same-length-2
-same-length-2 c = search needs
-
 returns : tie.Need-returns
 unfolding goes
 returns c =
@@ -25,12 +13,6 @@ returns c =
     let told = c .before .before .before .before .before .before in
     let a = told .before .before .before .before .before .before .before .before .args in
     push-done (lent (a .at) (a .a .now) (a .b .now)) (made (a .general .now) (a .special .now) (a .pc .now) halt marks mask) (a .x) (a .target) _ _ _ (told .push-frame-judged .ensures halt marks mask) (c .before .match .keys1)
-
-same-length-3 : tie.Need-same-length-3
-same-length-3 c = search needs
-
-same-length-4 : tie.Need-same-length-4
-same-length-4 c = search needs
 
 returns-2 : tie.Need-returns-2
 returns-2 c =
@@ -43,11 +25,7 @@ pub push-to-judged-spec : {M : Type 1} → statement M
 push-to-judged-spec =
     tie.close
     (tie.spec
-    push-frame-judged-requires
-    enum-told
-    same-length
-    same-length-2
+    (λ c κs. search needs) (λ c. search needs) (λ c. search needs) (λ c. search needs)
     returns
-    same-length-3
-    same-length-4
+    (λ c. search needs) (λ c. search needs)
     returns-2)

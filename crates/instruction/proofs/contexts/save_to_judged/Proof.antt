@@ -6,21 +6,6 @@ use Rattle.instruction.proofs.SaveUnsaveSent.{save-onward, onward-done,
 use Rattle.instruction.proofs.contexts.save_to_judged.Statement.{statement}
 use Rattle.instruction.proofs.contexts.save_to_judged.Tie as tie
 
-save-context-judged-requires : tie.Need-save-context-judged-requires
-save-context-judged-requires c κs = search needs
-
-enum-told : tie.Need-enum-told
-enum-told c = search needs
-
-following-requires : tie.Need-following-requires
-following-requires c κs = search needs
-
-same-length : tie.Need-same-length
-same-length c = search needs
-
-same-length-2 : tie.Need-same-length-2
-same-length-2 c = search needs
-
 returns : tie.Need-returns
 unfolding saveIn
 returns c =
@@ -28,12 +13,6 @@ returns c =
     let a = told .before .before .before .before .before .before .before .before .args in
     let s = made (a .general .now) (a .special .now) (a .pc .now) (a .halt .now) (a .marks) (a .mask) in
     onward-done _ s (save-onward (lent (a .at) (a .a .now) (a .b .now)) s (a .x)) _ _ _ _ _ (told .save-context-judged .ensures (a .pc .now)) _ (c .before .before .before .match .keys1) (c .following .ensures)
-
-same-length-3 : tie.Need-same-length-3
-same-length-3 c = search needs
-
-same-length-4 : tie.Need-same-length-4
-same-length-4 c = search needs
 
 returns-2 : tie.Need-returns-2
 unfolding saveIn
@@ -47,12 +26,7 @@ pub save-to-judged-spec : {M : Type 1} → statement M
 save-to-judged-spec =
     tie.close
     (tie.spec
-    save-context-judged-requires
-    enum-told
-    following-requires
-    same-length
-    same-length-2
+    (λ c κs. search needs) (λ c. search needs) (λ c κs. search needs) (λ c. search needs) (λ c. search needs)
     returns
-    same-length-3
-    same-length-4
+    (λ c. search needs) (λ c. search needs)
     returns-2)

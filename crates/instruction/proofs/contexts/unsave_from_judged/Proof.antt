@@ -6,15 +6,6 @@ use Rattle.instruction.proofs.SaveUnsaveSent.{unsave-onward, onward-don
 use Rattle.instruction.proofs.contexts.unsave_from_judged.Statement.{statement}
 use Rattle.instruction.proofs.contexts.unsave_from_judged.Tie as tie
 
-unsave-context-judged-requires : tie.Need-unsave-context-judged-requires
-unsave-context-judged-requires c κs = search needs
-
-enum-told : tie.Need-enum-told
-enum-told c = search needs
-
-following-requires : tie.Need-following-requires
-following-requires c κs = search needs
-
 returns : tie.Need-returns
 unfolding unsaveIn
 returns c =
@@ -35,4 +26,4 @@ returns-2 c =
 
 pub unsave-from-judged-spec : {M : Type 1} → statement M
 unsave-from-judged-spec =
-    tie.close (tie.spec unsave-context-judged-requires enum-told following-requires returns returns-2)
+    tie.close (tie.spec (λ c κs. search needs) (λ c. search needs) (λ c κs. search needs) returns returns-2)

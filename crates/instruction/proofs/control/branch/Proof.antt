@@ -8,18 +8,6 @@ use Rattle.instruction.proofs.ControlArms.{branch-taken, branch-not}
 use Rattle.instruction.proofs.control.branch.Statement.{statement}
 use Rattle.instruction.proofs.control.branch.Tie as tie
 
-mul-v : tie.Need-mul-v
-mul-v c = search needs
-
-element-copy-out-v : tie.Need-element-copy-out-v
-element-copy-out-v c = search needs
-
-is-taken-requires : tie.Need-is-taken-requires
-is-taken-requires c κs = search needs
-
-near-requires : tie.Need-near-requires
-near-requires c κs = search needs
-
 returns : tie.Need-returns
 unfolding goes replyOf
 returns c =
@@ -30,9 +18,6 @@ returns c =
       reply-is = refl;
       state-is = branch-taken s (a .op) (a .x) (a .y) (a .z) _ _ (c .before .before .is-taken .ensures) (c .before .if1 .taken) (c .near .ensures);
     }
-
-following-requires : tie.Need-following-requires
-following-requires c κs = search needs
 
 returns-2 : tie.Need-returns-2
 unfolding goes replyOf
@@ -46,4 +31,4 @@ returns-2 c =
     }
 
 pub branch-spec : {M : Type 1} → statement M
-branch-spec = tie.close (tie.spec mul-v element-copy-out-v is-taken-requires near-requires returns following-requires returns-2)
+branch-spec = tie.close (tie.spec (λ c. search needs) (λ c. search needs) (λ c κs. search needs) (λ c κs. search needs) returns (λ c κs. search needs) returns-2)

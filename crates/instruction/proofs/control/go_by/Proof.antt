@@ -7,12 +7,6 @@ use Rattle.instruction.specs.Arms.{goTo}
 use Rattle.instruction.proofs.control.go_by.Statement.{statement}
 use Rattle.instruction.proofs.control.go_by.Tie as tie
 
-sum-requires : tie.Need-sum-requires
-sum-requires c κs = search needs
-
-go-to-requires : tie.Need-go-to-requires
-go-to-requires c κs = search needs
-
 returns : tie.Need-returns
 unfolding replyOf
 returns c =
@@ -26,4 +20,4 @@ returns c =
     }
 
 pub go-by-spec : {M : Type 1} → statement M
-go-by-spec = tie.close (tie.spec sum-requires go-to-requires returns)
+go-by-spec = tie.close (tie.spec (λ c κs. search needs) (λ c κs. search needs) returns)

@@ -7,9 +7,6 @@ use Rattle.model.specs.Parts.{made}
 use Rattle.instruction.proofs.control.jump.Statement.{statement}
 use Rattle.instruction.proofs.control.jump.Tie as tie
 
-far-requires : tie.Need-far-requires
-far-requires c κs = search needs
-
 returns : tie.Need-returns
 unfolding goes replyOf
 returns c =
@@ -17,4 +14,4 @@ returns c =
     record { reply-is = refl; state-is = ap (goes (made general special (c .before .before .args .pc .now) halt marks mask)) (c .far .ensures) }
 
 pub jump-spec : {M : Type 1} → statement M
-jump-spec = tie.close (tie.spec far-requires returns)
+jump-spec = tie.close (tie.spec (λ c κs. search needs) returns)

@@ -7,12 +7,6 @@ use Rattle.instruction.proofs.LoadStoreArms.{load-missing, load-done}
 use Rattle.instruction.proofs.load_store.load.Statement.{statement}
 use Rattle.instruction.proofs.load_store.load.Tie as tie
 
-sum-requires : tie.Need-sum-requires
-sum-requires c κs = search needs
-
-run-refusal-requires : tie.Need-run-refusal-requires
-run-refusal-requires c κs = search needs
-
 returns : tie.Need-returns
 returns c =
     λ halt marks mask.
@@ -21,18 +15,6 @@ returns c =
     let a = sums .before .before .before .before .args in
     let s = made (a .general .now) (a .special .now) (a .pc .now) halt marks mask in
     load-missing (lent (a .at) (a .a .now) (a .b .now)) s _ _ _ _ _ (sums .sum .ensures (a .special .now) (a .pc .now) halt marks mask) (rw (test .run-refusal .ensures) at (c .if1 .taken))
-
-read-octa-requires : tie.Need-read-octa-requires
-read-octa-requires c κs = search needs
-
-loaded-requires : tie.Need-loaded-requires
-loaded-requires c κs = search needs
-
-set-register-requires : tie.Need-set-register-requires
-set-register-requires c κs = search needs
-
-following-requires : tie.Need-following-requires
-following-requires c κs = search needs
 
 returns-2 : tie.Need-returns-2
 returns-2 c =
@@ -54,11 +36,7 @@ pub load-spec : {M : Type 1} → statement M
 load-spec =
     tie.close
     (tie.spec
-    sum-requires
-    run-refusal-requires
+    (λ c κs. search needs) (λ c κs. search needs)
     returns
-    read-octa-requires
-    loaded-requires
-    set-register-requires
-    following-requires
+    (λ c κs. search needs) (λ c κs. search needs) (λ c κs. search needs) (λ c κs. search needs)
     returns-2)

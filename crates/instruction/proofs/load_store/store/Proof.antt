@@ -7,18 +7,6 @@ use Rattle.instruction.proofs.LoadStoreArms.{store-missing, store-fits,
 use Rattle.instruction.proofs.load_store.store.Statement.{statement}
 use Rattle.instruction.proofs.load_store.store.Tie as tie
 
-sum-requires : tie.Need-sum-requires
-sum-requires c κs = search needs
-
-run-refusal-requires : tie.Need-run-refusal-requires
-run-refusal-requires c κs = search needs
-
-same-length : tie.Need-same-length
-same-length c = search needs
-
-same-length-2 : tie.Need-same-length-2
-same-length-2 c = search needs
-
 returns : tie.Need-returns
 returns c =
     λ mask.
@@ -27,33 +15,6 @@ returns c =
     let a = sums .before .before .before .before .args in
     let s = made (a .general .now) (a .special .now) (a .pc .now) (a .halt .now) (a .marks) mask in
     store-missing (lent (a .at) (a .a .now) (a .b .now)) s _ _ _ _ _ (sums .sum .ensures (a .special .now) (a .pc .now) (a .halt .now) (a .marks) mask) (rw (test .run-refusal .ensures) at (c .if1 .taken))
-
-read-octa-requires : tie.Need-read-octa-requires
-read-octa-requires c κs = search needs
-
-mul-u : tie.Need-mul-u
-mul-u c = search needs
-
-element-copy-out-u : tie.Need-element-copy-out-u
-element-copy-out-u c = search needs
-
-merged-requires : tie.Need-merged-requires
-merged-requires c κs = search needs
-
-write-octa-requires : tie.Need-write-octa-requires
-write-octa-requires c κs = search needs
-
-fits-requires : tie.Need-fits-requires
-fits-requires c κs = search needs
-
-following-requires : tie.Need-following-requires
-following-requires c κs = search needs
-
-same-length-3 : tie.Need-same-length-3
-same-length-3 c = search needs
-
-same-length-4 : tie.Need-same-length-4
-same-length-4 c = search needs
 
 returns-2 : tie.Need-returns-2
 returns-2 c =
@@ -73,18 +34,6 @@ returns-2 c =
     store-fits w s _ _ _ _ _ (sums .sum .ensures (a .special .now) (a .pc .now) (a .halt .now) (a .marks) mask) there _ _ _
     (reads .read-octa .ensures .0 ∙ octa-read w _ there) (writes .before .merged .ensures) (writes .write-octa .ensures .0 ∙ octa-written w _ there _)
     _ (sym (asks .fits2 .ensures) ∙ then .if2 .taken) (c .following .ensures)
-
-word-of-requires : tie.Need-word-of-requires
-word-of-requires c κs = search needs
-
-raise-requires : tie.Need-raise-requires
-raise-requires c κs = search needs
-
-same-length-5 : tie.Need-same-length-5
-same-length-5 c = search needs
-
-same-length-6 : tie.Need-same-length-6
-same-length-6 c = search needs
 
 returns-3 : tie.Need-returns-3
 returns-3 c =
@@ -110,23 +59,10 @@ pub store-spec : {M : Type 1} → statement M
 store-spec =
     tie.close
     (tie.spec
-    sum-requires
-    run-refusal-requires
-    same-length
-    same-length-2
+    (λ c κs. search needs) (λ c κs. search needs) (λ c. search needs) (λ c. search needs)
     returns
-    read-octa-requires
-    mul-u
-    element-copy-out-u
-    merged-requires
-    write-octa-requires
-    fits-requires
-    following-requires
-    same-length-3
-    same-length-4
+    (λ c κs. search needs) (λ c. search needs) (λ c. search needs) (λ c κs. search needs) (λ c κs. search needs)
+    (λ c κs. search needs) (λ c κs. search needs) (λ c. search needs) (λ c. search needs)
     returns-2
-    word-of-requires
-    raise-requires
-    same-length-5
-    same-length-6
+    (λ c κs. search needs) (λ c κs. search needs) (λ c. search needs) (λ c. search needs)
     returns-3)

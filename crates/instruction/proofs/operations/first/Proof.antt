@@ -6,20 +6,11 @@ use Rattle.instruction.proofs.ArithmeticArms.{first-constant, first-reg
 use Rattle.instruction.proofs.operations.first.Statement.{statement}
 use Rattle.instruction.proofs.operations.first.Tie as tie
 
-is-among-requires : tie.Need-is-among-requires
-is-among-requires c κs = search needs
-
 returns : tie.Need-returns
 returns c = λ special pc halt marks mask. let a = c .before .before .args in first-constant (made (a .general .now) special pc halt marks mask) (a .op) (a .y) (sym (c .before .is-among .ensures) ∙ c .if1 .taken)
-
-mul-result : tie.Need-mul-result
-mul-result c = search needs
-
-element-copy-out-result : tie.Need-element-copy-out-result
-element-copy-out-result c = search needs
 
 returns-2 : tie.Need-returns-2
 returns-2 c = λ special pc halt marks mask. let else = c .before in let a = else .before .before .args in first-register (made (a .general .now) special pc halt marks mask) (a .op) (a .y) (sym (else .before .is-among .ensures) ∙ else .if1 .left)
 
 pub first-spec : {M : Type 1} → statement M
-first-spec = tie.close (tie.spec is-among-requires returns mul-result element-copy-out-result returns-2)
+first-spec = tie.close (tie.spec (λ c κs. search needs) returns (λ c. search needs) (λ c. search needs) returns-2)

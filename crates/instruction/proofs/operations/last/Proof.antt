@@ -5,12 +5,6 @@ use Rattle.instruction.proofs.ArithmeticArms.{last-register, last-const
 use Rattle.instruction.proofs.operations.last.Statement.{statement}
 use Rattle.instruction.proofs.operations.last.Tie as tie
 
-mul-result : tie.Need-mul-result
-mul-result c = search needs
-
-element-copy-out-result : tie.Need-element-copy-out-result
-element-copy-out-result c = search needs
-
 returns : tie.Need-returns
 returns c = λ special pc halt marks mask. let a = c .before .before .args in last-register (made (a .general .now) special pc halt marks mask) (a .op) (a .z) (c .before .if1 .taken)
 
@@ -18,4 +12,4 @@ returns-2 : tie.Need-returns-2
 returns-2 c = λ special pc halt marks mask. let a = c .before .args in last-constant (made (a .general .now) special pc halt marks mask) (a .op) (a .z) (c .if1 .left)
 
 pub last-spec : {M : Type 1} → statement M
-last-spec = tie.close (tie.spec mul-result element-copy-out-result returns returns-2)
+last-spec = tie.close (tie.spec (λ c. search needs) (λ c. search needs) returns returns-2)

@@ -8,15 +8,6 @@ use Rattle.exceptions.proofs.PcAndHalt.{next-is}
 use Rattle.instruction.proofs.registers.get_address.Statement.{statement}
 use Rattle.instruction.proofs.registers.get_address.Tie as tie
 
-near-requires : tie.Need-near-requires
-near-requires c κs = search needs
-
-set-register-requires : tie.Need-set-register-requires
-set-register-requires c κs = search needs
-
-following-requires : tie.Need-following-requires
-following-requires c κs = search needs
-
 returns : tie.Need-returns
 unfolding replyOf
 returns c =
@@ -29,4 +20,4 @@ returns c =
     }
 
 pub get-address-spec : {M : Type 1} → statement M
-get-address-spec = tie.close (tie.spec near-requires set-register-requires following-requires returns)
+get-address-spec = tie.close (tie.spec (λ c κs. search needs) (λ c κs. search needs) (λ c κs. search needs) returns)

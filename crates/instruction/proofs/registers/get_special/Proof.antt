@@ -11,9 +11,6 @@ use Rattle.instruction.proofs.registers.get_special.Tie as tie
 returns : tie.Need-returns
 returns c = λ marks. get-none _ _ _ (c .if1 .taken)
 
-is-hidden-requires : tie.Need-is-hidden-requires
-is-hidden-requires c κs = search needs
-
 returns-2 : tie.Need-returns-2
 unfolding halted
 returns-2 c =
@@ -22,18 +19,6 @@ returns-2 c =
     let a = passed .before .args in
     let s = made (a .general .now) (a .special .now) (a .pc .now) (a .halt .now) marks (a .mask) in
     get-hidden s (a .x) (a .z) (passed .if1 .left) (sym (c .before .is-hidden .ensures) ∙ c .if2 .taken)
-
-mul-v : tie.Need-mul-v
-mul-v c = search needs
-
-element-copy-out-v : tie.Need-element-copy-out-v
-element-copy-out-v c = search needs
-
-set-register-requires : tie.Need-set-register-requires
-set-register-requires c κs = search needs
-
-following-requires : tie.Need-following-requires
-following-requires c κs = search needs
 
 returns-3 : tie.Need-returns-3
 unfolding got
@@ -46,4 +31,4 @@ returns-3 c =
     get-done s (a .x) (a .z) _ _ _ (passed .if1 .left) (sym (seen .before .is-hidden .ensures) ∙ seen .if2 .left) (search (c .before .before .set-register .ensures s)) (c .following .ensures)
 
 pub get-special-spec : {M : Type 1} → statement M
-get-special-spec = tie.close (tie.spec returns is-hidden-requires returns-2 mul-v element-copy-out-v set-register-requires following-requires returns-3)
+get-special-spec = tie.close (tie.spec returns (λ c κs. search needs) returns-2 (λ c. search needs) (λ c. search needs) (λ c κs. search needs) (λ c κs. search needs) returns-3)

@@ -7,12 +7,6 @@ use Rattle.exceptions.proofs.PcAndHalt.{goes-is}
 use Rattle.instruction.proofs.registers.go_to.Statement.{statement}
 use Rattle.instruction.proofs.registers.go_to.Tie as tie
 
-following-requires : tie.Need-following-requires
-following-requires c κs = search needs
-
-set-register-requires : tie.Need-set-register-requires
-set-register-requires c κs = search needs
-
 returns : tie.Need-returns
 returns c =
     λ halt marks mask.
@@ -21,4 +15,4 @@ returns c =
     goes-is s _ _ _ (c .set-register .ensures s ∙ ap (setRegister s (a .x)) (c .before .before .before .following .ensures)) _
 
 pub go-to-spec : {M : Type 1} → statement M
-go-to-spec = tie.close (tie.spec following-requires set-register-requires returns)
+go-to-spec = tie.close (tie.spec (λ c κs. search needs) (λ c κs. search needs) returns)

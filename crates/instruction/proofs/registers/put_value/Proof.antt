@@ -7,24 +7,12 @@ use Rattle.instruction.proofs.NoMemoryReplies.{put-hidden, put-done, pu
 use Rattle.instruction.proofs.registers.put_value.Statement.{statement}
 use Rattle.instruction.proofs.registers.put_value.Tie as tie
 
-is-hidden-requires : tie.Need-is-hidden-requires
-is-hidden-requires c κs = search needs
-
 returns : tie.Need-returns
 unfolding halted
 returns c =
     λ marks.
     let a = c .before .before .args in
     put-hidden (made (a .general .now) (a .special .now) (a .pc .now) (a .halt .now) marks (a .mask)) _ _ (sym (c .before .is-hidden .ensures) ∙ c .if1 .taken)
-
-put-special-requires : tie.Need-put-special-requires
-put-special-requires c κs = search needs
-
-enum-told : tie.Need-enum-told
-enum-told c = search needs
-
-following-requires : tie.Need-following-requires
-following-requires c κs = search needs
 
 returns-2 : tie.Need-returns-2
 returns-2 c =
@@ -46,4 +34,4 @@ returns-3 c =
 
 pub put-value-spec : {M : Type 1} → statement M
 put-value-spec =
-    tie.close (tie.spec is-hidden-requires returns put-special-requires enum-told following-requires returns-2 returns-3)
+    tie.close (tie.spec (λ c κs. search needs) returns (λ c κs. search needs) (λ c. search needs) (λ c κs. search needs) returns-2 returns-3)

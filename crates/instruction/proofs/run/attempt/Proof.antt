@@ -18,27 +18,6 @@ use borrow.Author.Needs.{needs}
 use Rattle.instruction.proofs.run.attempt.Statement.{statement}
 use Rattle.instruction.proofs.run.attempt.Tie as tie
 
-counted-requires : tie.Need-counted-requires
-counted-requires c κs = search needs
-
-cast-op : tie.Need-cast-op
-cast-op c = search needs
-
-cast-x : tie.Need-cast-x
-cast-x c = search needs
-
-cast-y : tie.Need-cast-y
-cast-y c = search needs
-
-cast-z : tie.Need-cast-z
-cast-z c = search needs
-
-is-among-requires : tie.Need-is-among-requires
-is-among-requires c κs = search needs
-
-branch-requires : tie.Need-branch-requires
-branch-requires c κs = search needs
-
 returns : tie.Need-returns
 returns c =
     let start = c .before .before .before .before .before .before .before .before .before .before in
@@ -50,9 +29,6 @@ returns c =
     tetra-branch w s n (start .pre .0) (start .pre .1) (a .tetra) (start .pre .2) _ (made _ _ _ _ _ _) _ is
     (done-numbered w s (opcodeIn (a .tetra)) (xIn (a .tetra)) (yIn (a .tetra)) (zIn (a .tetra)) _ (made _ _ _ _ _ _) (start .pre .0) (start .pre .1) is (c .branch .ensures _ _ _ _))
 
-is-claimed-requires : tie.Need-is-claimed-requires
-is-claimed-requires c κs = search needs
-
 claimed-requires : tie.Need-claimed-requires
 claimed-requires c κs =
     let start = c .before .before .before .before .before .before .before .before .before .before .before .before .before .before .before .before in
@@ -60,12 +36,6 @@ claimed-requires c κs =
     let s = made (a .general .now) (a .special .now) (a .pc .now) (a .halt .now) (a .marks) (a .mask) in
     let both : (isMarginal s (xIn (a .tetra)) && claims (opcodeIn (a .tetra))) ≡ true = sym (c .before .before .before .before .before .before .before .is-claimed .ensures (a .general .now) (a .pc .now) (a .halt .now) (a .marks) (a .mask)) ∙ c .before .before .before .before .before .before .if2 .taken in
     (start .pre .0, start .pre .1, and-right (isMarginal s (xIn (a .tetra))) (claims (opcodeIn (a .tetra))) both, and-left (isMarginal s (xIn (a .tetra))) (claims (opcodeIn (a .tetra))) both)
-
-same-length : tie.Need-same-length
-same-length c = search needs
-
-same-length-2 : tie.Need-same-length-2
-same-length-2 c = search needs
 
 returns-2 : tie.Need-returns-2
 returns-2 c =
@@ -77,20 +47,8 @@ returns-2 c =
     let both : (isMarginal s (xIn (a .tetra)) && claims (opcodeIn (a .tetra))) ≡ true = sym (c .before .before .before .before .before .before .before .before .before .before .before .before .is-claimed .ensures (a .general .now) (a .pc .now) (a .halt .now) (a .marks) (a .mask)) ∙ c .before .before .before .before .before .before .before .before .before .before .before .if2 .taken in
     tetra-claims w s n (start .pre .0) (start .pre .1) (a .tetra) (start .pre .2) _ (made _ _ _ _ _ _) _ (and-right (isMarginal s (xIn (a .tetra))) (claims (opcodeIn (a .tetra))) both) (c .before .before .before .before .claimed .ensures)
 
-cast-code : tie.Need-cast-code
-cast-code c = search needs
-
-add-code : tie.Need-add-code
-add-code c = search needs
-
 stepped-requires : tie.Need-stepped-requires
 stepped-requires c κs = λ l. refused-none _ (made _ _ _ _ _ _) (c .before .before .before .before .before .before .before .before .before .before .before .before .before .before .before .before .pre .0) (c .before .before .before .before .before .before .before .before .before .before .before .before .before .before .before .before .pre .1)
-
-same-length-3 : tie.Need-same-length-3
-same-length-3 c = search needs
-
-same-length-4 : tie.Need-same-length-4
-same-length-4 c = search needs
 
 returns-3 : tie.Need-returns-3
 returns-3 c =
@@ -106,22 +64,14 @@ pub attempt-spec : {M : Type 1} → statement M
 attempt-spec =
     tie.close
     (tie.spec
-    counted-requires
-    cast-op
-    cast-x
-    cast-y
-    cast-z
-    is-among-requires
-    branch-requires
+    (λ c κs. search needs) (λ c. search needs) (λ c. search needs) (λ c. search needs) (λ c. search needs) (λ c κs. search needs)
+    (λ c κs. search needs)
     returns
-    is-claimed-requires
+    (λ c κs. search needs)
     claimed-requires
-    same-length
-    same-length-2
+    (λ c. search needs) (λ c. search needs)
     returns-2
-    cast-code
-    add-code
+    (λ c. search needs) (λ c. search needs)
     stepped-requires
-    same-length-3
-    same-length-4
+    (λ c. search needs) (λ c. search needs)
     returns-3)

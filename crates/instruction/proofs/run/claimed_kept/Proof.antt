@@ -11,18 +11,6 @@ use borrow.Author.Needs.{needs}
 use Rattle.instruction.proofs.run.claimed_kept.Statement.{statement}
 use Rattle.instruction.proofs.run.claimed_kept.Tie as tie
 
-counted-requires : tie.Need-counted-requires
-counted-requires c κs = search needs
-
-element-copy-out-rl : tie.Need-element-copy-out-rl
-element-copy-out-rl c = search needs
-
-claim-local-requires : tie.Need-claim-local-requires
-claim-local-requires c κs = search needs
-
-add-code : tie.Need-add-code
-add-code c = search needs
-
 stepped-requires : tie.Need-stepped-requires
 stepped-requires c κs =
     λ l.
@@ -32,15 +20,6 @@ stepped-requires c κs =
     let s = made (a .general .now) (a .special .now) (a .pc .now) (a .halt .now) (a .marks) (a .mask) in
     let n : Sized s = record { generals = c .before .before .before .before .before .before .before .before .before .before .before .counted .ensures .0; specials = c .before .before .before .before .before .before .before .before .before .before .before .counted .ensures .1 } in
     refused-none w (made _ _ _ _ _ _) (claim-judged w s (made _ _ _ _ _ _) (a .op) (a .x) (a .y) (a .z) n (start .pre .0) (start .pre .1) (omega arith) (start .pre .2) (c .before .before .before .before .before .before .claim-local .ensures s)) (start .pre .1)
-
-keeps-claim-requires : tie.Need-keeps-claim-requires
-keeps-claim-requires c κs = search needs
-
-same-length : tie.Need-same-length
-same-length c = search needs
-
-same-length-2 : tie.Need-same-length-2
-same-length-2 c = search needs
 
 returns : tie.Need-returns
 returns c =
@@ -52,15 +31,6 @@ returns c =
     let code : (judged + a .op) % judged ≡ a .op = omega arith in
     claim-kept w s (made _ _ _ _ _ _) (a .op) (a .x) (a .y) (a .z) n (start .pre .0) (start .pre .1) (omega arith) (start .pre .2) (c .before .before .before .before .before .before .before .before .before .before .before .before .before .claim-local .ensures s) _ (made _ _ _ _ _ _) _ (rw code at (c .before .before .before .before .before .before .stepped .ensures))
     (sym (c .before .keeps-claim .ensures) ∙ c .if1 .taken)
-
-element-write-special : tie.Need-element-write-special
-element-write-special c = search needs
-
-same-length-3 : tie.Need-same-length-3
-same-length-3 c = search needs
-
-same-length-4 : tie.Need-same-length-4
-same-length-4 c = search needs
 
 returns-2 : tie.Need-returns-2
 returns-2 c =
@@ -77,16 +47,9 @@ pub claimed-kept-spec : {M : Type 1} → statement M
 claimed-kept-spec =
     tie.close
     (tie.spec
-    counted-requires
-    element-copy-out-rl
-    claim-local-requires
-    add-code
+    (λ c κs. search needs) (λ c. search needs) (λ c κs. search needs) (λ c. search needs)
     stepped-requires
-    keeps-claim-requires
-    same-length
-    same-length-2
+    (λ c κs. search needs) (λ c. search needs) (λ c. search needs)
     returns
-    element-write-special
-    same-length-3
-    same-length-4
+    (λ c. search needs) (λ c. search needs) (λ c. search needs)
     returns-2)

@@ -7,15 +7,6 @@ use Rattle.instruction.proofs.RunTurned.{not-fetched, was-fetched}
 use Rattle.instruction.proofs.run.fetched.Statement.{statement}
 use Rattle.instruction.proofs.run.fetched.Tie as tie
 
-read-octa-requires : tie.Need-read-octa-requires
-read-octa-requires c κs = search needs
-
-same-length : tie.Need-same-length
-same-length c = search needs
-
-same-length-2 : tie.Need-same-length-2
-same-length-2 c = search needs
-
 returns : tie.Need-returns
 returns c =
     let read = c .before .before in
@@ -24,18 +15,6 @@ returns c =
     let w = lent (a .at) (a .a .now) (a .b .now) in
     let s = made (a .general .now) (a .special .now) (a .pc .now) (a .halt .now) (a .marks) (a .mask) in
     not-fetched w s (start .pre .0) (start .pre .1) _ (read .read-octa .ensures .1) (c .if1 .taken)
-
-tetra-at-requires : tie.Need-tetra-at-requires
-tetra-at-requires c κs = search needs
-
-attempt-requires : tie.Need-attempt-requires
-attempt-requires c κs = search needs
-
-same-length-3 : tie.Need-same-length-3
-same-length-3 c = search needs
-
-same-length-4 : tie.Need-same-length-4
-same-length-4 c = search needs
 
 returns-2 : tie.Need-returns-2
 returns-2 c =
@@ -55,12 +34,7 @@ pub fetched-spec : {M : Type 1} → statement M
 fetched-spec =
     tie.close
     (tie.spec
-    read-octa-requires
-    same-length
-    same-length-2
+    (λ c κs. search needs) (λ c. search needs) (λ c. search needs)
     returns
-    tetra-at-requires
-    attempt-requires
-    same-length-3
-    same-length-4
+    (λ c κs. search needs) (λ c κs. search needs) (λ c. search needs) (λ c. search needs)
     returns-2)

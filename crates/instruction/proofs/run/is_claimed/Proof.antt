@@ -4,20 +4,11 @@ use borrow.Author.Tests.{le-leb, lt-leb, lt-ltb, le-ltb}
 use Rattle.instruction.proofs.run.is_claimed.Statement.{statement}
 use Rattle.instruction.proofs.run.is_claimed.Tie as tie
 
-element-copy-out-rl : tie.Need-element-copy-out-rl
-element-copy-out-rl c = search needs
-
-element-copy-out-rg : tie.Need-element-copy-out-rg
-element-copy-out-rg c = search needs
-
 returns : tie.Need-returns
 returns c = λ general pc halt marks mask. simp (lt-leb _ _ (c .if1 .taken))
 
 returns-2 : tie.Need-returns-2
 returns-2 c = λ general pc halt marks mask. simp (le-leb _ _ (c .before .if1 .left), le-ltb _ _ (c .if2 .taken))
-
-claims-requires : tie.Need-claims-requires
-claims-requires c κs = search needs
 
 returns-3 : tie.Need-returns-3
 returns-3 c = λ general pc halt marks mask. simp (le-leb _ _ (c .before .before .if1 .left), lt-ltb _ _ (c .before .if2 .left)) (c .claims .ensures)
@@ -25,4 +16,4 @@ returns-3 c = λ general pc halt marks mask. simp (le-leb _ _ (c .before .before
 pub is-claimed-spec : {M : Type 1} → statement M
 is-claimed-spec =
     tie.close
-    (tie.spec element-copy-out-rl element-copy-out-rg returns returns-2 claims-requires returns-3)
+    (tie.spec (λ c. search needs) (λ c. search needs) returns returns-2 (λ c κs. search needs) returns-3)

@@ -7,15 +7,6 @@ use Rattle.instruction.proofs.RunTurned.{run-unopened, run-large, run-t
 use Rattle.instruction.proofs.run.run.Statement.{statement}
 use Rattle.instruction.proofs.run.run.Tie as tie
 
-refusal-requires : tie.Need-refusal-requires
-refusal-requires c κs = search needs
-
-same-length : tie.Need-same-length
-same-length c = search needs
-
-same-length-2 : tie.Need-same-length-2
-same-length-2 c = search needs
-
 returns : tie.Need-returns
 returns c =
     let asks = c .before in
@@ -23,12 +14,6 @@ returns c =
     let w = lent (a .at) (a .a .now) (a .b .now) in
     let s = made (a .general .now) (a .special .now) (a .pc .now) (a .halt .now) (a .marks) (a .mask) in
     run-unopened w s (a .grant) _ (asks .refusal .ensures (a .general .now) (a .pc .now) (a .halt .now)) (c .if1 .taken)
-
-same-length-3 : tie.Need-same-length-3
-same-length-3 c = search needs
-
-same-length-4 : tie.Need-same-length-4
-same-length-4 c = search needs
 
 returns-2 : tie.Need-returns-2
 returns-2 c =
@@ -48,12 +33,6 @@ turns-requires c κs =
     let s = made (a .general .now) (a .special .now) (a .pc .now) (a .halt .now) (a .marks) (a .mask) in
     judged-by w s (sym (asks .refusal .ensures (a .general .now) (a .pc .now) (a .halt .now)) ∙ passed .if1 .left)
 
-same-length-5 : tie.Need-same-length-5
-same-length-5 c = search needs
-
-same-length-6 : tie.Need-same-length-6
-same-length-6 c = search needs
-
 returns-3 : tie.Need-returns-3
 returns-3 c =
     let call = c .before .before .before .before in
@@ -69,14 +48,10 @@ pub run-spec : {M : Type 1} → statement M
 run-spec =
     tie.close
     (tie.spec
-    refusal-requires
-    same-length
-    same-length-2
+    (λ c κs. search needs) (λ c. search needs) (λ c. search needs)
     returns
-    same-length-3
-    same-length-4
+    (λ c. search needs) (λ c. search needs)
     returns-2
     turns-requires
-    same-length-5
-    same-length-6
+    (λ c. search needs) (λ c. search needs)
     returns-3)

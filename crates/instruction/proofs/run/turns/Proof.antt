@@ -17,9 +17,6 @@ Inv-loop general₀ special₀ pc₀ halt₀ marks mask a₀ b₀ at grant done�
 abbrev μ-loop : tie.MeasureT-loop
 μ-loop general₀ special₀ pc₀ halt₀ marks mask a₀ b₀ at grant done₀ i₀ general special pc halt a b done i = grant - i
 
-counted-requires : tie.Need-counted-requires Inv-loop μ-loop
-counted-requires c κs = search needs
-
 loop-holds : tie.Need-loop-holds Inv-loop μ-loop
 loop-holds c =
     let counted = c in
@@ -33,12 +30,6 @@ fetched-requires : tie.Need-fetched-requires Inv-loop μ-loop
 fetched-requires c κs =
     let turn = c .before .before .before .before .before .before .before .loop .inv .0 in
     (turn .admitted, turn .fine)
-
-same-length : tie.Need-same-length Inv-loop μ-loop
-same-length c = search needs
-
-same-length-2 : tie.Need-same-length-2 Inv-loop μ-loop
-same-length-2 c = search needs
 
 returns : tie.Need-returns Inv-loop μ-loop
 returns c =
@@ -77,11 +68,10 @@ turns-spec =
     (tie.spec
     Inv-loop
     μ-loop
-    counted-requires
+    (λ c κs. search needs)
     loop-holds
     fetched-requires
-    same-length
-    same-length-2
+    (λ c. search needs) (λ c. search needs)
     returns
     add-i
     loop-less

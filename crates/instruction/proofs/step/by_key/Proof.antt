@@ -8,51 +8,6 @@ use Rattle.instruction.proofs.LoadStoreArms.{ranged-step}
 use Rattle.instruction.proofs.step.by_key.Statement.{statement}
 use Rattle.instruction.proofs.step.by_key.Tie as tie
 
-trap-arm-requires : tie.Need-trap-arm-requires
-trap-arm-requires c κs = search needs
-
-go-by-requires : tie.Need-go-by-requires
-go-by-requires c κs = search needs
-
-go-by-requires-2 : tie.Need-go-by-requires-2
-go-by-requires-2 c κs = search needs
-
-jump-requires : tie.Need-jump-requires
-jump-requires c κs = search needs
-
-jump-requires-2 : tie.Need-jump-requires-2
-jump-requires-2 c κs = search needs
-
-get-address-requires : tie.Need-get-address-requires
-get-address-requires c κs = search needs
-
-get-address-requires-2 : tie.Need-get-address-requires-2
-get-address-requires-2 c κs = search needs
-
-pop-to-judged-requires : tie.Need-pop-to-judged-requires
-pop-to-judged-requires c κs = search needs
-
-save-to-judged-requires : tie.Need-save-to-judged-requires
-save-to-judged-requires c κs = search needs
-
-unsave-register-requires : tie.Need-unsave-register-requires
-unsave-register-requires c κs = search needs
-
-synchronize-requires : tie.Need-synchronize-requires
-synchronize-requires c κs = search needs
-
-skip-requires : tie.Need-skip-requires
-skip-requires c κs = search needs
-
-get-special-requires : tie.Need-get-special-requires
-get-special-requires c κs = search needs
-
-trip-arm-requires : tie.Need-trip-arm-requires
-trip-arm-requires c κs = search needs
-
-by-range-requires : tie.Need-by-range-requires
-by-range-requires c κs = search needs
-
 returns : tie.Need-returns
 unfolding armOf
 returns c =
@@ -102,12 +57,6 @@ returns-7 c =
     let start = key .before .before .before in
     step-get-address _ _ (start .pre .0) (start .pre .1) _ _ _ _ _ (made _ _ _ _ _ _) (rw (key .match .keys7)) (c .get-address2 .ensures _ _ _)
 
-same-length : tie.Need-same-length
-same-length c = search needs
-
-same-length-2 : tie.Need-same-length-2
-same-length-2 c = search needs
-
 returns-8 : tie.Need-returns-8
 unfolding armOf
 returns-8 c =
@@ -115,24 +64,12 @@ returns-8 c =
     let start = key .before .before .before in
     step-pop _ _ (start .pre .0) (start .pre .1) _ _ _ _ _ (made _ _ _ _ _ _) _ (rw (key .match .keys8)) (c .pop-to-judged .ensures _ _)
 
-same-length-3 : tie.Need-same-length-3
-same-length-3 c = search needs
-
-same-length-4 : tie.Need-same-length-4
-same-length-4 c = search needs
-
 returns-9 : tie.Need-returns-9
 unfolding armOf
 returns-9 c =
     let key = c .before .before .before .before .before .before .before .before .before .before .before in
     let start = key .before .before .before in
     save-step _ _ (start .pre .0) (start .pre .1) _ _ _ _ _ (made _ _ _ _ _ _) _ (rw (key .match .keys9)) (c .before .before .before .before .save-to-judged .ensures)
-
-same-length-5 : tie.Need-same-length-5
-same-length-5 c = search needs
-
-same-length-6 : tie.Need-same-length-6
-same-length-6 c = search needs
 
 returns-10 : tie.Need-returns-10
 unfolding armOf
@@ -169,12 +106,6 @@ returns-14 c =
     let start = key .before .before .before in
     trip-step _ _ (start .pre .0) (start .pre .1) _ _ _ _ _ (made _ _ _ _ _ _) (rw (key .match .keys14)) (c .trip-arm .ensures _)
 
-same-length-7 : tie.Need-same-length-7
-same-length-7 c = search needs
-
-same-length-8 : tie.Need-same-length-8
-same-length-8 c = search needs
-
 returns-15 : tie.Need-returns-15
 returns-15 c =
     let call = c .before .before .before .before in
@@ -183,4 +114,4 @@ returns-15 c =
     ranged-step _ _ (start .pre .0) (start .pre .1) _ _ _ _ _ (made _ _ _ _ _ _) _ (start .pre .2) (start .pre .3) (rest .match .rest) (call .by-range .ensures)
 
 pub by-key-spec : {M : Type 1} → statement M
-by-key-spec = tie.close (tie.spec trap-arm-requires go-by-requires go-by-requires-2 jump-requires jump-requires-2 get-address-requires get-address-requires-2 pop-to-judged-requires save-to-judged-requires unsave-register-requires synchronize-requires skip-requires get-special-requires trip-arm-requires by-range-requires returns returns-2 returns-3 returns-4 returns-5 returns-6 returns-7 same-length same-length-2 returns-8 same-length-3 same-length-4 returns-9 same-length-5 same-length-6 returns-10 returns-11 returns-12 returns-13 returns-14 same-length-7 same-length-8 returns-15)
+by-key-spec = tie.close (tie.spec (λ c κs. search needs) (λ c κs. search needs) (λ c κs. search needs) (λ c κs. search needs) (λ c κs. search needs) (λ c κs. search needs) (λ c κs. search needs) (λ c κs. search needs) (λ c κs. search needs) (λ c κs. search needs) (λ c κs. search needs) (λ c κs. search needs) (λ c κs. search needs) (λ c κs. search needs) (λ c κs. search needs) returns returns-2 returns-3 returns-4 returns-5 returns-6 returns-7 (λ c. search needs) (λ c. search needs) returns-8 (λ c. search needs) (λ c. search needs) returns-9 (λ c. search needs) (λ c. search needs) returns-10 returns-11 returns-12 returns-13 returns-14 (λ c. search needs) (λ c. search needs) returns-15)

@@ -6,36 +6,12 @@ use Rattle.instruction.specs.Arms.{rangedOf}
 use Rattle.instruction.proofs.step.by_range.Statement.{statement}
 use Rattle.instruction.proofs.step.by_range.Tie as tie
 
-is-among-requires : tie.Need-is-among-requires
-is-among-requires c κs = search needs
-
-load-requires : tie.Need-load-requires
-load-requires c κs = search needs
-
-same-length : tie.Need-same-length
-same-length c = search needs
-
-same-length-2 : tie.Need-same-length-2
-same-length-2 c = search needs
-
 returns : tie.Need-returns
 unfolding rangedOf
 returns c =
     let then = c .before .before .before .before .before .before in
     let a = then .before .before .before .before .args in
     rw (sym (then .before .is-among .ensures) ∙ then .if1 .taken) (c .load .ensures (a .halt .now) (a .marks) (a .mask))
-
-is-among-requires-2 : tie.Need-is-among-requires-2
-is-among-requires-2 c κs = search needs
-
-store-requires : tie.Need-store-requires
-store-requires c κs = search needs
-
-same-length-3 : tie.Need-same-length-3
-same-length-3 c = search needs
-
-same-length-4 : tie.Need-same-length-4
-same-length-4 c = search needs
 
 returns-2 : tie.Need-returns-2
 unfolding rangedOf
@@ -45,12 +21,6 @@ returns-2 c =
     let first = then .before .before in
     rw (sym (first .before .is-among .ensures) ∙ first .if1 .left, sym (then .before .is-among2 .ensures) ∙ then .if2 .taken) (call .store .ensures (first .before .before .before .before .args .mask))
 
-is-among-requires-3 : tie.Need-is-among-requires-3
-is-among-requires-3 c κs = search needs
-
-compute-requires : tie.Need-compute-requires
-compute-requires c κs = search needs
-
 returns-3 : tie.Need-returns-3
 unfolding rangedOf
 returns-3 c =
@@ -59,12 +29,6 @@ returns-3 c =
     let first = second .before .before in
     rw (sym (first .before .is-among .ensures) ∙ first .if1 .left, sym (second .before .is-among2 .ensures) ∙ second .if2 .left, sym (then .before .is-among3 .ensures) ∙ then .if3 .taken)
     (let told = c .compute .ensures (first .before .before .before .before .args .mask) in record { reply-is = told .reply-is; state-is = told .state-is; window-is = refl })
-
-is-among-requires-4 : tie.Need-is-among-requires-4
-is-among-requires-4 c κs = search needs
-
-put-by-requires : tie.Need-put-by-requires
-put-by-requires c κs = search needs
 
 returns-4 : tie.Need-returns-4
 unfolding rangedOf
@@ -98,20 +62,12 @@ pub by-range-spec : {M : Type 1} → statement M
 by-range-spec =
     tie.close
     (tie.spec
-    is-among-requires
-    load-requires
-    same-length
-    same-length-2
+    (λ c κs. search needs) (λ c κs. search needs) (λ c. search needs) (λ c. search needs)
     returns
-    is-among-requires-2
-    store-requires
-    same-length-3
-    same-length-4
+    (λ c κs. search needs) (λ c κs. search needs) (λ c. search needs) (λ c. search needs)
     returns-2
-    is-among-requires-3
-    compute-requires
+    (λ c κs. search needs) (λ c κs. search needs)
     returns-3
-    is-among-requires-4
-    put-by-requires
+    (λ c κs. search needs) (λ c κs. search needs)
     returns-4
     returns-5)

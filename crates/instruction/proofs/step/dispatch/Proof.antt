@@ -9,29 +9,11 @@ use Rattle.instruction.proofs.ControlArms.{step-branch, step-push-go, s
 use Rattle.instruction.proofs.step.dispatch.Statement.{statement}
 use Rattle.instruction.proofs.step.dispatch.Tie as tie
 
-is-among-requires : tie.Need-is-among-requires
-is-among-requires c κs = search needs
-
-branch-requires : tie.Need-branch-requires
-branch-requires c κs = search needs
-
 returns : tie.Need-returns
 returns c =
     let then = c .before .before .before in
     let start = then .before .before .before .before in
     step-branch _ _ (start .pre .0) (start .pre .1) _ _ _ _ _ (made _ _ _ _ _ _) (branch-arm _ (sym (then .before .is-among .ensures) ∙ then .if1 .taken)) (c .branch .ensures _ _ _ _)
-
-sum-requires : tie.Need-sum-requires
-sum-requires c κs = search needs
-
-sum-requires-2 : tie.Need-sum-requires-2
-sum-requires-2 c κs = search needs
-
-near-requires : tie.Need-near-requires
-near-requires c κs = search needs
-
-near-requires-2 : tie.Need-near-requires-2
-near-requires-2 c κs = search needs
 
 by-key-requires : tie.Need-by-key-requires
 by-key-requires c κs =
@@ -40,24 +22,6 @@ by-key-requires c κs =
     let start = else .before .before .before .before in
     let missed = rest .match .rest in
     (start .pre .0, start .pre .1, sym (else .before .is-among .ensures) ∙ else .if1 .left, (missed .0 .0 .0 .1, missed .0 .0 .1, missed .0 .1, missed .1))
-
-same-length : tie.Need-same-length
-same-length c = search needs
-
-same-length-2 : tie.Need-same-length-2
-same-length-2 c = search needs
-
-returns-2 : tie.Need-returns-2
-returns-2 c = search needs
-
-push-to-judged-requires : tie.Need-push-to-judged-requires
-push-to-judged-requires c κs = search needs
-
-same-length-3 : tie.Need-same-length-3
-same-length-3 c = search needs
-
-same-length-4 : tie.Need-same-length-4
-same-length-4 c = search needs
 
 returns-3 : tie.Need-returns-3
 unfolding armOf
@@ -83,18 +47,9 @@ pub dispatch-spec : {M : Type 1} → statement M
 dispatch-spec =
     tie.close
     (tie.spec
-    is-among-requires
-    branch-requires
+    (λ c κs. search needs) (λ c κs. search needs)
     returns
-    sum-requires
-    sum-requires-2
-    near-requires
-    near-requires-2
+    (λ c κs. search needs) (λ c κs. search needs) (λ c κs. search needs) (λ c κs. search needs)
     by-key-requires
-    same-length
-    same-length-2
-    returns-2
-    push-to-judged-requires
-    same-length-3
-    same-length-4
+    (λ c. search needs) (λ c. search needs) (λ c. search needs) (λ c κs. search needs) (λ c. search needs) (λ c. search needs)
     returns-3)

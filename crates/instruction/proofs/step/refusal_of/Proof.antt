@@ -7,11 +7,5 @@ use Rattle.instruction.proofs.step.refusal_of.Tie as tie
 returns : tie.Need-returns
 returns c = λ general pc halt. sym (c .before .before .before .pre (c .if1 .taken) general pc halt)
 
-refusal-requires : tie.Need-refusal-requires
-refusal-requires c κs = search needs
-
-returns-2 : tie.Need-returns-2
-returns-2 c = search needs
-
 pub refusal-of-spec : {M : Type 1} → statement M
-refusal-of-spec = tie.close (tie.spec returns refusal-requires returns-2)
+refusal-of-spec = tie.close (tie.spec returns (λ c κs. search needs) (λ c. search needs))

@@ -10,14 +10,8 @@ use Rattle.instruction.proofs.step.step.Tie as tie
 stepped-requires : tie.Need-stepped-requires
 stepped-requires c κs = λ l. absurd (omega arith)
 
-same-length : tie.Need-same-length
-same-length c = search needs
-
-same-length-2 : tie.Need-same-length-2
-same-length-2 c = search needs
-
 returns : tie.Need-returns
 returns c = let code : c .before .before .before .before .before .before .before .before .before .before .before .before .before .args .op % judged ≡ c .before .before .before .before .before .before .before .before .before .before .before .before .before .args .op = omega arith in rw code at (c .before .before .before .before .stepped .ensures)
 
 pub step-spec : {M : Type 1} → statement M
-step-spec = tie.close (tie.spec stepped-requires same-length same-length-2 returns)
+step-spec = tie.close (tie.spec stepped-requires (λ c. search needs) (λ c. search needs) returns)

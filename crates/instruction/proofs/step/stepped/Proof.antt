@@ -12,12 +12,6 @@ use Rattle.instruction.proofs.step.stepped.Tie as tie
 refusal-of-requires : tie.Need-refusal-of-requires
 refusal-of-requires c κs = λ l general pc halt. let a = c .before .before .before .before .before .args in refusal-alike (lentAt (a .base-a) (a .base-b) (a .a .now) (a .b .now)) (a .special .now) (a .marks) (a .mask) (a .general .now) general (a .pc .now) pc (a .halt .now) halt (c .before .before .before .before .before .pre l)
 
-same-length : tie.Need-same-length
-same-length c = search needs
-
-same-length-2 : tie.Need-same-length-2
-same-length-2 c = search needs
-
 returns : tie.Need-returns
 returns c =
     let a = c .before .before .before .before .before .before .before .args in
@@ -25,24 +19,12 @@ returns c =
     let s = made (a .general .now) (a .special .now) (a .pc .now) (a .halt .now) (a .marks) (a .mask) in
     refused-step w s _ (a .x) (a .y) (a .z) _ (c .before .refusal-of .ensures (a .general .now) (a .pc .now) (a .halt .now)) (c .if1 .taken)
 
-cast-code : tie.Need-cast-code
-cast-code c = search needs
-
 dispatch-requires : tie.Need-dispatch-requires
 dispatch-requires c κs =
     let a = c .before .before .before .before .before .before .before .before .before .before .before .before .before .args in
     let w = lentAt (a .base-a) (a .base-b) (a .a .now) (a .b .now) in
     let s = made (a .general .now) (a .special .now) (a .pc .now) (a .halt .now) (a .marks) (a .mask) in
     judged-by w s (sym (c .before .before .before .before .before .before .before .refusal-of .ensures (a .general .now) (a .pc .now) (a .halt .now)) ∙ c .before .before .before .before .before .before .if1 .left)
-
-number-of-requires : tie.Need-number-of-requires
-number-of-requires c κs = search needs
-
-same-length-3 : tie.Need-same-length-3
-same-length-3 c = search needs
-
-same-length-4 : tie.Need-same-length-4
-same-length-4 c = search needs
 
 returns-2 : tie.Need-returns-2
 returns-2 c = numbered (lentAt _ _ _ _) (made _ _ _ _ _ _) _ _ _ _ _ (made _ _ _ _ _ _) _ _ (c .before .before .before .before .before .dispatch .ensures) (c .number-of .ensures)
@@ -52,12 +34,9 @@ stepped-spec =
     tie.close
     (tie.spec
     refusal-of-requires
-    same-length
-    same-length-2
+    (λ c. search needs) (λ c. search needs)
     returns
-    cast-code
+    (λ c. search needs)
     dispatch-requires
-    number-of-requires
-    same-length-3
-    same-length-4
+    (λ c κs. search needs) (λ c. search needs) (λ c. search needs)
     returns-2)

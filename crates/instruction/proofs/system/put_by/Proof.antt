@@ -6,12 +6,6 @@ use Rattle.exceptions.specs.Told.{Told}
 use Rattle.instruction.proofs.system.put_by.Statement.{statement}
 use Rattle.instruction.proofs.system.put_by.Tie as tie
 
-last-requires : tie.Need-last-requires
-last-requires c κs = search needs
-
-put-value-requires : tie.Need-put-value-requires
-put-value-requires c κs = search needs
-
 returns : tie.Need-returns
 returns c =
     λ marks.
@@ -20,4 +14,4 @@ returns c =
     rw (reading .last .ensures (a .special .now) (a .pc .now) (a .halt .now) marks (a .mask)) at (c .put-value .ensures marks)
 
 pub put-by-spec : {M : Type 1} → statement M
-put-by-spec = tie.close (tie.spec last-requires put-value-requires returns)
+put-by-spec = tie.close (tie.spec (λ c κs. search needs) (λ c κs. search needs) returns)

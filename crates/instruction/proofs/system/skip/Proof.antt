@@ -7,9 +7,6 @@ use Rattle.exceptions.proofs.PcAndHalt.{next-is}
 use Rattle.instruction.proofs.system.skip.Statement.{statement}
 use Rattle.instruction.proofs.system.skip.Tie as tie
 
-following-requires : tie.Need-following-requires
-following-requires c κs = search needs
-
 returns : tie.Need-returns
 unfolding replyOf
 returns c =
@@ -18,4 +15,4 @@ returns c =
     record { reply-is = refl; state-is = next-is s s general special refl _ (c .following .ensures) }
 
 pub skip-spec : {M : Type 1} → statement M
-skip-spec = tie.close (tie.spec following-requires returns)
+skip-spec = tie.close (tie.spec (λ c κs. search needs) returns)

@@ -3,11 +3,5 @@ use borrow.Author.Needs.{needs}
 use Rattle.instruction.proofs.value.number_of.Statement.{statement}
 use Rattle.instruction.proofs.value.number_of.Tie as tie
 
-number-of-requires : tie.Need-number-of-requires
-number-of-requires c κs = search needs
-
-returns : tie.Need-returns
-returns c = search needs
-
 pub number-of-spec : {M : Type 1} → statement M
-number-of-spec = tie.close (tie.spec number-of-requires returns)
+number-of-spec = tie.close (tie.spec (λ c κs. search needs) (λ c. search needs))

@@ -12,18 +12,6 @@ returns c =
     let s = c .before .before in
     (put-none (s .args .at) (s .args .n) (take (s .args .len) (s .args .held .now)) (c .if1 .taken), omega (arith, c .if1 .taken), refl)
 
-move-up-requires : tie.Need-move-up-requires
-move-up-requires c κs = search needs
-
-put-zeros-requires : tie.Need-put-zeros-requires
-put-zeros-requires c κs = search needs
-
-add-result : tie.Need-add-result
-add-result c = search needs
-
-same-length : tie.Need-same-length
-same-length c = search needs
-
 returns-2 : tie.Need-returns-2
 returns-2 c =
     let putting = c .before .before in
@@ -36,4 +24,4 @@ returns-2 c =
 
 pub insert-zeros-spec : {M : Type 1} → statement M
 insert-zeros-spec =
-    tie.close (tie.spec returns move-up-requires put-zeros-requires add-result same-length returns-2)
+    tie.close (tie.spec returns (λ c κs. search needs) (λ c κs. search needs) (λ c. search needs) (λ c. search needs) returns-2)

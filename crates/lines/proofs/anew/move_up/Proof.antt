@@ -21,21 +21,6 @@ loop-holds c =
     let s = c in
     (search needs, search needs, refl, moved-none (s .args .held .now) (s .args .len) (s .args .n) (omega (arith, s .pre .1)))
 
-sub-i : tie.Need-sub-i Inv-loop μ-loop
-sub-i c = search needs
-
-slice-read-held : tie.Need-slice-read-held Inv-loop μ-loop
-slice-read-held c = search needs
-
-add-held : tie.Need-add-held Inv-loop μ-loop
-add-held c = search needs
-
-slice-write-held : tie.Need-slice-write-held Inv-loop μ-loop
-slice-write-held c = search needs
-
-loop-less : tie.Need-loop-less Inv-loop μ-loop
-loop-less c = search needs
-
 loop-again : tie.Need-loop-again Inv-loop μ-loop
 loop-again c =
     let at-loop = c .before .before in
@@ -46,9 +31,6 @@ loop-again c =
       simp length-set (i .2),
       moved-next (a .held .now) (at-loop .loop .held) (a .len) (a .n) (at-loop .loop .i) (omega arith) (i .1) (omega (arith, at-loop .before .pre .1)) (i .3),
     )
-
-same-length : tie.Need-same-length Inv-loop μ-loop
-same-length c = search needs
 
 returns : tie.Need-returns Inv-loop μ-loop
 returns c =
@@ -64,11 +46,7 @@ move-up-spec =
     Inv-loop
     μ-loop
     loop-holds
-    sub-i
-    slice-read-held
-    add-held
-    slice-write-held
-    loop-less
+    (λ c. search needs) (λ c. search needs) (λ c. search needs) (λ c. search needs) (λ c. search needs)
     loop-again
-    same-length
+    (λ c. search needs)
     returns)

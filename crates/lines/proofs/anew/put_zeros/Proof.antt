@@ -22,27 +22,12 @@ loop-holds c =
     let s = c in
     (search needs, refl, sym (written-nil (s .args .held .now) (s .args .at)))
 
-add-held : tie.Need-add-held Inv-loop μ-loop
-add-held c = search needs
-
-slice-write-held : tie.Need-slice-write-held Inv-loop μ-loop
-slice-write-held c = search needs
-
-add-i : tie.Need-add-i Inv-loop μ-loop
-add-i c = search needs
-
-loop-less : tie.Need-loop-less Inv-loop μ-loop
-loop-less c = search needs
-
 loop-again : tie.Need-loop-again Inv-loop μ-loop
 loop-again c =
     let at-loop = c .before in
     let a = at-loop .before .args in
     let i = at-loop .loop .inv in
     (search needs, simp length-set (i .1), zeros-more (a .held .now) (at-loop .loop .held) (a .at) (at-loop .loop .i) (i .2))
-
-same-length : tie.Need-same-length Inv-loop μ-loop
-same-length c = search needs
 
 returns : tie.Need-returns Inv-loop μ-loop
 returns c =
@@ -58,10 +43,7 @@ put-zeros-spec =
     Inv-loop
     μ-loop
     loop-holds
-    add-held
-    slice-write-held
-    add-i
-    loop-less
+    (λ c. search needs) (λ c. search needs) (λ c. search needs) (λ c. search needs)
     loop-again
-    same-length
+    (λ c. search needs)
     returns)

@@ -18,9 +18,6 @@ facts : (c : tie.Then1) → let a = c .before .before .before .args in
     (a .w ≤ lengthDigits) × (a .d ≤ stateDigits) × (stateEnd (a .w) (a .d) ≤ a .shown) × (a .shown + gained (a .w) (a .d) ≤ length (a .held .now))
 facts c = let a = c .before .before .before .args in widens-facts (length (a .held .now)) (a .shown) (a .w) (a .d) (passed c)
 
-widens-requires : tie.Need-widens-requires
-widens-requires c κs = search needs
-
 sub-lengths : tie.Need-sub-lengths
 sub-lengths c = omega (arith, facts c)
 
@@ -57,9 +54,6 @@ insert-zeros-requires-3 c κs =
       omega (arith, f .3, third .insert-zeros .ensures .1, third .insert-zeros .kept .0, second .insert-zeros2 .ensures .1, second .insert-zeros2 .kept .0),
     )
 
-same-length : tie.Need-same-length
-same-length c = search needs
-
 returns : tie.Need-returns
 returns c =
     let first = c .before .before in
@@ -81,7 +75,7 @@ pub renew-spec : {M : Type 1} → statement M
 renew-spec =
     tie.close
     (tie.spec
-    widens-requires
+    (λ c κs. search needs)
     sub-lengths
     mul-insert-zeros
     add-insert-zeros
@@ -91,6 +85,6 @@ renew-spec =
     add-insert-zeros-3
     insert-zeros-requires-2
     insert-zeros-requires-3
-    same-length
+    (λ c. search needs)
     returns
     returns-2)

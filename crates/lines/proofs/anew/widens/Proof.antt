@@ -18,15 +18,6 @@ returns-2 c =
     let a = s .args in
     sym (many-state (a .room) (a .n) (a .w) (a .d) (omega arith) (c .if2 .taken))
 
-mul-if3 : tie.Need-mul-if3
-mul-if3 c = search needs
-
-add-if3 : tie.Need-add-if3
-add-if3 c = search needs
-
-add-if3-2 : tie.Need-add-if3-2
-add-if3-2 c = search needs
-
 returns-3 : tie.Need-returns-3
 returns-3 c =
     let s = c .before .before .before in
@@ -38,12 +29,6 @@ returns-4 c =
     let s = c .before .before .before .before in
     let a = s .args in
     sym (little-room (a .room) (a .n) (a .w) (a .d) (omega arith) (omega arith) (omega arith) (omega arith))
-
-mul-if5 : tie.Need-mul-if5
-mul-if5 c = search needs
-
-add-if5 : tie.Need-add-if5
-add-if5 c = search needs
 
 returns-5 : tie.Need-returns-5
 returns-5 c =
@@ -63,12 +48,9 @@ widens-spec =
     (tie.spec
     returns
     returns-2
-    mul-if3
-    add-if3
-    add-if3-2
+    (λ c. search needs) (λ c. search needs) (λ c. search needs)
     returns-3
     returns-4
-    mul-if5
-    add-if5
+    (λ c. search needs) (λ c. search needs)
     returns-5
     returns-6)

@@ -5,9 +5,6 @@ use Rattle.lines.specs.Line.{mark, fitsByte}
 use Rattle.lines.proofs.line.fits_byte.Statement.{statement}
 use Rattle.lines.proofs.line.fits_byte.Tie as tie
 
-digit-requires : tie.Need-digit-requires
-digit-requires c κs = search needs
-
 returns : tie.Need-returns
 unfolding fitsByte
 returns c = rw (c .before .if1 .taken, c .digit .ensures)
@@ -17,4 +14,4 @@ unfolding fitsByte
 returns-2 c = rw (ne-eqb (c .before .args .c) mark (c .if1 .left))
 
 pub fits-byte-spec : {M : Type 1} → statement M
-fits-byte-spec = tie.close (tie.spec digit-requires returns returns-2)
+fits-byte-spec = tie.close (tie.spec (λ c κs. search needs) returns returns-2)

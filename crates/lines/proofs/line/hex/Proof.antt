@@ -24,12 +24,6 @@ mul-v c =
     let a = c .before .before .before .args in
     omega (arith, c .before .loop .inv .1, hex-small (a .line .now) (a .at) (c .before .loop .i) (omega arith))
 
-add-digit-at : tie.Need-add-digit-at Inv-loop μ-loop
-add-digit-at c = search needs
-
-digit-at-requires : tie.Need-digit-at-requires Inv-loop μ-loop
-digit-at-requires c κs = search needs
-
 add-v : tie.Need-add-v Inv-loop μ-loop
 add-v c =
     let at-loop = c .before .before in
@@ -62,8 +56,7 @@ hex-spec =
     μ-loop
     loop-holds
     mul-v
-    add-digit-at
-    digit-at-requires
+    (λ c. search needs) (λ c κs. search needs)
     add-v
     add-i
     loop-less

@@ -9,20 +9,11 @@ use Rattle.lines.proofs.Forms.{form-met, first-large, second-large, nei
 use Rattle.lines.proofs.line.is_form.Statement.{statement}
 use Rattle.lines.proofs.line.is_form.Tie as tie
 
-hex-requires : tie.Need-hex-requires
-hex-requires c κs = search needs
-
 returns : tie.Need-returns
 unfolding octasA
 returns c =
     let a = c .before .before .before .args in
     first-large (a .w) (a .d) (a .k) (a .line .now) (omega (arith, c .before .hex .ensures))
-
-add-hex : tie.Need-add-hex
-add-hex c = search needs
-
-hex-requires-2 : tie.Need-hex-requires-2
-hex-requires-2 c κs = search needs
 
 returns-2 : tie.Need-returns-2
 unfolding octasA octasB
@@ -30,57 +21,6 @@ returns-2 c =
     let first = c .before .before .before in
     let a = first .before .before .args in
     second-large (a .w) (a .d) (a .k) (a .line .now) (omega (arith, first .hex .ensures, c .before .before .if1 .left)) (omega (arith, c .before .hex2 .ensures))
-
-add-windows : tie.Need-add-windows
-add-windows c = search needs
-
-mul-windows : tie.Need-mul-windows
-mul-windows c = search needs
-
-slice-aggregate-past : tie.Need-slice-aggregate-past
-slice-aggregate-past c = search needs
-
-past-requires : tie.Need-past-requires
-past-requires c κs = search needs
-
-past-digits-requires : tie.Need-past-digits-requires
-past-digits-requires c κs = search needs
-
-slice-aggregate-past-2 : tie.Need-slice-aggregate-past-2
-slice-aggregate-past-2 c = search needs
-
-past-requires-2 : tie.Need-past-requires-2
-past-requires-2 c κs = search needs
-
-past-digits-requires-2 : tie.Need-past-digits-requires-2
-past-digits-requires-2 c κs = search needs
-
-slice-aggregate-past-3 : tie.Need-slice-aggregate-past-3
-slice-aggregate-past-3 c = search needs
-
-past-requires-3 : tie.Need-past-requires-3
-past-requires-3 c κs = search needs
-
-past-digits-requires-3 : tie.Need-past-digits-requires-3
-past-digits-requires-3 c κs = search needs
-
-slice-aggregate-past-4 : tie.Need-slice-aggregate-past-4
-slice-aggregate-past-4 c = search needs
-
-past-requires-4 : tie.Need-past-requires-4
-past-requires-4 c κs = search needs
-
-past-digits-requires-4 : tie.Need-past-digits-requires-4
-past-digits-requires-4 c κs = search needs
-
-slice-aggregate-past-5 : tie.Need-slice-aggregate-past-5
-slice-aggregate-past-5 c = search needs
-
-past-requires-5 : tie.Need-past-requires-5
-past-requires-5 c κs = search needs
-
-ended-requires : tie.Need-ended-requires
-ended-requires c κs = search needs
 
 returns-3 : tie.Need-returns-3
 unfolding octasA octasB head bases middle close codes
@@ -110,26 +50,12 @@ pub is-form-spec : {M : Type 1} → statement M
 is-form-spec =
     tie.close
     (tie.spec
-    hex-requires
+    (λ c κs. search needs)
     returns
-    add-hex
-    hex-requires-2
+    (λ c. search needs) (λ c κs. search needs)
     returns-2
-    add-windows
-    mul-windows
-    slice-aggregate-past
-    past-requires
-    past-digits-requires
-    slice-aggregate-past-2
-    past-requires-2
-    past-digits-requires-2
-    slice-aggregate-past-3
-    past-requires-3
-    past-digits-requires-3
-    slice-aggregate-past-4
-    past-requires-4
-    past-digits-requires-4
-    slice-aggregate-past-5
-    past-requires-5
-    ended-requires
+    (λ c. search needs) (λ c. search needs) (λ c. search needs) (λ c κs. search needs) (λ c κs. search needs) (λ c. search needs)
+    (λ c κs. search needs) (λ c κs. search needs) (λ c. search needs) (λ c κs. search needs) (λ c κs. search needs)
+    (λ c. search needs) (λ c κs. search needs) (λ c κs. search needs) (λ c. search needs) (λ c κs. search needs)
+    (λ c κs. search needs)
     returns-3)

@@ -6,15 +6,9 @@ use Rattle.lines.proofs.Formed.{as-new, as-old, as-short, as-short-old,
 use Rattle.lines.proofs.line.widths_of.Statement.{statement}
 use Rattle.lines.proofs.line.widths_of.Tie as tie
 
-is-form-requires : tie.Need-is-form-requires
-is-form-requires c κs = search needs
-
 returns : tie.Need-returns
 unfolding isNew
 returns c = sym (as-new _ (sym (c .before .is-form .ensures) ∙ c .if1 .taken))
-
-is-form-requires-2 : tie.Need-is-form-requires-2
-is-form-requires-2 c κs = search needs
 
 returns-2 : tie.Need-returns-2
 unfolding isNew isOld
@@ -22,18 +16,12 @@ returns-2 c =
     let first = c .before .before in
     sym (as-old _ (sym (first .before .is-form .ensures) ∙ first .if1 .left) (sym (c .before .is-form2 .ensures) ∙ c .if2 .taken))
 
-is-form-requires-3 : tie.Need-is-form-requires-3
-is-form-requires-3 c κs = search needs
-
 returns-3 : tie.Need-returns-3
 unfolding isNew isOld isShort
 returns-3 c =
     let second = c .before .before in
     let first = second .before .before in
     sym (as-short _ (sym (first .before .is-form .ensures) ∙ first .if1 .left) (sym (second .before .is-form2 .ensures) ∙ second .if2 .left) (sym (c .before .is-form3 .ensures) ∙ c .if3 .taken))
-
-is-form-requires-4 : tie.Need-is-form-requires-4
-is-form-requires-4 c κs = search needs
 
 returns-4 : tie.Need-returns-4
 unfolding isNew isOld isShort isShortOld
@@ -56,4 +44,4 @@ returns-5 c =
 pub widths-of-spec : {M : Type 1} → statement M
 widths-of-spec =
     tie.close
-    (tie.spec is-form-requires returns is-form-requires-2 returns-2 is-form-requires-3 returns-3 is-form-requires-4 returns-4 returns-5)
+    (tie.spec (λ c κs. search needs) returns (λ c κs. search needs) returns-2 (λ c κs. search needs) returns-3 (λ c κs. search needs) returns-4 returns-5)

@@ -18,19 +18,10 @@ ending c = omega (arith, c .line-end .ensures)
 within : (c : tie.After-line-end) → c .line-end .result ≤ length (c .before .before .before .args .chunk .now)
 within c = omega (arith, ending c, length-line (c .before .before .before .args .chunk .now))
 
-line-end-requires : tie.Need-line-end-requires
-line-end-requires c κs = search needs
-
 slice-aggregate-keep : tie.Need-slice-aggregate-keep
 slice-aggregate-keep c =
     let a = c .before .before .before .before .args in
     sym (length-take-le (c .before .line-end .result) (a .chunk .now) (within (c .before)))
-
-keep-requires : tie.Need-keep-requires
-keep-requires c κs = search needs
-
-same-length : tie.Need-same-length
-same-length c = search needs
 
 returns : tie.Need-returns
 returns c =
@@ -38,9 +29,6 @@ returns c =
     let finding = keeping .before .before .before in
     let a = finding .before .before .before .args in
     turn-full (a .held .now) (a .count) (a .chunk .now) _ _ _ (ending finding) (keeping .keep .ensures .0) (keeping .keep .ensures .1) (c .if1 .taken)
-
-same-length-2 : tie.Need-same-length-2
-same-length-2 c = search needs
 
 returns-2 : tie.Need-returns-2
 returns-2 c =
@@ -50,19 +38,10 @@ returns-2 c =
     let a = finding .before .before .before .args in
     turn-more (a .held .now) (a .count) (a .chunk .now) _ _ _ (ending finding) (keeping .keep .ensures .0) (keeping .keep .ensures .1) (roomy .if1 .left) (c .if2 .taken)
 
-slice-reshare-prefix-widths-of : tie.Need-slice-reshare-prefix-widths-of
-slice-reshare-prefix-widths-of c = search needs
-
 slice-aggregate-widths-of : tie.Need-slice-aggregate-widths-of
 slice-aggregate-widths-of c =
     let keeping = c .before .before .before .before .before in
     sym (length-take-le (keeping .keep .result) (keeping .keep .last .1 .0) (omega arith))
-
-widths-of-requires : tie.Need-widths-of-requires
-widths-of-requires c κs = search needs
-
-same-length-3 : tie.Need-same-length-3
-same-length-3 c = search needs
 
 returns-3 : tie.Need-returns-3
 returns-3 c =
@@ -75,19 +54,10 @@ returns-3 c =
     turn-bad (a .held .now) (a .count) (a .chunk .now) _ _ _ (ending finding) (keeping .keep .ensures .0) (keeping .keep .ensures .1) (roomy .if1 .left) (ended .if2 .left)
     (point-none _ _ (judging .widths-of .ensures) (omega (arith, c .if3 .taken)))
 
-slice-write-held : tie.Need-slice-write-held
-slice-write-held c = search needs
-
 add-t11 : tie.Need-add-t11
 add-t11 c =
     let ended = c .before .before .before .before in
     omega (arith, within (ended .before .before .before .before .before .before .before), ended .if2 .left)
-
-add-t16 : tie.Need-add-t16
-add-t16 c = search needs
-
-same-length-4 : tie.Need-same-length-4
-same-length-4 c = search needs
 
 returns-4 : tie.Need-returns-4
 returns-4 c =
@@ -104,20 +74,17 @@ pub advance-spec : {M : Type 1} → statement M
 advance-spec =
     tie.close
     (tie.spec
-    line-end-requires
+    (λ c κs. search needs)
     slice-aggregate-keep
-    keep-requires
-    same-length
+    (λ c κs. search needs) (λ c. search needs)
     returns
-    same-length-2
+    (λ c. search needs)
     returns-2
-    slice-reshare-prefix-widths-of
+    (λ c. search needs)
     slice-aggregate-widths-of
-    widths-of-requires
-    same-length-3
+    (λ c κs. search needs) (λ c. search needs)
     returns-3
-    slice-write-held
+    (λ c. search needs)
     add-t11
-    add-t16
-    same-length-4
+    (λ c. search needs) (λ c. search needs)
     returns-4)

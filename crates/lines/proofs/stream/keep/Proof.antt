@@ -21,9 +21,6 @@ loop-holds c = (omega arith, refl, refl, kept-none _ _ _)
 shared-slice-read-hold : tie.Need-shared-slice-read-hold Inv-loop μ-loop
 shared-slice-read-hold c = omega arith
 
-hold-requires : tie.Need-hold-requires Inv-loop μ-loop
-hold-requires c κs = search needs
-
 add-i : tie.Need-add-i Inv-loop μ-loop
 add-i c = omega arith
 
@@ -59,7 +56,7 @@ keep-spec =
     μ-loop
     loop-holds
     shared-slice-read-hold
-    hold-requires
+    (λ c κs. search needs)
     add-i
     loop-less
     loop-again

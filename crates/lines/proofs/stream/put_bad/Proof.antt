@@ -12,12 +12,6 @@ use Rattle.lines.proofs.stream.put_bad.Tie as tie
 returns : tie.Need-returns
 returns c = (bad-none _ _ (c .if1 .taken), search needs, refl)
 
-put-bad-requires : tie.Need-put-bad-requires
-put-bad-requires c κs = search needs
-
-same-length : tie.Need-same-length
-same-length c = search needs
-
 returns-2 : tie.Need-returns-2
 returns-2 c =
     let putting = c .before .before in
@@ -28,4 +22,4 @@ returns-2 c =
     (w .0 ∙ bad-here _ _ (roomy .if1 .left), w .1, wrote-behind _ _ _ _ q)
 
 pub put-bad-spec : {M : Type 1} → statement M
-put-bad-spec = tie.close (tie.spec returns put-bad-requires same-length returns-2)
+put-bad-spec = tie.close (tie.spec returns (λ c κs. search needs) (λ c. search needs) returns-2)

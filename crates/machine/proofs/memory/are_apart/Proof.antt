@@ -7,12 +7,6 @@ use borrow.Author.Needs.{needs}
 use Rattle.machine.proofs.memory.are_apart.Statement.{statement}
 use Rattle.machine.proofs.memory.are_apart.Tie as tie
 
-wrapping-sub-requires : tie.Need-wrapping-sub-requires
-wrapping-sub-requires c κs = search needs
-
-wrapping-sub-requires-2 : tie.Need-wrapping-sub-requires-2
-wrapping-sub-requires-2 c κs = search needs
-
 add-if1 : tie.Need-add-if1
 add-if1 c = let start = c .before .before in omega (arith, start .pre .2, start .pre .3)
 
@@ -31,4 +25,4 @@ returns-2 c = λ t. absurd (true≢false (sym t))
 pub are-apart-spec : {M : Type 1} → statement M
 are-apart-spec =
     tie.close
-    (tie.spec wrapping-sub-requires wrapping-sub-requires-2 add-if1 sub-if1 returns returns-2)
+    (tie.spec (λ c κs. search needs) (λ c κs. search needs) add-if1 sub-if1 returns returns-2)

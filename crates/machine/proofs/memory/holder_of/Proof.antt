@@ -6,15 +6,9 @@ use borrow.Author.Needs.{needs}
 use Rattle.machine.proofs.memory.holder_of.Statement.{statement}
 use Rattle.machine.proofs.memory.holder_of.Tie as tie
 
-holds-requires : tie.Need-holds-requires
-holds-requires c κs = search needs
-
 returns : tie.Need-returns
 unfolding shapesOf
 returns c = sym (held-b _ _ (sym (c .before .holds .ensures) ∙ c .if1 .taken))
-
-holds-requires-2 : tie.Need-holds-requires-2
-holds-requires-2 c κs = search needs
 
 returns-2 : tie.Need-returns-2
 unfolding shapesOf
@@ -27,4 +21,4 @@ returns-3 c =
     sym (held-none _ _ (sym (c .before .before .before .holds .ensures) ∙ c .before .before .if1 .left) (sym (c .before .holds2 .ensures) ∙ c .if2 .left))
 
 pub holder-of-spec : {M : Type 1} → statement M
-holder-of-spec = tie.close (tie.spec holds-requires returns holds-requires-2 returns-2 returns-3)
+holder-of-spec = tie.close (tie.spec (λ c κs. search needs) returns (λ c κs. search needs) returns-2 returns-3)

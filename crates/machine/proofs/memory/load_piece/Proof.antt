@@ -7,12 +7,6 @@ use borrow.Author.Needs.{needs}
 use Rattle.machine.proofs.memory.load_piece.Statement.{statement}
 use Rattle.machine.proofs.memory.load_piece.Tie as tie
 
-next-piece-requires : tie.Need-next-piece-requires
-next-piece-requires c κs = search needs
-
-end-of-requires : tie.Need-end-of-requires
-end-of-requires c κs = search needs
-
 load-range-requires : tie.Need-load-range-requires
 load-range-requires c κs =
     let taken = c .before in
@@ -53,9 +47,6 @@ returns-2 c =
     let a = piece .before .before .before .args in
     (c .load-range2 .ensures ∙ load-a (lent (a .at) (a .a .now) (a .b .now)) (a .addr) (a .from) _ _ _ (a .general .now) (piece .next-piece .ensures) (ends .end-of .ensures .0) (c .before .before .if2 .taken), ends .end-of .ensures .1, ends .end-of .ensures .2)
 
-clear-range-requires : tie.Need-clear-range-requires
-clear-range-requires c κs = search needs
-
 returns-3 : tie.Need-returns-3
 returns-3 c =
     let left = c .before .before .before .before in
@@ -68,11 +59,10 @@ pub load-piece-spec : {M : Type 1} → statement M
 load-piece-spec =
     tie.close
     (tie.spec
-    next-piece-requires
-    end-of-requires
+    (λ c κs. search needs) (λ c κs. search needs)
     load-range-requires
     returns
     load-range-requires-2
     returns-2
-    clear-range-requires
+    (λ c κs. search needs)
     returns-3)

@@ -19,12 +19,6 @@ Inv-loop general₀ a b at addr from to end i₀ general i =
 abbrev μ-loop : tie.MeasureT-loop
 μ-loop general₀ a b at addr from to end i₀ general i = end - i
 
-of-256-requires : tie.Need-of-256-requires Inv-loop μ-loop
-of-256-requires c κs = search needs
-
-least-requires : tie.Need-least-requires Inv-loop μ-loop
-least-requires c κs = search needs
-
 loop-holds : tie.Need-loop-holds Inv-loop μ-loop
 loop-holds c = (sym (over-none _ _ _ _ (omega arith)), omega arith, omega arith)
 
@@ -33,9 +27,6 @@ sub-wrapping-add c = omega arith
 
 mul-wrapping-add : tie.Need-mul-wrapping-add Inv-loop μ-loop
 mul-wrapping-add c = omega arith
-
-wrapping-add-requires : tie.Need-wrapping-add-requires Inv-loop μ-loop
-wrapping-add-requires c κs = search needs
 
 load-piece-requires : tie.Need-load-piece-requires Inv-loop μ-loop
 load-piece-requires c κs = (omega arith, omega (arith, c .before .before .before .before .least .ensures))
@@ -73,12 +64,11 @@ load-pieces-spec =
     (tie.spec
     Inv-loop
     μ-loop
-    of-256-requires
-    least-requires
+    (λ c κs. search needs) (λ c κs. search needs)
     loop-holds
     sub-wrapping-add
     mul-wrapping-add
-    wrapping-add-requires
+    (λ c κs. search needs)
     load-piece-requires
     loop-less
     loop-again

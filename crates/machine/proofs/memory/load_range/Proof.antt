@@ -8,9 +8,6 @@ use borrow.Author.Needs.{needs}
 use Rattle.machine.proofs.memory.load_range.Statement.{statement}
 use Rattle.machine.proofs.memory.load_range.Tie as tie
 
-has-room-requires : tie.Need-has-room-requires
-has-room-requires c κs = search needs
-
 load-range-requires : tie.Need-load-range-requires
 load-range-requires c κs = held-range _ _ _ _ (sym (c .before .before .has-room .ensures) ∙ c .before .if1 .taken)
 
@@ -22,13 +19,7 @@ returns c =
     c .load-range .ensures
     ∙ load-b (lent (a .at) (a .a .now) (a .b .now)) (a .addr) (a .from) (a .to) 1 _ (a .general .now) (whole-b (lent (a .at) (a .a .now) (a .b .now)) (a .addr) (a .from) (a .to) (omega arith) (held .0) (held .2)) (held .2) refl
 
-load-pieces-requires : tie.Need-load-pieces-requires
-load-pieces-requires c κs = search needs
-
-returns-2 : tie.Need-returns-2
-returns-2 c = search needs
-
 pub load-range-spec : {M : Type 1} → statement M
 load-range-spec =
     tie.close
-    (tie.spec has-room-requires load-range-requires returns load-pieces-requires returns-2)
+    (tie.spec (λ c κs. search needs) load-range-requires returns (λ c κs. search needs) (λ c. search needs))

@@ -8,32 +8,14 @@ use borrow.Author.Needs.{needs}
 use Rattle.machine.proofs.memory.next_piece.Statement.{statement}
 use Rattle.machine.proofs.memory.next_piece.Tie as tie
 
-room-requires : tie.Need-room-requires
-room-requires c κs = search needs
-
 returns : tie.Need-returns
 unfolding shapesOf shapeOf
 returns c = piece-b _ _ _ (omega arith) (c .if1 .taken) (c .before .room .ensures .0) (c .before .room .ensures .1)
-
-room-requires-2 : tie.Need-room-requires-2
-room-requires-2 c κs = search needs
 
 returns-2 : tie.Need-returns-2
 unfolding shapesOf
 returns-2 c =
     piece-none _ _ (sym (c .before .before .before .room .ensures .0) ∙ c .before .before .if1 .left) (sym (c .before .room2 .ensures .0) ∙ c .if2 .taken)
-
-distance-requires : tie.Need-distance-requires
-distance-requires c κs = search needs
-
-sub-before-b : tie.Need-sub-before-b
-sub-before-b c = search needs
-
-add-before-b : tie.Need-add-before-b
-add-before-b c = search needs
-
-least-requires : tie.Need-least-requires
-least-requires c κs = search needs
 
 returns-3 : tie.Need-returns-3
 unfolding shapesOf shapeOf
@@ -47,12 +29,9 @@ pub next-piece-spec : {M : Type 1} → statement M
 next-piece-spec =
     tie.close
     (tie.spec
-    room-requires
+    (λ c κs. search needs)
     returns
-    room-requires-2
+    (λ c κs. search needs)
     returns-2
-    distance-requires
-    sub-before-b
-    add-before-b
-    least-requires
+    (λ c κs. search needs) (λ c. search needs) (λ c. search needs) (λ c κs. search needs)
     returns-3)

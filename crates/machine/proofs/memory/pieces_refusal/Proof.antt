@@ -22,9 +22,6 @@ loop-holds : tie.Need-loop-holds Inv-loop μ-loop
 unfolding worst
 loop-holds c = (omega arith, refl, omega arith)
 
-next-piece-requires : tie.Need-next-piece-requires Inv-loop μ-loop
-next-piece-requires c κs = search needs
-
 returns : tie.Need-returns Inv-loop μ-loop
 returns c =
     let turn = c .before .before .before .before in
@@ -44,9 +41,6 @@ add-i c = omega arith
 
 mul-wrapping-add : tie.Need-mul-wrapping-add Inv-loop μ-loop
 mul-wrapping-add c = omega (arith, c .before .before .before .before .before .before .next-piece .ensures .short)
-
-wrapping-add-requires : tie.Need-wrapping-add-requires Inv-loop μ-loop
-wrapping-add-requires c κs = search needs
 
 loop-less : tie.Need-loop-less Inv-loop μ-loop
 loop-less c = omega (arith, c .before .before .before .before .before .before .before .next-piece .ensures .some)
@@ -72,13 +66,13 @@ pieces-refusal-spec =
     Inv-loop
     μ-loop
     loop-holds
-    next-piece-requires
+    (λ c κs. search needs)
     returns
     sub-if2
     returns-2
     add-i
     mul-wrapping-add
-    wrapping-add-requires
+    (λ c κs. search needs)
     loop-less
     loop-again
     returns-3)

@@ -8,9 +8,6 @@ use borrow.Author.Needs.{needs}
 use Rattle.machine.proofs.memory.reaches.Statement.{statement}
 use Rattle.machine.proofs.memory.reaches.Tie as tie
 
-wrapping-sub-requires : tie.Need-wrapping-sub-requires
-wrapping-sub-requires c κs = search needs
-
 returns : tie.Need-returns
 returns c = rw (c .if2 .taken)
 
@@ -25,4 +22,4 @@ returns-3 c =
     sym (and-none (ltb 0 (start .args .other-len)) _ (unreached _ _ _ (omega arith) (omega arith) (start .pre .0) (start .pre .1) (c .before .wrapping-sub .ensures) _ (c .if1 .left)))
 
 pub reaches-spec : {M : Type 1} → statement M
-reaches-spec = tie.close (tie.spec wrapping-sub-requires returns returns-2 returns-3)
+reaches-spec = tie.close (tie.spec (λ c κs. search needs) returns returns-2 returns-3)

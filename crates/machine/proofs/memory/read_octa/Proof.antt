@@ -6,21 +6,12 @@ use borrow.Author.Needs.{needs}
 use Rattle.machine.proofs.memory.read_octa.Statement.{statement}
 use Rattle.machine.proofs.memory.read_octa.Tie as tie
 
-holder-of-requires : tie.Need-holder-of-requires
-holder-of-requires c κs = search needs
-
-read-octa-requires : tie.Need-read-octa-requires
-read-octa-requires c κs = search needs
-
 returns : tie.Need-returns
 returns c =
     let holds = c .before .before in
     let a = holds .before .before .before .args in
     let m = lent (a .at) (a .a .now) (a .b .now) in
     (c .read-octa .ensures ∙ read-b m (a .addr) (in-b m (a .addr) (sym (holds .holder-of .ensures) ∙ c .before .if1 .taken)), holds .holder-of .ensures)
-
-read-octa-requires-2 : tie.Need-read-octa-requires-2
-read-octa-requires-2 c κs = search needs
 
 returns-2 : tie.Need-returns-2
 returns-2 c =
@@ -42,9 +33,8 @@ pub read-octa-spec : {M : Type 1} → statement M
 read-octa-spec =
     tie.close
     (tie.spec
-    holder-of-requires
-    read-octa-requires
+    (λ c κs. search needs) (λ c κs. search needs)
     returns
-    read-octa-requires-2
+    (λ c κs. search needs)
     returns-2
     returns-3)

@@ -6,12 +6,6 @@ use borrow.Author.Needs.{needs}
 use Rattle.machine.proofs.memory.store_piece.Statement.{statement}
 use Rattle.machine.proofs.memory.store_piece.Tie as tie
 
-next-piece-requires : tie.Need-next-piece-requires
-next-piece-requires c κs = search needs
-
-end-of-requires : tie.Need-end-of-requires
-end-of-requires c κs = search needs
-
 store-range-requires : tie.Need-store-range-requires
 store-range-requires c κs =
     let taken = c .before in
@@ -23,12 +17,6 @@ store-range-requires c κs =
       omega (arith, ends .end-of .ensures .2, start .pre .1),
       room-b (lent (a .at) (a .a .now) (a .b .now)) (a .addr) (a .from) _ _ _ (a .general .now) (piece .next-piece .ensures) (ends .end-of .ensures .0) (taken .if1 .taken),
     )
-
-same-length : tie.Need-same-length
-same-length c = search needs
-
-same-length-2 : tie.Need-same-length-2
-same-length-2 c = search needs
 
 returns : tie.Need-returns
 returns c =
@@ -51,12 +39,6 @@ store-range-requires-2 c κs =
       room-a (lent (a .at) (a .a .now) (a .b .now)) (a .addr) (a .from) _ _ _ (a .general .now) (piece .next-piece .ensures) (ends .end-of .ensures .0) (taken .if2 .taken),
     )
 
-same-length-3 : tie.Need-same-length-3
-same-length-3 c = search needs
-
-same-length-4 : tie.Need-same-length-4
-same-length-4 c = search needs
-
 returns-2 : tie.Need-returns-2
 returns-2 c =
     let taken = c .before .before .before .before in
@@ -65,12 +47,6 @@ returns-2 c =
     let start = piece .before .before .before .before .before in
     let a = start .args in
     (store-a (lent (a .at) (a .a .now) (a .b .now)) (a .addr) (a .from) _ _ _ (a .general .now) (piece .next-piece .ensures) (ends .end-of .ensures .0) (taken .if2 .taken) _ (c .before .before .store-range2 .ensures), ends .end-of .ensures .1, ends .end-of .ensures .2)
-
-same-length-5 : tie.Need-same-length-5
-same-length-5 c = search needs
-
-same-length-6 : tie.Need-same-length-6
-same-length-6 c = search needs
 
 returns-3 : tie.Need-returns-3
 returns-3 c =
@@ -84,16 +60,12 @@ pub store-piece-spec : {M : Type 1} → statement M
 store-piece-spec =
     tie.close
     (tie.spec
-    next-piece-requires
-    end-of-requires
+    (λ c κs. search needs) (λ c κs. search needs)
     store-range-requires
-    same-length
-    same-length-2
+    (λ c. search needs) (λ c. search needs)
     returns
     store-range-requires-2
-    same-length-3
-    same-length-4
+    (λ c. search needs) (λ c. search needs)
     returns-2
-    same-length-5
-    same-length-6
+    (λ c. search needs) (λ c. search needs)
     returns-3)

@@ -19,12 +19,6 @@ Inv-loop general a₀ b₀ at addr from to end i₀ a b i =
 abbrev μ-loop : tie.MeasureT-loop
 μ-loop general a₀ b₀ at addr from to end i₀ a b i = end - i
 
-of-256-requires : tie.Need-of-256-requires Inv-loop μ-loop
-of-256-requires c κs = search needs
-
-least-requires : tie.Need-least-requires Inv-loop μ-loop
-least-requires c κs = search needs
-
 loop-holds : tie.Need-loop-holds Inv-loop μ-loop
 loop-holds c = (run-none both _ _ _ _ (omega arith), omega arith, omega arith, refl, refl)
 
@@ -33,9 +27,6 @@ sub-wrapping-add c = omega arith
 
 mul-wrapping-add : tie.Need-mul-wrapping-add Inv-loop μ-loop
 mul-wrapping-add c = omega arith
-
-wrapping-add-requires : tie.Need-wrapping-add-requires Inv-loop μ-loop
-wrapping-add-requires c κs = search needs
 
 store-piece-requires : tie.Need-store-piece-requires Inv-loop μ-loop
 store-piece-requires c κs = (omega arith, omega (arith, c .before .before .before .before .before .least .ensures))
@@ -78,12 +69,11 @@ store-pieces-spec =
     (tie.spec
     Inv-loop
     μ-loop
-    of-256-requires
-    least-requires
+    (λ c κs. search needs) (λ c κs. search needs)
     loop-holds
     sub-wrapping-add
     mul-wrapping-add
-    wrapping-add-requires
+    (λ c κs. search needs)
     store-piece-requires
     loop-less
     loop-again

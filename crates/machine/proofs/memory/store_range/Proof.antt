@@ -11,14 +11,8 @@ use borrow.Author.Needs.{needs}
 use Rattle.machine.proofs.memory.store_range.Statement.{statement}
 use Rattle.machine.proofs.memory.store_range.Tie as tie
 
-has-room-requires : tie.Need-has-room-requires
-has-room-requires c κs = search needs
-
 store-range-requires : tie.Need-store-range-requires
 store-range-requires c κs = held-range _ _ _ _ (sym (c .before .before .has-room .ensures) ∙ c .before .if1 .taken)
-
-same-length : tie.Need-same-length
-same-length c = search needs
 
 returns : tie.Need-returns
 unfolding writtenRangeBy
@@ -31,27 +25,13 @@ returns c =
     store-b m (a .addr) (a .from) (a .to) 1 _ (a .general .now) (whole-b m (a .addr) (a .from) (a .to) (omega arith) (held .0) (held .2)) (held .2) refl _ (stored .store-range .ensures)
     ∙ ap (λ (n : ℕ). writtenRun m (a .addr) n (λ (k : ℕ). getD (a .general .now) (a .from + k) 0)) (omega (arith, held .1))
 
-store-pieces-requires : tie.Need-store-pieces-requires
-store-pieces-requires c κs = search needs
-
-same-length-2 : tie.Need-same-length-2
-same-length-2 c = search needs
-
-same-length-3 : tie.Need-same-length-3
-same-length-3 c = search needs
-
-returns-2 : tie.Need-returns-2
-returns-2 c = search needs
-
 pub store-range-spec : {M : Type 1} → statement M
 store-range-spec =
     tie.close
     (tie.spec
-    has-room-requires
+    (λ c κs. search needs)
     store-range-requires
-    same-length
+    (λ c. search needs)
     returns
-    store-pieces-requires
-    same-length-2
-    same-length-3
-    returns-2)
+    (λ c κs. search needs) (λ c. search needs) (λ c. search needs)
+    (λ c. search needs))

@@ -9,15 +9,9 @@ use borrow.Author.Needs.{needs}
 use Rattle.machine.proofs.memory.windows_refusal.Statement.{statement}
 use Rattle.machine.proofs.memory.windows_refusal.Tie as tie
 
-is-ruled-requires : tie.Need-is-ruled-requires
-is-ruled-requires c κs = search needs
-
 returns : tie.Need-returns
 unfolding shapesOf
 returns c = sym (unruled-two _ (first-unruled _ (denied _ _ (c .before .is-ruled .ensures) (c .if1 .taken))))
-
-is-ruled-requires-2 : tie.Need-is-ruled-requires-2
-is-ruled-requires-2 c κs = search needs
 
 returns-2 : tie.Need-returns-2
 unfolding shapesOf
@@ -86,9 +80,9 @@ pub windows-refusal-spec : {M : Type 1} → statement M
 windows-refusal-spec =
     tie.close
     (tie.spec
-    is-ruled-requires
+    (λ c κs. search needs)
     returns
-    is-ruled-requires-2
+    (λ c κs. search needs)
     returns-2
     are-apart-requires
     returns-3

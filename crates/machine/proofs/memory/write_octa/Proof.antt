@@ -7,23 +7,11 @@ use borrow.Author.Needs.{needs}
 use Rattle.machine.proofs.memory.write_octa.Statement.{statement}
 use Rattle.machine.proofs.memory.write_octa.Tie as tie
 
-holder-of-requires : tie.Need-holder-of-requires
-holder-of-requires c κs = search needs
-
-distance-requires : tie.Need-distance-requires
-distance-requires c κs = search needs
-
 store-requires : tie.Need-store-requires
 store-requires c κs =
     let taken = c .before .before in
     let a = taken .before .before .before .before .before .before .args in
     omega (arith, c .before .distance .ensures, has-fits (a .at .b) (a .b .now) (a .addr) (in-b (lent (a .at) (a .a .now) (a .b .now)) (a .addr) (sym (taken .before .holder-of .ensures) ∙ taken .if1 .taken)))
-
-same-length : tie.Need-same-length
-same-length c = search needs
-
-same-length-2 : tie.Need-same-length-2
-same-length-2 c = search needs
 
 returns : tie.Need-returns
 returns c =
@@ -35,27 +23,12 @@ returns c =
     let here = sym (holds .holder-of .ensures) ∙ taken .if1 .taken in
     (write-in-b m (a .addr) (a .v) _ (has-written (a .at .b) (a .b .now) (a .addr) (a .v) _ _ (in-b m (a .addr) here) (stored .before .before .distance .ensures) (stored .store .ensures)) here, holds .holder-of .ensures)
 
-write-octa-requires : tie.Need-write-octa-requires
-write-octa-requires c κs = search needs
-
-same-length-3 : tie.Need-same-length-3
-same-length-3 c = search needs
-
-same-length-4 : tie.Need-same-length-4
-same-length-4 c = search needs
-
 returns-2 : tie.Need-returns-2
 returns-2 c =
     let taken = c .before .before .before .before in
     let holds = taken .before .before in
     let a = holds .before .before .before .before .before .args in
     (write-in-a (lent (a .at) (a .a .now) (a .b .now)) (a .addr) (a .v) _ (c .before .before .write-octa .ensures) (sym (holds .holder-of .ensures) ∙ taken .if2 .taken), holds .holder-of .ensures)
-
-same-length-5 : tie.Need-same-length-5
-same-length-5 c = search needs
-
-same-length-6 : tie.Need-same-length-6
-same-length-6 c = search needs
 
 returns-3 : tie.Need-returns-3
 returns-3 c =
@@ -69,16 +42,11 @@ pub write-octa-spec : {M : Type 1} → statement M
 write-octa-spec =
     tie.close
     (tie.spec
-    holder-of-requires
-    distance-requires
+    (λ c κs. search needs) (λ c κs. search needs)
     store-requires
-    same-length
-    same-length-2
+    (λ c. search needs) (λ c. search needs)
     returns
-    write-octa-requires
-    same-length-3
-    same-length-4
+    (λ c κs. search needs) (λ c. search needs) (λ c. search needs)
     returns-2
-    same-length-5
-    same-length-6
+    (λ c. search needs) (λ c. search needs)
     returns-3)

@@ -6,14 +6,8 @@ use Rattle.machine.specs.Octabytes.{loadedOctas}
 use Rattle.machine.proofs.octabytes.load_octas.Statement.{statement}
 use Rattle.machine.proofs.octabytes.load_octas.Tie as tie
 
-fits-requires : tie.Need-fits-requires
-fits-requires c κs = search needs
-
 load-all-requires : tie.Need-load-all-requires
 load-all-requires c κs = leb-true _ _ (sym (c .before .before .fits2 .ensures) ∙ c .before .if1 .taken)
-
-same-length : tie.Need-same-length
-same-length c = search needs
 
 returns : tie.Need-returns
 unfolding loadedOctas
@@ -25,4 +19,4 @@ returns-2 c = rw (sym (c .before .fits2 .ensures) ∙ c .if1 .left) refl
 
 pub load-octas-spec : {M : Type 1} → statement M
 load-octas-spec =
-    tie.close (tie.spec fits-requires load-all-requires same-length returns returns-2)
+    tie.close (tie.spec (λ c κs. search needs) load-all-requires (λ c. search needs) returns returns-2)

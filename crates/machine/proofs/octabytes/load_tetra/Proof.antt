@@ -28,9 +28,6 @@ add-wide c = omega arith
 shared-slice-read-wide : tie.Need-shared-slice-read-wide Inv-loop μ-loop
 shared-slice-read-wide c = omega arith
 
-wide-requires : tie.Need-wide-requires Inv-loop μ-loop
-wide-requires c κs = search needs
-
 add-v : tie.Need-add-v Inv-loop μ-loop
 add-v c =
     let at-loop = c .before .before .before in
@@ -68,7 +65,7 @@ load-tetra-spec =
     mul-v
     add-wide
     shared-slice-read-wide
-    wide-requires
+    (λ c κs. search needs)
     add-v
     add-k
     loop-less

@@ -5,15 +5,6 @@ use Rattle.model.specs.Registers.{admissible}
 use Rattle.machine.proofs.registers.admissible.Statement.{statement}
 use Rattle.machine.proofs.registers.admissible.Tie as tie
 
-element-copy-out-rg : tie.Need-element-copy-out-rg
-element-copy-out-rg c = search needs
-
-element-copy-out-rl : tie.Need-element-copy-out-rl
-element-copy-out-rl c = search needs
-
-element-copy-out-ra : tie.Need-element-copy-out-ra
-element-copy-out-ra c = search needs
-
 returns : tie.Need-returns
 unfolding admissible
 returns c = λ g pc halt. simp (lt-leb _ _ (c .if1 .taken))
@@ -70,9 +61,7 @@ pub admissible-spec : {M : Type 1} → statement M
 admissible-spec =
     tie.close
     (tie.spec
-    element-copy-out-rg
-    element-copy-out-rl
-    element-copy-out-ra
+    (λ c. search needs) (λ c. search needs) (λ c. search needs)
     returns
     returns-2
     returns-3

@@ -9,12 +9,6 @@ use Rattle.model.specs.Registers.{withParts, rL, claimLocal, withSpecial, clear
 use Rattle.machine.proofs.registers.claim_local.Statement.{statement}
 use Rattle.machine.proofs.registers.claim_local.Tie as tie
 
-element-copy-out-rg : tie.Need-element-copy-out-rg
-element-copy-out-rg c = search needs
-
-element-copy-out-rl : tie.Need-element-copy-out-rl
-element-copy-out-rl c = search needs
-
 returns : tie.Need-returns
 unfolding claimLocal
 returns c = λ s. simp (lt-leb _ _ (c .if1 .taken))
@@ -22,18 +16,6 @@ returns c = λ s. simp (lt-leb _ _ (c .if1 .taken))
 returns-2 : tie.Need-returns-2
 unfolding claimLocal
 returns-2 c = λ s. simp (le-leb _ _ (c .before .if1 .left), le-ltb _ _ (c .if2 .taken))
-
-add-clear-range : tie.Need-add-clear-range
-add-clear-range c = search needs
-
-clear-range-requires : tie.Need-clear-range-requires
-clear-range-requires c κs = search needs
-
-add-special : tie.Need-add-special
-add-special c = search needs
-
-element-write-special : tie.Need-element-write-special
-element-write-special c = search needs
 
 returns-3 : tie.Need-returns-3
 unfolding claimLocal withSpecial cleared
@@ -46,12 +28,8 @@ pub claim-local-spec : {M : Type 1} → statement M
 claim-local-spec =
     tie.close
     (tie.spec
-    element-copy-out-rg
-    element-copy-out-rl
+    (λ c. search needs) (λ c. search needs)
     returns
     returns-2
-    add-clear-range
-    clear-range-requires
-    add-special
-    element-write-special
+    (λ c. search needs) (λ c κs. search needs) (λ c. search needs) (λ c. search needs)
     returns-3)

@@ -15,12 +15,6 @@ Inv-loop general₀ from to end i₀ general i = (general ≡ over (λ (k : ℕ)
 abbrev μ-loop : tie.MeasureT-loop
 μ-loop general₀ from to end i₀ general i = end - i
 
-of-256-requires : tie.Need-of-256-requires Inv-loop μ-loop
-of-256-requires c κs = search needs
-
-least-requires : tie.Need-least-requires Inv-loop μ-loop
-least-requires c κs = search needs
-
 loop-holds : tie.Need-loop-holds Inv-loop μ-loop
 loop-holds c = (sym (over-none _ _ _ _ (omega arith)), omega arith, omega arith)
 
@@ -53,8 +47,7 @@ clear-range-spec =
     (tie.spec
     Inv-loop
     μ-loop
-    of-256-requires
-    least-requires
+    (λ c κs. search needs) (λ c κs. search needs)
     loop-holds
     mul-general
     element-write-general

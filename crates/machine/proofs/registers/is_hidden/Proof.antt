@@ -11,11 +11,8 @@ returns c = sym (unmasked _ _ (c .if1 .taken))
 returns-2 : tie.Need-returns-2
 returns-2 c = sym (unhideable _ _ (above-special _ (c .if2 .taken)))
 
-shr-result : tie.Need-shr-result
-shr-result c = search needs
-
 returns-3 : tie.Need-returns-3
 returns-3 c = sym (hides-bit _ _)
 
 pub is-hidden-spec : {M : Type 1} → statement M
-is-hidden-spec = tie.close (tie.spec returns returns-2 shr-result returns-3)
+is-hidden-spec = tie.close (tie.spec returns returns-2 (λ c. search needs) returns-3)

@@ -5,18 +5,6 @@ use Rattle.machine.proofs.PutRegisters.{put-done, put-refused}
 use Rattle.machine.proofs.registers.put_special.Statement.{statement}
 use Rattle.machine.proofs.registers.put_special.Tie as tie
 
-element-copy-out-rl : tie.Need-element-copy-out-rl
-element-copy-out-rl c = search needs
-
-put-refusal-requires : tie.Need-put-refusal-requires
-put-refusal-requires c κs = search needs
-
-enum-told : tie.Need-enum-told
-enum-told c = search needs
-
-put-state-requires : tie.Need-put-state-requires
-put-state-requires c κs = search needs
-
 returns : tie.Need-returns
 returns c =
     λ s.
@@ -30,9 +18,6 @@ pub put-special-spec : {M : Type 1} → statement M
 put-special-spec =
     tie.close
     (tie.spec
-    element-copy-out-rl
-    put-refusal-requires
-    enum-told
-    put-state-requires
+    (λ c. search needs) (λ c κs. search needs) (λ c. search needs) (λ c κs. search needs)
     returns
     returns-2)

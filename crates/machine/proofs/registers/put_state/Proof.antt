@@ -7,26 +7,11 @@ use Rattle.machine.proofs.PutRegisters.{put-local, put-global, put-othe
 use Rattle.machine.proofs.registers.put_state.Statement.{statement}
 use Rattle.machine.proofs.registers.put_state.Tie as tie
 
-put-rl-requires : tie.Need-put-rl-requires
-put-rl-requires c κs = search needs
-
 returns : tie.Need-returns
 returns c = λ s. put-local _ _ _ _ (c .before .before .before .if1 .taken) (c .put-rl .ensures s)
 
-put-rg-requires : tie.Need-put-rg-requires
-put-rg-requires c κs = search needs
-
 returns-2 : tie.Need-returns-2
 returns-2 c = λ s. put-global _ _ _ _ (c .before .before .before .if2 .taken) (c .put-rg .ensures s)
-
-of-32-requires : tie.Need-of-32-requires
-of-32-requires c κs = search needs
-
-mul-special : tie.Need-mul-special
-mul-special c = search needs
-
-element-write-special : tie.Need-element-write-special
-element-write-special c = search needs
 
 returns-3 : tie.Need-returns-3
 unfolding withSpecial
@@ -39,12 +24,10 @@ pub put-state-spec : {M : Type 1} → statement M
 put-state-spec =
     tie.close
     (tie.spec
-    put-rl-requires
+    (λ c κs. search needs)
     returns
-    put-rg-requires
+    (λ c κs. search needs)
     returns-2
-    of-32-requires
-    mul-special
-    element-write-special
+    (λ c κs. search needs) (λ c. search needs) (λ c. search needs)
     returns-3
     returns-4)

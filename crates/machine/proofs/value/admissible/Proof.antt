@@ -3,11 +3,8 @@ use borrow.Author.Needs.{needs}
 use Rattle.machine.proofs.value.admissible.Statement.{statement}
 use Rattle.machine.proofs.value.admissible.Tie as tie
 
-admissible-requires : tie.Need-admissible-requires
-admissible-requires c κs = search needs
-
 returns : tie.Need-returns
 returns c = let s = c .before .before .before .args .state in c .admissible .ensures (s .general) (s .pc) (s .halt)
 
 pub admissible-spec : {M : Type 1} → statement M
-admissible-spec = tie.close (tie.spec admissible-requires returns)
+admissible-spec = tie.close (tie.spec (λ c κs. search needs) returns)

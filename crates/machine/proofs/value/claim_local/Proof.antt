@@ -3,11 +3,8 @@ use borrow.Author.Needs.{needs}
 use Rattle.machine.proofs.value.claim_local.Statement.{statement}
 use Rattle.machine.proofs.value.claim_local.Tie as tie
 
-claim-local-requires : tie.Need-claim-local-requires
-claim-local-requires c κs = search needs
-
 returns : tie.Need-returns
 returns c = c .claim-local .ensures (c .before .before .before .before .before .args .state)
 
 pub claim-local-spec : {M : Type 1} → statement M
-claim-local-spec = tie.close (tie.spec claim-local-requires returns)
+claim-local-spec = tie.close (tie.spec (λ c κs. search needs) returns)

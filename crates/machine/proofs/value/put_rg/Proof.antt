@@ -3,11 +3,8 @@ use borrow.Author.Needs.{needs}
 use Rattle.machine.proofs.value.put_rg.Statement.{statement}
 use Rattle.machine.proofs.value.put_rg.Tie as tie
 
-put-rg-requires : tie.Need-put-rg-requires
-put-rg-requires c κs = search needs
-
 returns : tie.Need-returns
 returns c = c .put-rg .ensures (c .before .before .before .before .before .args .state)
 
 pub put-rg-spec : {M : Type 1} → statement M
-put-rg-spec = tie.close (tie.spec put-rg-requires returns)
+put-rg-spec = tie.close (tie.spec (λ c κs. search needs) returns)

@@ -3,11 +3,8 @@ use borrow.Author.Needs.{needs}
 use Rattle.machine.proofs.value.put_rl.Statement.{statement}
 use Rattle.machine.proofs.value.put_rl.Tie as tie
 
-put-rl-requires : tie.Need-put-rl-requires
-put-rl-requires c κs = search needs
-
 returns : tie.Need-returns
 returns c = c .put-rl .ensures (c .before .before .before .before .before .args .state)
 
 pub put-rl-spec : {M : Type 1} → statement M
-put-rl-spec = tie.close (tie.spec put-rl-requires returns)
+put-rl-spec = tie.close (tie.spec (λ c κs. search needs) returns)

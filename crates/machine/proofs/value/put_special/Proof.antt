@@ -3,11 +3,8 @@ use borrow.Author.Needs.{needs}
 use Rattle.machine.proofs.value.put_special.Statement.{statement}
 use Rattle.machine.proofs.value.put_special.Tie as tie
 
-put-special-requires : tie.Need-put-special-requires
-put-special-requires c κs = search needs
-
 returns : tie.Need-returns
 returns c = c .put-special .ensures (c .before .before .before .before .before .args .state)
 
 pub put-special-spec : {M : Type 1} → statement M
-put-special-spec = tie.close (tie.spec put-special-requires returns)
+put-special-spec = tie.close (tie.spec (λ c κs. search needs) returns)

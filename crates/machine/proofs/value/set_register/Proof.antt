@@ -3,11 +3,8 @@ use borrow.Author.Needs.{needs}
 use Rattle.machine.proofs.value.set_register.Statement.{statement}
 use Rattle.machine.proofs.value.set_register.Tie as tie
 
-set-register-requires : tie.Need-set-register-requires
-set-register-requires c κs = search needs
-
 returns : tie.Need-returns
 returns c = c .set-register .ensures (c .before .before .before .before .before .args .state)
 
 pub set-register-spec : {M : Type 1} → statement M
-set-register-spec = tie.close (tie.spec set-register-requires returns)
+set-register-spec = tie.close (tie.spec (λ c κs. search needs) returns)

@@ -5,14 +5,8 @@ use Rattle.machine.proofs.RunTest.{offset-of}
 use Rattle.machine.proofs.window.distance.Statement.{statement}
 use Rattle.machine.proofs.window.distance.Tie as tie
 
-sub-wrapping-sub : tie.Need-sub-wrapping-sub
-sub-wrapping-sub c = search needs
-
-wrapping-sub-requires : tie.Need-wrapping-sub-requires
-wrapping-sub-requires c κs = search needs
-
 returns : tie.Need-returns
 returns c = offset-of _ _ _ (omega arith) (omega arith) (c .wrapping-sub .ensures)
 
 pub distance-spec : {M : Type 1} → statement M
-distance-spec = tie.close (tie.spec sub-wrapping-sub wrapping-sub-requires returns)
+distance-spec = tie.close (tie.spec (λ c. search needs) (λ c κs. search needs) returns)

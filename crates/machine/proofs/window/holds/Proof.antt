@@ -9,9 +9,6 @@ use Rattle.machine.proofs.window.holds.Tie as tie
 returns : tie.Need-returns
 returns c = sym (fits-not _ _ _ _ refl (omega arith))
 
-distance-requires : tie.Need-distance-requires
-distance-requires c κs = search needs
-
 returns-2 : tie.Need-returns-2
 returns-2 c = sym (fits-in _ _ _ _ (c .before .distance .ensures) (omega arith))
 
@@ -19,4 +16,4 @@ returns-3 : tie.Need-returns-3
 returns-3 c = sym (fits-not _ _ _ _ (c .before .distance .ensures) (omega arith))
 
 pub holds-spec : {M : Type 1} → statement M
-holds-spec = tie.close (tie.spec returns distance-requires returns-2 returns-3)
+holds-spec = tie.close (tie.spec returns (λ c κs. search needs) returns-2 returns-3)

@@ -20,9 +20,6 @@ Inv-loop general₀ window base addr from to at₀ i₀ general at i =
 abbrev μ-loop : tie.MeasureT-loop
 μ-loop general₀ window base addr from to at₀ i₀ general at i = to - i
 
-distance-requires : tie.Need-distance-requires Inv-loop μ-loop
-distance-requires c κs = search needs
-
 loop-holds : tie.Need-loop-holds Inv-loop μ-loop
 loop-holds c = (sym (over-none _ _ _ _ (omega arith)), omega arith, omega (arith, c .before .before .pre .0), omega (arith, c .distance .ensures))
 
@@ -74,7 +71,7 @@ load-range-spec =
     (tie.spec
     Inv-loop
     μ-loop
-    distance-requires
+    (λ c κs. search needs)
     loop-holds
     load-requires
     mul-general

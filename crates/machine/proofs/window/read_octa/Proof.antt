@@ -9,14 +9,8 @@ use borrow.Author.Needs.{needs}
 use Rattle.machine.proofs.window.read_octa.Statement.{statement}
 use Rattle.machine.proofs.window.read_octa.Tie as tie
 
-holds-requires : tie.Need-holds-requires
-holds-requires c κs = search needs
-
 returns : tie.Need-returns
 returns c = sym (none-read _ _ _ (denied _ _ (c .before .holds .ensures) (c .if1 .taken)))
-
-distance-requires : tie.Need-distance-requires
-distance-requires c κs = search needs
 
 load-requires : tie.Need-load-requires
 load-requires c κs =
@@ -30,4 +24,4 @@ returns-2 c =
 
 pub read-octa-spec : {M : Type 1} → statement M
 read-octa-spec =
-    tie.close (tie.spec holds-requires returns distance-requires load-requires returns-2)
+    tie.close (tie.spec (λ c κs. search needs) returns (λ c κs. search needs) load-requires returns-2)

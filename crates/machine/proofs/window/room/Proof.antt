@@ -5,9 +5,6 @@ use borrow.Author.Needs.{needs}
 use Rattle.machine.proofs.window.room.Statement.{statement}
 use Rattle.machine.proofs.window.room.Tie as tie
 
-distance-requires : tie.Need-distance-requires
-distance-requires c κs = search needs
-
 returns : tie.Need-returns
 returns c = (room-past _ _ _ _ (c .before .distance .ensures) (omega arith), omega arith)
 
@@ -15,4 +12,4 @@ returns-2 : tie.Need-returns-2
 returns-2 c = (room-is _ _ _ _ (c .before .distance .ensures), omega arith)
 
 pub room-spec : {M : Type 1} → statement M
-room-spec = tie.close (tie.spec distance-requires returns returns-2)
+room-spec = tie.close (tie.spec (λ c κs. search needs) returns returns-2)

@@ -13,23 +13,14 @@ all t w u v h e = rw h e
 none : (t : Bool) (u v : Window) → t ≡ false → v ≡ cond t u v
 none t u v h = rw h refl
 
-has-room-requires : tie.Need-has-room-requires
-has-room-requires c κs = search needs
-
 store-range-requires : tie.Need-store-range-requires
 store-range-requires c κs = held-range _ _ _ _ (sym (c .before .before .has-room .ensures) ∙ c .before .if1 .taken)
-
-same-length : tie.Need-same-length
-same-length c = search needs
 
 returns : tie.Need-returns
 returns c =
     let stored = c .before .before in
     let held = sym (stored .before .before .before .has-room .ensures) ∙ stored .before .before .if1 .taken in
     (sym held, all _ _ _ _ held (stored .store-range .ensures))
-
-same-length-2 : tie.Need-same-length-2
-same-length-2 c = search needs
 
 returns-2 : tie.Need-returns-2
 returns-2 c =
@@ -39,4 +30,4 @@ returns-2 c =
 pub store-held-spec : {M : Type 1} → statement M
 store-held-spec =
     tie.close
-    (tie.spec has-room-requires store-range-requires same-length returns same-length-2 returns-2)
+    (tie.spec (λ c κs. search needs) store-range-requires (λ c. search needs) returns (λ c. search needs) returns-2)

@@ -19,9 +19,6 @@ Inv-loop general window₀ base addr from to at₀ i₀ window at i =
 abbrev μ-loop : tie.MeasureT-loop
 μ-loop general window₀ base addr from to at₀ i₀ window at i = to - i
 
-distance-requires : tie.Need-distance-requires Inv-loop μ-loop
-distance-requires c κs = search needs
-
 loop-holds : tie.Need-loop-holds Inv-loop μ-loop
 loop-holds c = (run-none one _ _ _ _ (omega arith), omega arith, omega (arith, c .before .before .pre .0), omega (arith, c .distance .ensures), refl)
 
@@ -83,7 +80,7 @@ store-range-spec =
     (tie.spec
     Inv-loop
     μ-loop
-    distance-requires
+    (λ c κs. search needs)
     loop-holds
     mul-v
     element-copy-out-v

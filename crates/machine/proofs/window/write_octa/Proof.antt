@@ -7,24 +7,12 @@ use borrow.Author.Needs.{needs}
 use Rattle.machine.proofs.window.write_octa.Statement.{statement}
 use Rattle.machine.proofs.window.write_octa.Tie as tie
 
-holds-requires : tie.Need-holds-requires
-holds-requires c κs = search needs
-
-same-length : tie.Need-same-length
-same-length c = search needs
-
 returns : tie.Need-returns
 returns c = none-written _ _ _ _ (denied _ _ (c .before .holds .ensures) (c .if1 .taken))
-
-distance-requires : tie.Need-distance-requires
-distance-requires c κs = search needs
 
 store-down-requires : tie.Need-store-down-requires
 store-down-requires c κs =
     omega (arith, c .before .distance .ensures, has-fits _ _ _ (granted _ _ (c .before .before .before .holds .ensures) (c .before .before .if1 .left)))
-
-same-length-2 : tie.Need-same-length-2
-same-length-2 c = search needs
 
 returns-2 : tie.Need-returns-2
 returns-2 c =
@@ -37,10 +25,9 @@ pub write-octa-spec : {M : Type 1} → statement M
 write-octa-spec =
     tie.close
     (tie.spec
-    holds-requires
-    same-length
+    (λ c κs. search needs) (λ c. search needs)
     returns
-    distance-requires
+    (λ c κs. search needs)
     store-down-requires
-    same-length-2
+    (λ c. search needs)
     returns-2)

@@ -9,11 +9,8 @@ at-start : freshAt stackStart ≡ fresh
 unfolding fresh withSpecial freshAt
 at-start = refl
 
-initialize-at-requires : tie.Need-initialize-at-requires
-initialize-at-requires c κs = search needs
-
 returns : tie.Need-returns
 returns c = c .initialize-at .ensures ∙ at-start
 
 pub initialize-spec : {M : Type 1} → statement M
-initialize-spec = tie.close (tie.spec initialize-at-requires returns)
+initialize-spec = tie.close (tie.spec (λ c κs. search needs) returns)

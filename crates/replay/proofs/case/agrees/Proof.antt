@@ -9,15 +9,6 @@ use lib.Seq.{length-take-le}
 use Rattle.replay.proofs.case.agrees.Statement.{statement}
 use Rattle.replay.proofs.case.agrees.Tie as tie
 
-octabyte-requires : tie.Need-octabyte-requires
-octabyte-requires c κs = search needs
-
-octabyte-requires-2 : tie.Need-octabyte-requires-2
-octabyte-requires-2 c κs = search needs
-
-octabyte-requires-3 : tie.Need-octabyte-requires-3
-octabyte-requires-3 c κs = search needs
-
 returns : tie.Need-returns
 returns c = λ e. absurd (true≢false (sym e))
 
@@ -27,20 +18,8 @@ returns-2 c = λ e. absurd (true≢false (sym e))
 returns-3 : tie.Need-returns-3
 returns-3 c = λ e. absurd (true≢false (sym e))
 
-buffer-requires : tie.Need-buffer-requires
-buffer-requires c κs = search needs
-
-mul-len : tie.Need-mul-len
-mul-len c = search needs
-
-array-borrow-prefix-space : tie.Need-array-borrow-prefix-space
-array-borrow-prefix-space c = search needs
-
 slice-aggregate-window : tie.Need-slice-aggregate-window
 slice-aggregate-window c = sym (length-take-le _ _ (omega arith))
-
-slice-aggregate-build : tie.Need-slice-aggregate-build
-slice-aggregate-build c = search needs
 
 build-requires : tie.Need-build-requires
 build-requires c κs =
@@ -51,18 +30,6 @@ build-requires c κs =
       record { rl-is = third .before .octabyte2 .ensures; rg-is = third .octabyte3 .ensures; in-order = omega arith; in-range = omega arith },
       length-take-le _ _ (omega arith) ∙ ap (λ (n : ℕ). 8 * n) (first .octabyte .ensures),
     )
-
-slice-aggregate-call : tie.Need-slice-aggregate-call
-slice-aggregate-call c = search needs
-
-call-requires : tie.Need-call-requires
-call-requires c κs = search needs
-
-slice-aggregate-is-as-told : tie.Need-slice-aggregate-is-as-told
-slice-aggregate-is-as-told c = search needs
-
-is-as-told-requires : tie.Need-is-as-told-requires
-is-as-told-requires c κs = search needs
 
 returns-4 : tie.Need-returns-4
 returns-4 c = λ e.
@@ -83,20 +50,13 @@ pub agrees-spec : {M : Type 1} → statement M
 agrees-spec =
     tie.close
     (tie.spec
-    octabyte-requires
-    octabyte-requires-2
-    octabyte-requires-3
+    (λ c κs. search needs) (λ c κs. search needs) (λ c κs. search needs)
     returns
     returns-2
     returns-3
-    buffer-requires
-    mul-len
-    array-borrow-prefix-space
+    (λ c κs. search needs) (λ c. search needs) (λ c. search needs)
     slice-aggregate-window
-    slice-aggregate-build
+    (λ c. search needs)
     build-requires
-    slice-aggregate-call
-    call-requires
-    slice-aggregate-is-as-told
-    is-as-told-requires
+    (λ c. search needs) (λ c κs. search needs) (λ c. search needs) (λ c κs. search needs)
     returns-4)

@@ -4,18 +4,6 @@ use borrow.Author.Needs.{needs}
 use Rattle.replay.proofs.case.build.Statement.{statement}
 use Rattle.replay.proofs.case.build.Tie as tie
 
-write-general-requires : tie.Need-write-general-requires
-write-general-requires c κs = search needs
-
-write-special-requires : tie.Need-write-special-requires
-write-special-requires c κs = search needs
-
-write-rest-requires : tie.Need-write-rest-requires
-write-rest-requires c κs = search needs
-
-write-window-requires : tie.Need-write-window-requires
-write-window-requires c κs = search needs
-
 set-places-requires : tie.Need-set-places-requires
 set-places-requires c κs =
     let memory = c .before .before .before .before in
@@ -25,12 +13,6 @@ set-places-requires c κs =
     let pre = general .before .before .before .before .before .pre in
     (pre .0, placed-start _ _ _ _ _ _ _ (pre .1) (pre .3) (general .write-general .ensures) (special .write-special .ensures) (rest .write-rest .ensures) (memory .write-window .ensures))
 
-same-length : tie.Need-same-length
-same-length c = search needs
-
-same-length-2 : tie.Need-same-length-2
-same-length-2 c = search needs
-
 returns : tie.Need-returns
 returns c = c .before .before .before .before .set-places .ensures
 
@@ -38,11 +20,7 @@ pub build-spec : {M : Type 1} → statement M
 build-spec =
     tie.close
     (tie.spec
-    write-general-requires
-    write-special-requires
-    write-rest-requires
-    write-window-requires
+    (λ c κs. search needs) (λ c κs. search needs) (λ c κs. search needs) (λ c κs. search needs)
     set-places-requires
-    same-length
-    same-length-2
+    (λ c. search needs) (λ c. search needs)
     returns)

@@ -5,39 +5,6 @@ use borrow.Author.Needs.{needs}
 use Rattle.replay.proofs.case.is_as_told.Statement.{statement}
 use Rattle.replay.proofs.case.is_as_told.Tie as tie
 
-sums-of-requires : tie.Need-sums-of-requires
-sums-of-requires c κs = search needs
-
-sums-of-requires-2 : tie.Need-sums-of-requires-2
-sums-of-requires-2 c κs = search needs
-
-octabyte-requires : tie.Need-octabyte-requires
-octabyte-requires c κs = search needs
-
-octabyte-requires-2 : tie.Need-octabyte-requires-2
-octabyte-requires-2 c κs = search needs
-
-add-octabyte : tie.Need-add-octabyte
-add-octabyte c = search needs
-
-octabyte-requires-3 : tie.Need-octabyte-requires-3
-octabyte-requires-3 c κs = search needs
-
-add-octabyte-2 : tie.Need-add-octabyte-2
-add-octabyte-2 c = search needs
-
-octabyte-requires-4 : tie.Need-octabyte-requires-4
-octabyte-requires-4 c κs = search needs
-
-add-octabyte-3 : tie.Need-add-octabyte-3
-add-octabyte-3 c = search needs
-
-octabyte-requires-5 : tie.Need-octabyte-requires-5
-octabyte-requires-5 c κs = search needs
-
-same-octabytes-requires : tie.Need-same-octabytes-requires
-same-octabytes-requires c κs = search needs
-
 returns : tie.Need-returns
 returns c = λ e.
     let same = c .same-octabytes .ensures e in
@@ -61,15 +28,7 @@ pub is-as-told-spec : {M : Type 1} → statement M
 is-as-told-spec =
     tie.close
     (tie.spec
-    sums-of-requires
-    sums-of-requires-2
-    octabyte-requires
-    octabyte-requires-2
-    add-octabyte
-    octabyte-requires-3
-    add-octabyte-2
-    octabyte-requires-4
-    add-octabyte-3
-    octabyte-requires-5
-    same-octabytes-requires
+    (λ c κs. search needs) (λ c κs. search needs) (λ c κs. search needs) (λ c κs. search needs) (λ c. search needs)
+    (λ c κs. search needs) (λ c. search needs) (λ c κs. search needs) (λ c. search needs) (λ c κs. search needs)
+    (λ c κs. search needs)
     returns)

@@ -24,9 +24,6 @@ octabyte-requires c κs = omega arith
 mul-if1 : tie.Need-mul-if1 Inv-loop μ-loop
 mul-if1 c = omega arith
 
-element-copy-out-if1 : tie.Need-element-copy-out-if1 Inv-loop μ-loop
-element-copy-out-if1 c = search needs
-
 returns : tie.Need-returns Inv-loop μ-loop
 returns c = λ e. let z : _≡_ {A = ℕ} 0 1 = cc in absurd (omega arith)
 
@@ -51,7 +48,7 @@ same-octabytes-spec =
     loop-holds
     octabyte-requires
     mul-if1
-    element-copy-out-if1
+    (λ c. search needs)
     returns
     add-i
     loop-less

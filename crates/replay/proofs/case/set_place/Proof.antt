@@ -5,12 +5,6 @@ use borrow.Author.Needs.{needs}
 use Rattle.replay.proofs.case.set_place.Statement.{statement}
 use Rattle.replay.proofs.case.set_place.Tie as tie
 
-set-octabyte-requires : tie.Need-set-octabyte-requires
-set-octabyte-requires c κs = search needs
-
-same-length : tie.Need-same-length
-same-length c = search needs
-
 returns : tie.Need-returns
 returns c =
     let set = c .before .before in
@@ -18,12 +12,6 @@ returns c =
 
 returns-2 : tie.Need-returns-2
 returns-2 c = set-none _ _ _ _ (omega arith) (λ j h e. omega arith)
-
-set-octabyte-requires-2 : tie.Need-set-octabyte-requires-2
-set-octabyte-requires-2 c κs = search needs
-
-same-length-2 : tie.Need-same-length-2
-same-length-2 c = search needs
 
 returns-3 : tie.Need-returns-3
 returns-3 c =
@@ -37,11 +25,9 @@ pub set-place-spec : {M : Type 1} → statement M
 set-place-spec =
     tie.close
     (tie.spec
-    set-octabyte-requires
-    same-length
+    (λ c κs. search needs) (λ c. search needs)
     returns
     returns-2
-    set-octabyte-requires-2
-    same-length-2
+    (λ c κs. search needs) (λ c. search needs)
     returns-3
     returns-4)

@@ -53,12 +53,6 @@ loop-again c =
       placed-turn _ (at-loop .loop .i) _ _ _ _ _ _ (inv .0) (inv .2) (set .before .before .octabyte .ensures) (set .before .octabyte2 .ensures) (inv .5) (set .set-place .ensures),
     )
 
-same-length : tie.Need-same-length Inv-loop μ-loop
-same-length c = search needs
-
-same-length-2 : tie.Need-same-length-2 Inv-loop μ-loop
-same-length-2 c = search needs
-
 returns : tie.Need-returns Inv-loop μ-loop
 returns c = placed-end _ _ _ _ (c .before .loop .inv .0) (c .before .loop .inv .2) (omega arith) (omega arith) (c .before .loop .inv .5)
 
@@ -77,6 +71,5 @@ set-places-spec =
     add-i
     loop-less
     loop-again
-    same-length
-    same-length-2
+    (λ c. search needs) (λ c. search needs)
     returns)

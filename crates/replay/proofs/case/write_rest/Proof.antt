@@ -4,18 +4,6 @@ use borrow.Author.Needs.{needs}
 use Rattle.replay.proofs.case.write_rest.Statement.{statement}
 use Rattle.replay.proofs.case.write_rest.Tie as tie
 
-copy-requires : tie.Need-copy-requires
-copy-requires c κs = search needs
-
-copy-requires-2 : tie.Need-copy-requires-2
-copy-requires-2 c κs = search needs
-
-copy-requires-3 : tie.Need-copy-requires-3
-copy-requires-3 c κs = search needs
-
-same-length : tie.Need-same-length
-same-length c = search needs
-
 returns : tie.Need-returns
 returns c =
     let marks = c .before .before in
@@ -25,4 +13,4 @@ returns c =
 
 pub write-rest-spec : {M : Type 1} → statement M
 write-rest-spec =
-    tie.close (tie.spec copy-requires copy-requires-2 copy-requires-3 same-length returns)
+    tie.close (tie.spec (λ c κs. search needs) (λ c κs. search needs) (λ c κs. search needs) (λ c. search needs) returns)

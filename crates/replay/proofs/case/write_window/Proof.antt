@@ -4,21 +4,6 @@ use borrow.Author.Needs.{needs}
 use Rattle.replay.proofs.case.write_window.Statement.{statement}
 use Rattle.replay.proofs.case.write_window.Tie as tie
 
-octabyte-requires : tie.Need-octabyte-requires
-octabyte-requires c κs = search needs
-
-add-octabyte : tie.Need-add-octabyte
-add-octabyte c = search needs
-
-octabyte-requires-2 : tie.Need-octabyte-requires-2
-octabyte-requires-2 c κs = search needs
-
-write-line-requires : tie.Need-write-line-requires
-write-line-requires c κs = search needs
-
-same-length : tie.Need-same-length
-same-length c = search needs
-
 returns : tie.Need-returns
 returns c =
     let line = c .before .before in
@@ -28,9 +13,5 @@ pub write-window-spec : {M : Type 1} → statement M
 write-window-spec =
     tie.close
     (tie.spec
-    octabyte-requires
-    add-octabyte
-    octabyte-requires-2
-    write-line-requires
-    same-length
+    (λ c κs. search needs) (λ c. search needs) (λ c κs. search needs) (λ c κs. search needs) (λ c. search needs)
     returns)

@@ -6,14 +6,8 @@ use Rattle.replay.proofs.Laws.{read-octabyte}
 use Rattle.replay.proofs.octabytes.octabyte.Statement.{statement}
 use Rattle.replay.proofs.octabytes.octabyte.Tie as tie
 
-mul-read-octa : tie.Need-mul-read-octa
-mul-read-octa c = search needs
-
-read-octa-requires : tie.Need-read-octa-requires
-read-octa-requires c κs = search needs
-
 returns : tie.Need-returns
 returns c = c .read-octa .ensures ∙ read-octabyte _ _ (c .before .before .pre) (omega arith)
 
 pub octabyte-spec : {M : Type 1} → statement M
-octabyte-spec = tie.close (tie.spec mul-read-octa read-octa-requires returns)
+octabyte-spec = tie.close (tie.spec (λ c. search needs) (λ c κs. search needs) returns)

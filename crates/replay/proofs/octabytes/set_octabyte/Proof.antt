@@ -5,17 +5,8 @@ use Rattle.replay.proofs.Laws.{write-octabyte}
 use Rattle.replay.proofs.octabytes.set_octabyte.Statement.{statement}
 use Rattle.replay.proofs.octabytes.set_octabyte.Tie as tie
 
-mul-write-octa : tie.Need-mul-write-octa
-mul-write-octa c = search needs
-
-write-octa-requires : tie.Need-write-octa-requires
-write-octa-requires c κs = search needs
-
-same-length : tie.Need-same-length
-same-length c = search needs
-
 returns : tie.Need-returns
 returns c = write-octabyte _ _ (c .before .before .before .before .before .pre) (omega arith) _ _ (c .before .before .write-octa .ensures)
 
 pub set-octabyte-spec : {M : Type 1} → statement M
-set-octabyte-spec = tie.close (tie.spec mul-write-octa write-octa-requires same-length returns)
+set-octabyte-spec = tie.close (tie.spec (λ c. search needs) (λ c κs. search needs) (λ c. search needs) returns)

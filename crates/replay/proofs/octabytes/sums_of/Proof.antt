@@ -22,12 +22,6 @@ loop-holds c = (omega arith, refl, refl)
 octabyte-requires : tie.Need-octabyte-requires Inv-loop μ-loop
 octabyte-requires c κs = omega arith
 
-wrapping-add-u64-requires : tie.Need-wrapping-add-u64-requires Inv-loop μ-loop
-wrapping-add-u64-requires c κs = search needs
-
-wrapping-add-u64-requires-2 : tie.Need-wrapping-add-u64-requires-2 Inv-loop μ-loop
-wrapping-add-u64-requires-2 c κs = search needs
-
 add-i : tie.Need-add-i Inv-loop μ-loop
 add-i c = omega arith
 
@@ -59,8 +53,7 @@ sums-of-spec =
     μ-loop
     loop-holds
     octabyte-requires
-    wrapping-add-u64-requires
-    wrapping-add-u64-requires-2
+    (λ c κs. search needs) (λ c κs. search needs)
     add-i
     loop-less
     loop-again

@@ -22,9 +22,6 @@ loop-holds c = (omega arith, omega arith, refl, line-start _ _ _ (omega arith), 
 set-octabyte-requires : tie.Need-set-octabyte-requires Inv-loop μ-loop
 set-octabyte-requires c κs = omega arith
 
-wrapping-add-u64-requires : tie.Need-wrapping-add-u64-requires Inv-loop μ-loop
-wrapping-add-u64-requires c κs = search needs
-
 add-i : tie.Need-add-i Inv-loop μ-loop
 add-i c = omega arith
 
@@ -59,7 +56,7 @@ write-line-spec =
     μ-loop
     loop-holds
     set-octabyte-requires
-    wrapping-add-u64-requires
+    (λ c κs. search needs)
     add-i
     loop-less
     loop-again

@@ -8,9 +8,6 @@ use borrow.Author.Needs.{needs}
 use Rattle.script.proofs.line.is_number.Statement.{statement}
 use Rattle.script.proofs.line.is_number.Tie as tie
 
-sub-n : tie.Need-sub-n
-sub-n c = search needs
-
 returns : tie.Need-returns
 returns c = let a = c .before .before .args in sym (no-number (digitsAt (drop (a .at) (a .line .now))) (λ n. omega (arith, n .some)))
 
@@ -21,9 +18,6 @@ returns-3 : tie.Need-returns-3
 returns-3 c =
     let a = c .before .before .before .before .args in
     sym (is-number (digitsAt (drop (a .at) (a .line .now))) (record { some = omega arith; few = omega arith; lead = λ h. absurd (h (omega arith)) }))
-
-digit-at-requires : tie.Need-digit-at-requires
-digit-at-requires c κs = search needs
 
 returns-4 : tie.Need-returns-4
 returns-4 c =
@@ -38,4 +32,4 @@ returns-5 c =
 
 pub is-number-spec : {M : Type 1} → statement M
 is-number-spec =
-    tie.close (tie.spec sub-n returns returns-2 returns-3 digit-at-requires returns-4 returns-5)
+    tie.close (tie.spec (λ c. search needs) returns returns-2 returns-3 (λ c κs. search needs) returns-4 returns-5)

@@ -39,9 +39,6 @@ loop-again c =
     let a = at-loop .before .before .before .args in
     (omega arith, at-loop .loop .inv .1, turned (a .pattern .now) (a .line .now) (at-loop .loop .i) (at-loop .loop .m) _ (omega arith) (at-loop .loop .inv .2) (c .past .ensures))
 
-ended-requires : tie.Need-ended-requires Inv-loop μ-loop
-ended-requires c κs = search needs
-
 returns : tie.Need-returns Inv-loop μ-loop
 returns c =
     let at-loop = c .before .before in
@@ -60,5 +57,5 @@ matched-spec =
     add-i
     loop-less
     loop-again
-    ended-requires
+    (λ c κs. search needs)
     returns)

@@ -9,29 +9,17 @@ use borrow.Author.Needs.{needs}
 use Rattle.script.proofs.line.read.Statement.{statement}
 use Rattle.script.proofs.line.read.Tie as tie
 
-slice-aggregate-matched : tie.Need-slice-aggregate-matched
-slice-aggregate-matched c = search needs
-
 matched-requires : tie.Need-matched-requires
 unfolding registerLine codes
 matched-requires c κs = omega (arith, register-marks)
-
-register-requires : tie.Need-register-requires
-register-requires c κs = search needs
 
 returns : tie.Need-returns
 unfolding registerLine codes
 returns c = c .register .ensures ∙ by-register _ _ (c .before .before .matched .ensures) (c .before .if1 .taken)
 
-slice-aggregate-matched-2 : tie.Need-slice-aggregate-matched-2
-slice-aggregate-matched-2 c = search needs
-
 matched-requires-2 : tie.Need-matched-requires-2
 unfolding specialLine codes
 matched-requires-2 c κs = omega (arith, special-marks)
-
-special-requires : tie.Need-special-requires
-special-requires c κs = search needs
 
 not-register : (c : tie.Else1) → matched registerLine (c .before .before .before .before .args .line .now) ≡ none
 unfolding registerLine codes
@@ -41,15 +29,9 @@ returns-2 : tie.Need-returns-2
 unfolding specialLine codes
 returns-2 c = c .special .ensures ∙ by-special _ _ (not-register (c .before .before .before .before)) (c .before .before .matched2 .ensures) (c .before .if2 .taken)
 
-slice-aggregate-matched-3 : tie.Need-slice-aggregate-matched-3
-slice-aggregate-matched-3 c = search needs
-
 matched-requires-3 : tie.Need-matched-requires-3
 unfolding stepLine codes
 matched-requires-3 c κs = omega (arith, step-marks)
-
-step-requires : tie.Need-step-requires
-step-requires c κs = search needs
 
 not-special : (c : tie.Else2) → matched specialLine (c .before .before .before .before .before .before .before .args .line .now) ≡ none
 unfolding specialLine codes
@@ -71,16 +53,16 @@ pub read-spec : {M : Type 1} → statement M
 read-spec =
     tie.close
     (tie.spec
-    slice-aggregate-matched
+    (λ c. search needs)
     matched-requires
-    register-requires
+    (λ c κs. search needs)
     returns
-    slice-aggregate-matched-2
+    (λ c. search needs)
     matched-requires-2
-    special-requires
+    (λ c κs. search needs)
     returns-2
-    slice-aggregate-matched-3
+    (λ c. search needs)
     matched-requires-3
-    step-requires
+    (λ c κs. search needs)
     returns-3
     returns-4)

@@ -5,15 +5,6 @@ use Rattle.script.specs.Line.{registerForm}
 use Rattle.script.proofs.line.register.Statement.{statement}
 use Rattle.script.proofs.line.register.Tie as tie
 
-array-read-index : tie.Need-array-read-index
-array-read-index c = search needs
-
-cast-t8 : tie.Need-cast-t8
-cast-t8 c = search needs
-
-array-read-t11 : tie.Need-array-read-t11
-array-read-t11 c = search needs
-
 returns : tie.Need-returns
 unfolding registerForm
 returns c = rw (lt-ltb _ 256 (c .if1 .taken))
@@ -23,4 +14,4 @@ unfolding registerForm
 returns-2 c = rw (le-ltb _ 256 (c .if1 .left))
 
 pub register-spec : {M : Type 1} → statement M
-register-spec = tie.close (tie.spec array-read-index cast-t8 array-read-t11 returns returns-2)
+register-spec = tie.close (tie.spec (λ c. search needs) (λ c. search needs) (λ c. search needs) returns returns-2)

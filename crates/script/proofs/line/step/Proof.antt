@@ -6,30 +6,6 @@ use borrow.Author.Needs.{needs}
 use Rattle.script.proofs.line.step.Statement.{statement}
 use Rattle.script.proofs.line.step.Tie as tie
 
-array-read-op : tie.Need-array-read-op
-array-read-op c = search needs
-
-array-read-x : tie.Need-array-read-x
-array-read-x c = search needs
-
-array-read-y : tie.Need-array-read-y
-array-read-y c = search needs
-
-array-read-z : tie.Need-array-read-z
-array-read-z c = search needs
-
-cast-t20 : tie.Need-cast-t20
-cast-t20 c = search needs
-
-cast-t21 : tie.Need-cast-t21
-cast-t21 c = search needs
-
-cast-t22 : tie.Need-cast-t22
-cast-t22 c = search needs
-
-cast-t23 : tie.Need-cast-t23
-cast-t23 c = search needs
-
 returns : tie.Need-returns
 unfolding stepForm
 returns c = rw (lt-ltb _ 256 (c .before .before .before .if1 .taken), c .before .before .if2 .taken, c .before .if3 .taken, c .if4 .taken)
@@ -46,13 +22,7 @@ pub step-spec : {M : Type 1} → statement M
 step-spec =
     tie.close
     (tie.spec
-    array-read-op
-    array-read-x
-    array-read-y
-    array-read-z
-    cast-t20
-    cast-t21
-    cast-t22
-    cast-t23
+    (λ c. search needs) (λ c. search needs) (λ c. search needs) (λ c. search needs) (λ c. search needs) (λ c. search needs)
+    (λ c. search needs) (λ c. search needs)
     returns
     returns-2)

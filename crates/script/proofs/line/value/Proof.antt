@@ -27,9 +27,6 @@ mul-v c =
     let l = c .before .before .before .args .line .now in
     omega (arith, number-fits (c .before .loop .v) l i (digit-here l i (omega arith)))
 
-digit-at-requires : tie.Need-digit-at-requires Inv-loop μ-loop
-digit-at-requires c κs = search needs
-
 add-v : tie.Need-add-v Inv-loop μ-loop
 add-v c =
     let i = c .before .before .loop .i in
@@ -60,7 +57,7 @@ value-spec =
     μ-loop
     loop-holds
     mul-v
-    digit-at-requires
+    (λ c κs. search needs)
     add-v
     add-i
     loop-less

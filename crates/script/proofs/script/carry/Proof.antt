@@ -39,12 +39,6 @@ within c =
 loop-holds : tie.Need-loop-holds Inv-loop μ-loop
 loop-holds c = (omega arith, omega arith, refl, refl, refl, leads-whole _ _ _)
 
-line-end-requires : tie.Need-line-end-requires Inv-loop μ-loop
-line-end-requires c κs = search needs
-
-put-bad-requires : tie.Need-put-bad-requires Inv-loop μ-loop
-put-bad-requires c κs = search needs
-
 same-length : tie.Need-same-length Inv-loop μ-loop
 same-length c = c .before .before .put-bad .kept .0 ∙ c .before .before .before .before .before .before .before .loop .inv .2
 
@@ -75,9 +69,6 @@ part-read-start c = within (c .before) .0
 
 part-read-end : tie.Need-part-read-end Inv-loop μ-loop
 part-read-end c = within (c .before) .1
-
-read-requires : tie.Need-read-requires Inv-loop μ-loop
-read-requires c κs = search needs
 
 turn-requires : tie.Need-turn-requires Inv-loop μ-loop
 turn-requires c κs = small (c .before .before .before .before .before .before .before .before)
@@ -155,8 +146,7 @@ carry-spec =
     Inv-loop
     μ-loop
     loop-holds
-    line-end-requires
-    put-bad-requires
+    (λ c κs. search needs) (λ c κs. search needs)
     same-length
     same-length-2
     same-length-3
@@ -164,7 +154,7 @@ carry-spec =
     sub-read
     part-read-start
     part-read-end
-    read-requires
+    (λ c κs. search needs)
     turn-requires
     same-length-4
     same-length-5

@@ -8,31 +8,10 @@ use Rattle.script.proofs.Carries.{start-is, prints-long, prints-carried
 use Rattle.script.proofs.script.run.Statement.{statement}
 use Rattle.script.proofs.script.run.Tie as tie
 
-put-bad-requires : tie.Need-put-bad-requires
-put-bad-requires c κs = search needs
-
-same-length : tie.Need-same-length
-same-length c = search needs
-
 returns : tie.Need-returns
 returns c =
     let printing = c .before .before in
     prints-long (printing .before .before .before .before .before .args .script .now) _ _ _ (printing .before .before .if1 .taken) (wrote-bad _ _ _ _ _ (omega arith) (printing .put-bad .ensures))
-
-initialize-requires : tie.Need-initialize-requires
-initialize-requires c κs = search needs
-
-slice-aggregate-carry : tie.Need-slice-aggregate-carry
-slice-aggregate-carry c = search needs
-
-slice-aggregate-carry-2 : tie.Need-slice-aggregate-carry-2
-slice-aggregate-carry-2 c = search needs
-
-carry-requires : tie.Need-carry-requires
-carry-requires c κs = search needs
-
-same-length-2 : tie.Need-same-length-2
-same-length-2 c = search needs
 
 returns-2 : tie.Need-returns-2
 unfolding windows
@@ -46,12 +25,7 @@ pub run-spec : {M : Type 1} → statement M
 run-spec =
     tie.close
     (tie.spec
-    put-bad-requires
-    same-length
+    (λ c κs. search needs) (λ c. search needs)
     returns
-    initialize-requires
-    slice-aggregate-carry
-    slice-aggregate-carry-2
-    carry-requires
-    same-length-2
+    (λ c κs. search needs) (λ c. search needs) (λ c. search needs) (λ c κs. search needs) (λ c. search needs)
     returns-2)

@@ -8,24 +8,15 @@ use Rattle.script.proofs.Carries.{special-out}
 use Rattle.script.proofs.script.set_special.Statement.{statement}
 use Rattle.script.proofs.script.set_special.Tie as tie
 
-cast-k : tie.Need-cast-k
-cast-k c = search needs
-
 returns : tie.Need-returns
 returns c =
     let good = c .before .before .good in
     let h : length (c .before .before .args .state .special) ≡ 32 = search needs in
     special-out (c .before .before .args .state) _ _ (omega arith)
 
-mul-special : tie.Need-mul-special
-mul-special c = search needs
-
-array-write-special : tie.Need-array-write-special
-array-write-special c = search needs
-
 returns-2 : tie.Need-returns-2
 unfolding withSpecial
 returns-2 c = refl
 
 pub set-special-spec : {M : Type 1} → statement M
-set-special-spec = tie.close (tie.spec cast-k returns mul-special array-write-special returns-2)
+set-special-spec = tie.close (tie.spec (λ c. search needs) returns (λ c. search needs) (λ c. search needs) returns-2)

@@ -4,21 +4,6 @@ use Rattle.script.proofs.Carries.{leaves-step}
 use Rattle.script.proofs.script.step.Statement.{statement}
 use Rattle.script.proofs.script.step.Tie as tie
 
-step-requires : tie.Need-step-requires
-step-requires c κs = search needs
-
-put-step-requires : tie.Need-put-step-requires
-put-step-requires c κs = search needs
-
-same-length : tie.Need-same-length
-same-length c = search needs
-
-same-length-2 : tie.Need-same-length-2
-same-length-2 c = search needs
-
-same-length-3 : tie.Need-same-length-3
-same-length-3 c = search needs
-
 returns : tie.Need-returns
 returns c n =
     let printing = c .before .before in
@@ -30,4 +15,4 @@ returns c n =
 pub step-spec : {M : Type 1} → statement M
 step-spec =
     tie.close
-    (tie.spec step-requires put-step-requires same-length same-length-2 same-length-3 returns)
+    (tie.spec (λ c κs. search needs) (λ c κs. search needs) (λ c. search needs) (λ c. search needs) (λ c. search needs) returns)

@@ -5,29 +5,8 @@ use Rattle.script.proofs.Carries.{leaves-register, leaves-special, leav
 use Rattle.script.proofs.script.turn.Statement.{statement}
 use Rattle.script.proofs.script.turn.Tie as tie
 
-enum-known-form : tie.Need-enum-known-form
-enum-known-form c = search needs
-
-set-register-requires : tie.Need-set-register-requires
-set-register-requires c κs = search needs
-
-enum-known-form-2 : tie.Need-enum-known-form-2
-enum-known-form-2 c = search needs
-
-set-special-requires : tie.Need-set-special-requires
-set-special-requires c κs = search needs
-
-enum-known-form-3 : tie.Need-enum-known-form-3
-enum-known-form-3 c = search needs
-
-step-requires : tie.Need-step-requires
-step-requires c κs = search needs
-
 enum-told : tie.Need-enum-told
 enum-told c = search needs
-
-put-bad-requires : tie.Need-put-bad-requires
-put-bad-requires c κs = search needs
 
 returns : tie.Need-returns
 returns c =
@@ -39,23 +18,11 @@ returns-2 c =
     let told = c .before .before in
     leaves-special _ _ _ _ _ _ _ (told .form2 .given .1) _ (c .set-special .ensures)
 
-same-length : tie.Need-same-length
-same-length c = search needs
-
-same-length-2 : tie.Need-same-length-2
-same-length-2 c = search needs
-
-same-length-3 : tie.Need-same-length-3
-same-length-3 c = search needs
-
 returns-3 : tie.Need-returns-3
 returns-3 c =
     let stepping = c .before .before .before .before .before .before in
     let told = stepping .before .before .before .before .before in
     leaves-same _ _ _ _ _ _ _ (told .form3 .given .1) _ _ _ _ _ (stepping .step .ensures _)
-
-same-length-4 : tie.Need-same-length-4
-same-length-4 c = search needs
 
 returns-4 : tie.Need-returns-4
 returns-4 c =
@@ -66,19 +33,13 @@ pub turn-spec : {M : Type 1} → statement M
 turn-spec =
     tie.close
     (tie.spec
-    enum-known-form
-    set-register-requires
-    enum-known-form-2
-    set-special-requires
-    enum-known-form-3
-    step-requires
+    (λ c. search needs) (λ c κs. search needs) (λ c. search needs) (λ c κs. search needs) (λ c. search needs)
+    (λ c κs. search needs)
     enum-told
-    put-bad-requires
+    (λ c κs. search needs)
     returns
     returns-2
-    same-length
-    same-length-2
-    same-length-3
+    (λ c. search needs) (λ c. search needs) (λ c. search needs)
     returns-3
-    same-length-4
+    (λ c. search needs)
     returns-4)

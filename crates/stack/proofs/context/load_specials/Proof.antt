@@ -23,12 +23,6 @@ loop-holds c = (omega arith, refl)
 mul-wrapping-add : tie.Need-mul-wrapping-add Inv-loop μ-loop
 mul-wrapping-add c = omega arith
 
-wrapping-add-requires : tie.Need-wrapping-add-requires Inv-loop μ-loop
-wrapping-add-requires c κs = search needs
-
-read-octa-requires : tie.Need-read-octa-requires Inv-loop μ-loop
-read-octa-requires c κs = search needs
-
 save-special-requires : tie.Need-save-special-requires Inv-loop μ-loop
 save-special-requires c κs = omega arith
 
@@ -64,8 +58,7 @@ load-specials-spec =
     μ-loop
     loop-holds
     mul-wrapping-add
-    wrapping-add-requires
-    read-octa-requires
+    (λ c κs. search needs) (λ c κs. search needs)
     save-special-requires
     mul-special
     element-write-special

@@ -21,20 +21,8 @@ judged c pc halt = granted _ _ (c .before .admissible .ensures (c .before .befor
 bounds : (c : tie.Else1) → Ranged (c .before .before .before .before .before .args .special .now)
 bounds c = ranged _ _ 0 0 _ _ (judged c 0 0)
 
-admissible-requires : tie.Need-admissible-requires
-admissible-requires c κs = search needs
-
 returns : tie.Need-returns
 returns c = λ pc. save-state _ _ _ (denied _ _ (c .before .admissible .ensures _ pc _) (c .if1 .taken))
-
-element-copy-out-rg : tie.Need-element-copy-out-rg
-element-copy-out-rg c = search needs
-
-element-copy-out-rl : tie.Need-element-copy-out-rl
-element-copy-out-rl c = search needs
-
-element-copy-out-ro : tie.Need-element-copy-out-ro
-element-copy-out-ro c = search needs
 
 returns-2 : tie.Need-returns-2
 unfolding halted
@@ -43,20 +31,8 @@ returns-2 c = λ pc. save-local _ _ _ (judged (c .before .before .before .before
 add-run-refusal : tie.Need-add-run-refusal
 add-run-refusal c = let e = bounds (c .before .before .before .before .before .before) in omega arith
 
-sub-run-refusal : tie.Need-sub-run-refusal
-sub-run-refusal c = search needs
-
-run-refusal-requires : tie.Need-run-refusal-requires
-run-refusal-requires c κs = search needs
-
 lost-requires : tie.Need-lost-requires
 lost-requires c κs = lost-by _ _ _ _ (c .before .run-refusal .ensures) (c .if3 .taken)
-
-same-length : tie.Need-same-length
-same-length c = search needs
-
-same-length-2 : tie.Need-same-length-2
-same-length-2 c = search needs
 
 returns-3 : tie.Need-returns-3
 returns-3 c =
@@ -64,20 +40,11 @@ returns-3 c =
     let run = c .before .before .run-refusal in
     save-missing _ _ _ (judged (c .before .before .before .before .before .before .before .before .before) pc _) (c .before .before .before .before .before .if2 .left) (λ z. c .before .if3 .taken (run .ensures ∙ z)) _ (missing-by _ _ _ _ (run .ensures) (c .before .if3 .taken) _ (c .lost .ensures))
 
-counted-requires : tie.Need-counted-requires
-counted-requires c κs = search needs
-
 put-away-requires : tie.Need-put-away-requires
 put-away-requires c κs = bounds (c .before .before .before .before .before .before .before .before .before .before .before .before .before .before .before)
 
 depart-requires : tie.Need-depart-requires
 depart-requires c κs = bounds (c .before .before .before .before .before .before .before .before .before .before .before .before .before .before .before .before .before .before .before .before .before)
-
-same-length-3 : tie.Need-same-length-3
-same-length-3 c = search needs
-
-same-length-4 : tie.Need-same-length-4
-same-length-4 c = search needs
 
 returns-4 : tie.Need-returns-4
 returns-4 c =
@@ -90,22 +57,17 @@ pub save-context-judged-spec : {M : Type 1} → statement M
 save-context-judged-spec =
     tie.close
     (tie.spec
-    admissible-requires
+    (λ c κs. search needs)
     returns
-    element-copy-out-rg
-    element-copy-out-rl
-    element-copy-out-ro
+    (λ c. search needs) (λ c. search needs) (λ c. search needs)
     returns-2
     add-run-refusal
-    sub-run-refusal
-    run-refusal-requires
+    (λ c. search needs) (λ c κs. search needs)
     lost-requires
-    same-length
-    same-length-2
+    (λ c. search needs) (λ c. search needs)
     returns-3
-    counted-requires
+    (λ c κs. search needs)
     put-away-requires
     depart-requires
-    same-length-3
-    same-length-4
+    (λ c. search needs) (λ c. search needs)
     returns-4)

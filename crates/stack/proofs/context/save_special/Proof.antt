@@ -10,11 +10,8 @@ use Rattle.stack.proofs.context.save_special.Tie as tie
 returns : tie.Need-returns
 returns c = (sym (savedSpecial-low _ (c .if1 .taken)), omega arith)
 
-add-result : tie.Need-add-result
-add-result c = search needs
-
 returns-2 : tie.Need-returns-2
 returns-2 c = (sym (savedSpecial-up _ (c .if1 .left)), omega arith)
 
 pub save-special-spec : {M : Type 1} → statement M
-save-special-spec = tie.close (tie.spec returns add-result returns-2)
+save-special-spec = tie.close (tie.spec returns (λ c. search needs) returns-2)

@@ -10,57 +10,6 @@ use Rattle.stack.proofs.context.store_context.Tie as tie
 bounds : (c : tie.Start) → Ranged (c .args .special .now)
 bounds c = c .pre
 
-element-copy-out-ro : tie.Need-element-copy-out-ro
-element-copy-out-ro c = search needs
-
-element-copy-out-rl : tie.Need-element-copy-out-rl
-element-copy-out-rl c = search needs
-
-element-copy-out-rg : tie.Need-element-copy-out-rg
-element-copy-out-rg c = search needs
-
-element-copy-out-ra : tie.Need-element-copy-out-ra
-element-copy-out-ra c = search needs
-
-store-run-requires : tie.Need-store-run-requires
-store-run-requires c κs = search needs
-
-mul-wrapping-add : tie.Need-mul-wrapping-add
-mul-wrapping-add c = search needs
-
-wrapping-add-requires : tie.Need-wrapping-add-requires
-wrapping-add-requires c κs = search needs
-
-write-octa-requires : tie.Need-write-octa-requires
-write-octa-requires c κs = search needs
-
-add-wrapping-add : tie.Need-add-wrapping-add
-add-wrapping-add c = search needs
-
-mul-wrapping-add-2 : tie.Need-mul-wrapping-add-2
-mul-wrapping-add-2 c = search needs
-
-wrapping-add-requires-2 : tie.Need-wrapping-add-requires-2
-wrapping-add-requires-2 c κs = search needs
-
-store-run-requires-2 : tie.Need-store-run-requires-2
-store-run-requires-2 c κs = search needs
-
-add-wrapping-add-2 : tie.Need-add-wrapping-add-2
-add-wrapping-add-2 c = search needs
-
-sub-wrapping-add : tie.Need-sub-wrapping-add
-sub-wrapping-add c = search needs
-
-mul-wrapping-add-3 : tie.Need-mul-wrapping-add-3
-mul-wrapping-add-3 c = search needs
-
-wrapping-add-requires-3 : tie.Need-wrapping-add-requires-3
-wrapping-add-requires-3 c κs = search needs
-
-store-specials-requires : tie.Need-store-specials-requires
-store-specials-requires c κs = search needs
-
 add-wrapping-add-3 : tie.Need-add-wrapping-add-3
 add-wrapping-add-3 c = omega (arith, bounds (c .before .before .before .before .before .before .before .before .before .before .before .before .before .before .before .before .before .before .before .before .before .before .before .before .before .before .before .before .before .before .before .before .before .before .before .before .before) .l-g, bounds (c .before .before .before .before .before .before .before .before .before .before .before .before .before .before .before .before .before .before .before .before .before .before .before .before .before .before .before .before .before .before .before .before .before .before .before .before .before) .g-high)
 
@@ -70,17 +19,11 @@ sub-wrapping-add-2 c = omega (arith, bounds (c .before .before .before .before .
 mul-wrapping-add-4 : tie.Need-mul-wrapping-add-4
 mul-wrapping-add-4 c = omega (arith, bounds (c .before .before .before .before .before .before .before .before .before .before .before .before .before .before .before .before .before .before .before .before .before .before .before .before .before .before .before .before .before .before .before .before .before .before .before .before .before) .l-g, bounds (c .before .before .before .before .before .before .before .before .before .before .before .before .before .before .before .before .before .before .before .before .before .before .before .before .before .before .before .before .before .before .before .before .before .before .before .before .before) .g-high)
 
-wrapping-add-requires-4 : tie.Need-wrapping-add-requires-4
-wrapping-add-requires-4 c κs = search needs
-
 mul-write-octa : tie.Need-mul-write-octa
 mul-write-octa c = omega (arith, bounds (c .before .before .before .before .before .before .before .before .before .before .before .before .before .before .before .before .before .before .before .before .before .before .before .before .before .before .before .before .before .before .before .before .before .before .before .before .before .before .before .before) .g-high)
 
 add-write-octa : tie.Need-add-write-octa
 add-write-octa c = omega (arith, bounds (c .before .before .before .before .before .before .before .before .before .before .before .before .before .before .before .before .before .before .before .before .before .before .before .before .before .before .before .before .before .before .before .before .before .before .before .before .before .before .before .before) .g-high, bounds (c .before .before .before .before .before .before .before .before .before .before .before .before .before .before .before .before .before .before .before .before .before .before .before .before .before .before .before .before .before .before .before .before .before .before .before .before .before .before .before .before) .a-high)
-
-write-octa-requires-2 : tie.Need-write-octa-requires-2
-write-octa-requires-2 c κs = search needs
 
 same-length : tie.Need-same-length
 same-length c =
@@ -106,30 +49,17 @@ pub store-context-spec : {M : Type 1} → statement M
 store-context-spec =
     tie.close
     (tie.spec
-    element-copy-out-ro
-    element-copy-out-rl
-    element-copy-out-rg
-    element-copy-out-ra
-    store-run-requires
-    mul-wrapping-add
-    wrapping-add-requires
-    write-octa-requires
-    add-wrapping-add
-    mul-wrapping-add-2
-    wrapping-add-requires-2
-    store-run-requires-2
-    add-wrapping-add-2
-    sub-wrapping-add
-    mul-wrapping-add-3
-    wrapping-add-requires-3
-    store-specials-requires
+    (λ c. search needs) (λ c. search needs) (λ c. search needs) (λ c. search needs) (λ c κs. search needs) (λ c. search needs)
+    (λ c κs. search needs) (λ c κs. search needs) (λ c. search needs) (λ c. search needs) (λ c κs. search needs)
+    (λ c κs. search needs) (λ c. search needs) (λ c. search needs) (λ c. search needs) (λ c κs. search needs)
+    (λ c κs. search needs)
     add-wrapping-add-3
     sub-wrapping-add-2
     mul-wrapping-add-4
-    wrapping-add-requires-4
+    (λ c κs. search needs)
     mul-write-octa
     add-write-octa
-    write-octa-requires-2
+    (λ c κs. search needs)
     same-length
     same-length-2
     returns)

@@ -19,12 +19,6 @@ all t w u v h e = rw h at e
 none : (t : Bool) (w u v : Window) → t ≡ false → w ≡ cond t u v → w ≡ v
 none t w u v h e = rw h at e
 
-store-held-requires : tie.Need-store-held-requires
-store-held-requires c κs = search needs
-
-same-length : tie.Need-same-length
-same-length c = search needs
-
 returns : tie.Need-returns
 unfolding writtenRangeBy
 returns c =
@@ -35,15 +29,6 @@ returns c =
     let held = held-range _ _ _ _ is in
     store-b m (a .addr) (a .from) (a .to) 1 _ (a .general .now) (whole-b m (a .addr) (a .from) (a .to) (omega arith) (held .0) (held .2)) (held .2) refl _ (all _ _ _ _ is (call .store-held .ensures .1))
     ∙ ap (λ (n : ℕ). writtenRun m (a .addr) n (λ (k : ℕ). getD (a .general .now) (a .from + k) 0)) (omega (arith, held .1))
-
-store-range-requires : tie.Need-store-range-requires
-store-range-requires c κs = search needs
-
-same-length-2 : tie.Need-same-length-2
-same-length-2 c = search needs
-
-same-length-3 : tie.Need-same-length-3
-same-length-3 c = search needs
 
 returns-2 : tie.Need-returns-2
 returns-2 c =
@@ -59,10 +44,7 @@ pub store-run-spec : {M : Type 1} → statement M
 store-run-spec =
     tie.close
     (tie.spec
-    store-held-requires
-    same-length
+    (λ c κs. search needs) (λ c. search needs)
     returns
-    store-range-requires
-    same-length-2
-    same-length-3
+    (λ c κs. search needs) (λ c. search needs) (λ c. search needs)
     returns-2)

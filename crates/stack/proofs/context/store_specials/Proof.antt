@@ -25,9 +25,6 @@ loop-holds c = (omega arith, run-none both _ _ _ _ (omega arith), refl, refl)
 mul-wrapping-add : tie.Need-mul-wrapping-add Inv-loop μ-loop
 mul-wrapping-add c = omega arith
 
-wrapping-add-requires : tie.Need-wrapping-add-requires Inv-loop μ-loop
-wrapping-add-requires c κs = search needs
-
 save-special-requires : tie.Need-save-special-requires Inv-loop μ-loop
 save-special-requires c κs = omega arith
 
@@ -36,9 +33,6 @@ mul-v c = omega (arith, c .save-special .ensures .1)
 
 element-copy-out-v : tie.Need-element-copy-out-v Inv-loop μ-loop
 element-copy-out-v c = omega (arith, c .save-special .ensures .1)
-
-write-octa-requires : tie.Need-write-octa-requires Inv-loop μ-loop
-write-octa-requires c κs = search needs
 
 add-i : tie.Need-add-i Inv-loop μ-loop
 add-i c = omega arith
@@ -81,11 +75,11 @@ store-specials-spec =
     μ-loop
     loop-holds
     mul-wrapping-add
-    wrapping-add-requires
+    (λ c κs. search needs)
     save-special-requires
     mul-v
     element-copy-out-v
-    write-octa-requires
+    (λ c κs. search needs)
     add-i
     loop-less
     loop-again

@@ -6,20 +6,8 @@ use borrow.Author.Needs.{needs}
 use Rattle.stack.proofs.context.unsave_context_judged.Statement.{statement}
 use Rattle.stack.proofs.context.unsave_context_judged.Tie as tie
 
-locate-requires : tie.Need-locate-requires
-locate-requires c κs = search needs
-
-enum-known-located : tie.Need-enum-known-located
-enum-known-located c = search needs
-
 arrive-requires : tie.Need-arrive-requires
 arrive-requires c κs = let e = stands-at _ _ _ (c .before .before .before .before .before .locate .ensures) _ (c .before .before .before .located .given .1) in (e .g-high, e .l-g)
-
-enum-known-located-2 : tie.Need-enum-known-located-2
-enum-known-located-2 c = search needs
-
-enum-known-located-3 : tie.Need-enum-known-located-3
-enum-known-located-3 c = search needs
 
 returns : tie.Need-returns
 returns c = λ pc marks mask. unsave-done _ _ _ _ (c .before .before .before .before .before .before .locate .ensures) _ (c .before .before .before .before .located .given .1) _ (c .arrive .ensures pc _ _ _)
@@ -35,11 +23,9 @@ pub unsave-context-judged-spec : {M : Type 1} → statement M
 unsave-context-judged-spec =
     tie.close
     (tie.spec
-    locate-requires
-    enum-known-located
+    (λ c κs. search needs) (λ c. search needs)
     arrive-requires
-    enum-known-located-2
-    enum-known-located-3
+    (λ c. search needs) (λ c. search needs)
     returns
     returns-2
     returns-3)

@@ -6,9 +6,6 @@ use borrow.Author.Needs.{needs}
 use Rattle.stack.proofs.frame.count_of.Statement.{statement}
 use Rattle.stack.proofs.frame.count_of.Tie as tie
 
-add-result : tie.Need-add-result
-add-result c = search needs
-
 returns : tie.Need-returns
 unfolding countOf
 returns c = (λ s l. rw (l, lt-ltb _ _ (c .if1 .taken)), omega arith)
@@ -18,4 +15,4 @@ unfolding countOf
 returns-2 c = (λ s l. rw (l, le-ltb _ _ (c .if1 .left)), omega arith)
 
 pub count-of-spec : {M : Type 1} → statement M
-count-of-spec = tie.close (tie.spec add-result returns returns-2)
+count-of-spec = tie.close (tie.spec (λ c. search needs) returns returns-2)

@@ -5,9 +5,6 @@ use borrow.Author.Needs.{needs}
 use Rattle.stack.proofs.frame.is_misplaced.Statement.{statement}
 use Rattle.stack.proofs.frame.is_misplaced.Tie as tie
 
-is-negative-requires : tie.Need-is-negative-requires
-is-negative-requires c κs = search needs
-
 returns : tie.Need-returns
 returns c = λ s e. c .is-negative .ensures ∙ misplaced-negative s _ e (c .before .if1 .taken)
 
@@ -15,4 +12,4 @@ returns-2 : tie.Need-returns-2
 returns-2 c = λ s e. misplaced-odd s _ e (c .if1 .left)
 
 pub is-misplaced-spec : {M : Type 1} → statement M
-is-misplaced-spec = tie.close (tie.spec is-negative-requires returns returns-2)
+is-misplaced-spec = tie.close (tie.spec (λ c κs. search needs) returns returns-2)

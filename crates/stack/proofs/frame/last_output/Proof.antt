@@ -14,19 +14,10 @@ returns-2 : tie.Need-returns-2
 unfolding lastOutput
 returns-2 c = λ special pc halt marks mask l. rw (l, le-ltb _ _ (c .before .if1 .left), eq-eqb _ _ (c .if2 .taken))
 
-sub-i : tie.Need-sub-i
-sub-i c = search needs
-
-mul-result : tie.Need-mul-result
-mul-result c = search needs
-
-element-copy-out-result : tie.Need-element-copy-out-result
-element-copy-out-result c = search needs
-
 returns-3 : tie.Need-returns-3
 unfolding lastOutput
 returns-3 c = λ special pc halt marks mask l. rw (l, le-ltb _ _ (c .before .before .if1 .left), ne-eqb _ _ (c .before .if2 .left)) (omega arith)
 
 pub last-output-spec : {M : Type 1} → statement M
 last-output-spec =
-    tie.close (tie.spec returns returns-2 sub-i mul-result element-copy-out-result returns-3)
+    tie.close (tie.spec returns returns-2 (λ c. search needs) (λ c. search needs) (λ c. search needs) returns-3)

@@ -10,33 +10,6 @@ use borrow.Author.Needs.{needs}
 use Rattle.stack.proofs.frame.leave.Statement.{statement}
 use Rattle.stack.proofs.frame.leave.Tie as tie
 
-element-copy-out-ro : tie.Need-element-copy-out-ro
-element-copy-out-ro c = search needs
-
-element-copy-out-rg : tie.Need-element-copy-out-rg
-element-copy-out-rg c = search needs
-
-element-copy-out-rl : tie.Need-element-copy-out-rl
-element-copy-out-rl c = search needs
-
-add-wrapping-sub : tie.Need-add-wrapping-sub
-add-wrapping-sub c = search needs
-
-mul-wrapping-sub : tie.Need-mul-wrapping-sub
-mul-wrapping-sub c = search needs
-
-wrapping-sub-requires : tie.Need-wrapping-sub-requires
-wrapping-sub-requires c κs = search needs
-
-count-of-requires : tie.Need-count-of-requires
-count-of-requires c κs = search needs
-
-add-least : tie.Need-add-least
-add-least c = search needs
-
-least-requires : tie.Need-least-requires
-least-requires c κs = search needs
-
 restore-requires : tie.Need-restore-requires
 restore-requires c κs =
     let start = c .before .before .before .before .before .before .before .before .before in
@@ -47,12 +20,6 @@ restore-requires c κs =
       frame-read (lent (a .at) (a .a .now) (a .b .now)) (a .special .now) (a .x) (a .h) _ _ _ (start .pre .0) (start .pre .2) (start .pre .1)
           (c .before .before .before .wrapping-sub .ensures) (c .before .before .count-of .ensures .0) (least .ensures) (start .pre .3),
     )
-
-clear-range-requires : tie.Need-clear-range-requires
-clear-range-requires c κs = search needs
-
-set-frame-requires : tie.Need-set-frame-requires
-set-frame-requires c κs = search needs
 
 -- the special registers, once the others are there
 specials : (g l m : List ℕ) (pc halt marks mask : ℕ) (t : State) → l ≡ m → made g m pc halt marks mask ≡ t → made g l pc halt marks mask ≡ t
@@ -79,16 +46,8 @@ pub leave-spec : {M : Type 1} → statement M
 leave-spec =
     tie.close
     (tie.spec
-    element-copy-out-ro
-    element-copy-out-rg
-    element-copy-out-rl
-    add-wrapping-sub
-    mul-wrapping-sub
-    wrapping-sub-requires
-    count-of-requires
-    add-least
-    least-requires
+    (λ c. search needs) (λ c. search needs) (λ c. search needs) (λ c. search needs) (λ c. search needs) (λ c κs. search needs)
+    (λ c κs. search needs) (λ c. search needs) (λ c κs. search needs)
     restore-requires
-    clear-range-requires
-    set-frame-requires
+    (λ c κs. search needs) (λ c κs. search needs)
     returns)

@@ -9,11 +9,5 @@ use Rattle.stack.proofs.frame.load_locals.Tie as tie
 returns : tie.Need-returns
 returns c = sym (over-none _ _ _ _ (omega arith))
 
-load-range-requires : tie.Need-load-range-requires
-load-range-requires c κs = search needs
-
-returns-2 : tie.Need-returns-2
-returns-2 c = search needs
-
 pub load-locals-spec : {M : Type 1} → statement M
-load-locals-spec = tie.close (tie.spec returns load-range-requires returns-2)
+load-locals-spec = tie.close (tie.spec returns (λ c κs. search needs) (λ c. search needs))

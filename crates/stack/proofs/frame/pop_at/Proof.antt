@@ -8,21 +8,6 @@ use borrow.Author.Needs.{needs}
 use Rattle.stack.proofs.frame.pop_at.Statement.{statement}
 use Rattle.stack.proofs.frame.pop_at.Tie as tie
 
-element-copy-out-ro : tie.Need-element-copy-out-ro
-element-copy-out-ro c = search needs
-
-element-copy-out-rg : tie.Need-element-copy-out-rg
-element-copy-out-rg c = search needs
-
-element-copy-out-rj : tie.Need-element-copy-out-rj
-element-copy-out-rj c = search needs
-
-wrapping-sub-requires : tie.Need-wrapping-sub-requires
-wrapping-sub-requires c κs = search needs
-
-read-octa-requires : tie.Need-read-octa-requires
-read-octa-requires c κs = search needs
-
 returns : tie.Need-returns
 returns c =
     λ pc halt marks mask m.
@@ -35,21 +20,6 @@ returns c =
     let s = made (a .general .now) l pc halt marks mask in
     let good = held-placed s (start .pre .0) in
     pop-lacks w s (a .x) (a .yz) good (start .pre .1 .above) m (hole-lost w l (start .pre .1) _ (hole .ensures) _ (found .ensures .1) (c .if1 .taken))
-
-add-wrapping-sub : tie.Need-add-wrapping-sub
-add-wrapping-sub c = search needs
-
-mul-wrapping-sub : tie.Need-mul-wrapping-sub
-mul-wrapping-sub c = search needs
-
-wrapping-sub-requires-2 : tie.Need-wrapping-sub-requires-2
-wrapping-sub-requires-2 c κs = search needs
-
-least-requires : tie.Need-least-requires
-least-requires c κs = search needs
-
-run-refusal-requires : tie.Need-run-refusal-requires
-run-refusal-requires c κs = search needs
 
 returns-2 : tie.Need-returns-2
 returns-2 c =
@@ -73,12 +43,6 @@ leave-requires c κs =
     let l = a .special .now in
     (start .pre .0, omega arith, start .pre .1, sym (frame-run w l (start .pre .1) _ _ _ _ (omega arith) (c .before .before .before .before .before .wrapping-sub2 .ensures) (c .before .before .before .before .least .ensures) (c .before .before .before .run-refusal .ensures)) ∙ c .before .before .if2 .left)
 
-mul-wrapping-add : tie.Need-mul-wrapping-add
-mul-wrapping-add c = search needs
-
-wrapping-add-requires : tie.Need-wrapping-add-requires
-wrapping-add-requires c κs = search needs
-
 returns-3 : tie.Need-returns-3
 returns-3 c =
     λ pc halt marks mask m.
@@ -98,19 +62,10 @@ pub pop-at-spec : {M : Type 1} → statement M
 pop-at-spec =
     tie.close
     (tie.spec
-    element-copy-out-ro
-    element-copy-out-rg
-    element-copy-out-rj
-    wrapping-sub-requires
-    read-octa-requires
+    (λ c. search needs) (λ c. search needs) (λ c. search needs) (λ c κs. search needs) (λ c κs. search needs)
     returns
-    add-wrapping-sub
-    mul-wrapping-sub
-    wrapping-sub-requires-2
-    least-requires
-    run-refusal-requires
+    (λ c. search needs) (λ c. search needs) (λ c κs. search needs) (λ c κs. search needs) (λ c κs. search needs)
     returns-2
     leave-requires
-    mul-wrapping-add
-    wrapping-add-requires
+    (λ c. search needs) (λ c κs. search needs)
     returns-3)

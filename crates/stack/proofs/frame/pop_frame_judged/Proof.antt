@@ -17,21 +17,6 @@ use Rattle.stack.proofs.frame.pop_frame_judged.Tie as tie
 good : (c : tie.Else1) (pc halt marks mask : ℕ) → placed (made (c .before .before .before .before .before .before .before .before .before .before .args .general .now) (c .before .before .before .before .before .before .before .before .before .before .args .special .now) pc halt marks mask) ≡ true
 good c pc halt marks mask = granted _ _ (c .before .is-placed .ensures (made (c .before .before .before .before .before .before .before .before .before .before .args .general .now) (c .before .before .before .before .before .before .before .before .before .before .args .special .now) pc halt marks mask) refl refl) (c .if1 .left)
 
-counted-requires : tie.Need-counted-requires
-counted-requires c κs = search needs
-
-element-copy-out-rg : tie.Need-element-copy-out-rg
-element-copy-out-rg c = search needs
-
-element-copy-out-rl : tie.Need-element-copy-out-rl
-element-copy-out-rl c = search needs
-
-element-copy-out-ro : tie.Need-element-copy-out-ro
-element-copy-out-ro c = search needs
-
-is-placed-requires : tie.Need-is-placed-requires
-is-placed-requires c κs = search needs
-
 returns : tie.Need-returns
 returns c =
     λ pc marks mask.
@@ -48,9 +33,6 @@ returns-2 c =
     let s = made (a .general .now) (a .special .now) pc (a .halt .now) marks mask in
     let w = lent (a .at) (a .a .now) (a .b .now) in
     pop-none w s (a .x) (a .yz) (good (c .before) pc (a .halt .now) marks mask) (c .if2 .taken)
-
-is-misplaced-requires : tie.Need-is-misplaced-requires
-is-misplaced-requires c κs = search needs
 
 returns-3 : tie.Need-returns-3
 unfolding halted
@@ -77,14 +59,10 @@ pub pop-frame-judged-spec : {M : Type 1} → statement M
 pop-frame-judged-spec =
     tie.close
     (tie.spec
-    counted-requires
-    element-copy-out-rg
-    element-copy-out-rl
-    element-copy-out-ro
-    is-placed-requires
+    (λ c κs. search needs) (λ c. search needs) (λ c. search needs) (λ c. search needs) (λ c κs. search needs)
     returns
     returns-2
-    is-misplaced-requires
+    (λ c κs. search needs)
     returns-3
     pop-at-requires
     returns-4)

@@ -21,21 +21,6 @@ good c pc halt marks mask = granted _ _ (c .before .is-placed .ensures (made (c 
 held : (c : tie.Else1) → Held (c .before .before .before .before .before .before .before .before .before .before .args .special .now)
 held c = held-by (made (c .before .before .before .before .before .before .before .before .before .before .args .general .now) (c .before .before .before .before .before .before .before .before .before .before .args .special .now) 0 0 0 0) (good c 0 0 0 0) (omega (arith, c .before .before .before .before .before .counted .ensures .1))
 
-counted-requires : tie.Need-counted-requires
-counted-requires c κs = search needs
-
-element-copy-out-rg : tie.Need-element-copy-out-rg
-element-copy-out-rg c = search needs
-
-element-copy-out-rl : tie.Need-element-copy-out-rl
-element-copy-out-rl c = search needs
-
-element-copy-out-ro : tie.Need-element-copy-out-ro
-element-copy-out-ro c = search needs
-
-is-placed-requires : tie.Need-is-placed-requires
-is-placed-requires c κs = search needs
-
 returns : tie.Need-returns
 returns c =
     λ halt marks mask.
@@ -47,20 +32,8 @@ returns c =
 hole-of-requires : tie.Need-hole-of-requires
 hole-of-requires c κs = let h = held c in omega (arith, h .g-high, h .l-g)
 
-add-run-refusal : tie.Need-add-run-refusal
-add-run-refusal c = search needs
-
-run-refusal-requires : tie.Need-run-refusal-requires
-run-refusal-requires c κs = search needs
-
 lost-requires : tie.Need-lost-requires
 lost-requires c κs = lost-by _ _ _ _ (c .before .run-refusal .ensures) (c .if2 .taken)
-
-same-length : tie.Need-same-length
-same-length c = search needs
-
-same-length-2 : tie.Need-same-length-2
-same-length-2 c = search needs
 
 returns-2 : tie.Need-returns-2
 returns-2 c =
@@ -78,12 +51,6 @@ store-frame-requires c κs = (c .before .before .before .before .before .before 
 enter-requires : tie.Need-enter-requires
 enter-requires c κs = (held (c .before .before .before .before .before .before .before .before .before .before .before .before .before .before .before), c .before .before .before .before .before .before .before .before .before .before .before .before .before .before .hole-of .ensures .1)
 
-same-length-3 : tie.Need-same-length-3
-same-length-3 c = search needs
-
-same-length-4 : tie.Need-same-length-4
-same-length-4 c = search needs
-
 returns-3 : tie.Need-returns-3
 returns-3 c =
     λ halt marks mask.
@@ -98,21 +65,14 @@ pub push-frame-judged-spec : {M : Type 1} → statement M
 push-frame-judged-spec =
     tie.close
     (tie.spec
-    counted-requires
-    element-copy-out-rg
-    element-copy-out-rl
-    element-copy-out-ro
-    is-placed-requires
+    (λ c κs. search needs) (λ c. search needs) (λ c. search needs) (λ c. search needs) (λ c κs. search needs)
     returns
     hole-of-requires
-    add-run-refusal
-    run-refusal-requires
+    (λ c. search needs) (λ c κs. search needs)
     lost-requires
-    same-length
-    same-length-2
+    (λ c. search needs) (λ c. search needs)
     returns-2
     store-frame-requires
     enter-requires
-    same-length-3
-    same-length-4
+    (λ c. search needs) (λ c. search needs)
     returns-3)

@@ -9,24 +9,6 @@ use borrow.Author.Needs.{needs}
 use Rattle.stack.proofs.frame.store_frame.Statement.{statement}
 use Rattle.stack.proofs.frame.store_frame.Tie as tie
 
-store-locals-requires : tie.Need-store-locals-requires
-store-locals-requires c κs = search needs
-
-mul-wrapping-add : tie.Need-mul-wrapping-add
-mul-wrapping-add c = search needs
-
-wrapping-add-requires : tie.Need-wrapping-add-requires
-wrapping-add-requires c κs = search needs
-
-write-octa-requires : tie.Need-write-octa-requires
-write-octa-requires c κs = search needs
-
-same-length : tie.Need-same-length
-same-length c = search needs
-
-same-length-2 : tie.Need-same-length-2
-same-length-2 c = search needs
-
 returns : tie.Need-returns
 returns c =
     λ special pc halt marks mask.
@@ -41,10 +23,6 @@ pub store-frame-spec : {M : Type 1} → statement M
 store-frame-spec =
     tie.close
     (tie.spec
-    store-locals-requires
-    mul-wrapping-add
-    wrapping-add-requires
-    write-octa-requires
-    same-length
-    same-length-2
+    (λ c κs. search needs) (λ c. search needs) (λ c κs. search needs) (λ c κs. search needs) (λ c. search needs)
+    (λ c. search needs)
     returns)

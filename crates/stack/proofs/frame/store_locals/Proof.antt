@@ -11,18 +11,6 @@ returns : tie.Need-returns
 unfolding writtenRangeBy
 returns c = run-none both _ _ _ _ (omega arith)
 
-store-range-requires : tie.Need-store-range-requires
-store-range-requires c κs = search needs
-
-same-length : tie.Need-same-length
-same-length c = search needs
-
-same-length-2 : tie.Need-same-length-2
-same-length-2 c = search needs
-
-returns-2 : tie.Need-returns-2
-returns-2 c = search needs
-
 pub store-locals-spec : {M : Type 1} → statement M
 store-locals-spec =
-    tie.close (tie.spec returns store-range-requires same-length same-length-2 returns-2)
+    tie.close (tie.spec returns (λ c κs. search needs) (λ c. search needs) (λ c. search needs) (λ c. search needs))

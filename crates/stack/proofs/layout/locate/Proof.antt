@@ -15,9 +15,6 @@ use Rattle.stack.proofs.layout.locate.Tie as tie
 inside : (c : tie.Else1) → worst (refusing (shapesOf (lent (c .before .before .before .before .args .at) (c .before .before .before .before .args .a .now) (c .before .before .before .before .args .b .now)))) (c .before .before .before .before .args .address) 1 ≡ 0
 inside c = sym (c .before .run-refusal .ensures) ∙ c .if1 .left
 
-run-refusal-requires : tie.Need-run-refusal-requires
-run-refusal-requires c κs = search needs
-
 lost-requires : tie.Need-lost-requires
 lost-requires c κs = lost-by _ _ _ _ (c .before .run-refusal .ensures) (c .if1 .taken)
 
@@ -26,32 +23,14 @@ returns c =
     let run = c .before .before .run-refusal in
     way-lost _ _ (λ z. c .before .if1 .taken (run .ensures ∙ z)) _ (missing-by _ _ _ _ (run .ensures) (c .before .if1 .taken) _ (c .lost .ensures))
 
-read-octa-requires : tie.Need-read-octa-requires
-read-octa-requires c κs = search needs
-
 returns-2 : tie.Need-returns-2
 returns-2 c = way-threshold _ _ _ (inside (c .before .before)) (c .before .read-octa .ensures .0) (c .if2 .taken)
 
 returns-3 : tie.Need-returns-3
 returns-3 c = way-status _ _ _ (inside (c .before .before .before)) (c .before .before .read-octa .ensures .0) (c .before .if2 .left) (omega arith) (c .if3 .taken)
 
-cast-save-context-layout : tie.Need-cast-save-context-layout
-cast-save-context-layout c = search needs
-
-save-context-layout-requires : tie.Need-save-context-layout-requires
-save-context-layout-requires c κs = search needs
-
-enum-known-layout : tie.Need-enum-known-layout
-enum-known-layout c = search needs
-
 add-run-refusal : tie.Need-add-run-refusal
 add-run-refusal c = omega (arith, told-count _ _ _ _ (c .before .before .before .save-context-layout .ensures) _ (c .before .layout .given .1))
-
-sub-run-refusal : tie.Need-sub-run-refusal
-sub-run-refusal c = search needs
-
-run-refusal-requires-2 : tie.Need-run-refusal-requires-2
-run-refusal-requires-2 c κs = search needs
 
 lost-requires-2 : tie.Need-lost-requires-2
 lost-requires-2 c κs = lost-by _ _ _ _ (c .before .run-refusal2 .ensures) (c .if4 .taken)
@@ -64,9 +43,6 @@ returns-4 c =
 
 enum-told : tie.Need-enum-told
 enum-told c = search needs
-
-enum-known-layout-2 : tie.Need-enum-known-layout-2
-enum-known-layout-2 c = search needs
 
 returns-5 : tie.Need-returns-5
 returns-5 c =
@@ -87,22 +63,19 @@ pub locate-spec : {M : Type 1} → statement M
 locate-spec =
     tie.close
     (tie.spec
-    run-refusal-requires
+    (λ c κs. search needs)
     lost-requires
     returns
-    read-octa-requires
+    (λ c κs. search needs)
     returns-2
     returns-3
-    cast-save-context-layout
-    save-context-layout-requires
-    enum-known-layout
+    (λ c. search needs) (λ c κs. search needs) (λ c. search needs)
     add-run-refusal
-    sub-run-refusal
-    run-refusal-requires-2
+    (λ c. search needs) (λ c κs. search needs)
     lost-requires-2
     returns-4
     enum-told
-    enum-known-layout-2
+    (λ c. search needs)
     returns-5
     returns-6
     returns-7)

@@ -14,18 +14,6 @@ use Rattle.stack.proofs.layout.save_context_layout.Tie as tie
 inside : (c : tie.Else1) → worst (refusing (shapesOf (lent (c .before .before .before .before .before .args .at) (c .before .before .before .before .before .args .a .now) (c .before .before .before .before .before .args .b .now)))) (c .before .before .wrapping-sub .result) 1 ≡ 0
 inside c = sym (c .before .run-refusal .ensures) ∙ c .if1 .left
 
-sub-wrapping-sub : tie.Need-sub-wrapping-sub
-sub-wrapping-sub c = search needs
-
-mul-wrapping-sub : tie.Need-mul-wrapping-sub
-mul-wrapping-sub c = search needs
-
-wrapping-sub-requires : tie.Need-wrapping-sub-requires
-wrapping-sub-requires c κs = search needs
-
-run-refusal-requires : tie.Need-run-refusal-requires
-run-refusal-requires c κs = search needs
-
 lost-requires : tie.Need-lost-requires
 lost-requires c κs = lost-by _ _ _ _ (c .before .run-refusal .ensures) (c .if1 .taken)
 
@@ -35,23 +23,8 @@ returns c =
     layout-outside _ _ _ _ (c .before .before .before .wrapping-sub .ensures) (λ z. c .before .if1 .taken (run .ensures ∙ z)) _
     (missing-by _ _ _ _ (run .ensures) (c .before .if1 .taken) _ (c .lost .ensures))
 
-read-octa-requires : tie.Need-read-octa-requires
-read-octa-requires c κs = search needs
-
 returns-2 : tie.Need-returns-2
 returns-2 c = layout-excess _ _ _ _ (c .before .before .before .before .wrapping-sub .ensures) _ (inside (c .before .before)) (c .before .read-octa .ensures .0) (c .if2 .taken)
-
-add-wrapping-sub : tie.Need-add-wrapping-sub
-add-wrapping-sub c = search needs
-
-sub-wrapping-sub-2 : tie.Need-sub-wrapping-sub-2
-sub-wrapping-sub-2 c = search needs
-
-mul-wrapping-sub-2 : tie.Need-mul-wrapping-sub-2
-mul-wrapping-sub-2 c = search needs
-
-wrapping-sub-requires-2 : tie.Need-wrapping-sub-requires-2
-wrapping-sub-requires-2 c κs = search needs
 
 returns-3 : tie.Need-returns-3
 returns-3 c =
@@ -62,16 +35,10 @@ pub save-context-layout-spec : {M : Type 1} → statement M
 save-context-layout-spec =
     tie.close
     (tie.spec
-    sub-wrapping-sub
-    mul-wrapping-sub
-    wrapping-sub-requires
-    run-refusal-requires
+    (λ c. search needs) (λ c. search needs) (λ c κs. search needs) (λ c κs. search needs)
     lost-requires
     returns
-    read-octa-requires
+    (λ c κs. search needs)
     returns-2
-    add-wrapping-sub
-    sub-wrapping-sub-2
-    mul-wrapping-sub-2
-    wrapping-sub-requires-2
+    (λ c. search needs) (λ c. search needs) (λ c. search needs) (λ c κs. search needs)
     returns-3)

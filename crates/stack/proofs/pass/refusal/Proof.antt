@@ -5,12 +5,6 @@ use borrow.Author.Needs.{needs}
 use Rattle.stack.proofs.pass.refusal.Statement.{statement}
 use Rattle.stack.proofs.pass.refusal.Tie as tie
 
-admissible-requires : tie.Need-admissible-requires
-admissible-requires c κs = search needs
-
-windows-refusal-requires : tie.Need-windows-refusal-requires
-windows-refusal-requires c κs = search needs
-
 returns : tie.Need-returns
 returns c = λ general pc halt. c .windows-refusal .ensures ∙ refused-windows _ _ (sym (c .before .before .admissible .ensures general pc halt) ∙ c .before .if1 .taken)
 
@@ -18,4 +12,4 @@ returns-2 : tie.Need-returns-2
 returns-2 c = λ general pc halt. refused-one _ _ (sym (c .before .admissible .ensures general pc halt) ∙ c .if1 .left)
 
 pub refusal-spec : {M : Type 1} → statement M
-refusal-spec = tie.close (tie.spec admissible-requires windows-refusal-requires returns returns-2)
+refusal-spec = tie.close (tie.spec (λ c κs. search needs) (λ c κs. search needs) returns returns-2)

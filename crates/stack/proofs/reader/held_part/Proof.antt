@@ -5,19 +5,10 @@ use borrow.Author.Needs.{needs}
 use Rattle.stack.proofs.reader.held_part.Statement.{statement}
 use Rattle.stack.proofs.reader.held_part.Tie as tie
 
-room-requires : tie.Need-room-requires
-room-requires c κs = search needs
-
-part-in-requires : tie.Need-part-in-requires
-part-in-requires c κs = search needs
-
 returns : tie.Need-returns
 returns c =
     let pre = c .before .before .before .before .before .pre in
     c .part-in .ensures ∙ part-b _ (pre .2) _ _ (λ z. c .before .if1 .taken (c .before .before .room .ensures .0 ∙ z))
-
-part-in-requires-2 : tie.Need-part-in-requires-2
-part-in-requires-2 c κs = search needs
 
 returns-2 : tie.Need-returns-2
 returns-2 c =
@@ -25,4 +16,4 @@ returns-2 c =
     c .part-in2 .ensures ∙ part-a _ (pre .2) _ _ (pre .0) (pre .3) (sym (c .before .before .room .ensures .0) ∙ c .before .if1 .left)
 
 pub held-part-spec : {M : Type 1} → statement M
-held-part-spec = tie.close (tie.spec room-requires part-in-requires returns part-in-requires-2 returns-2)
+held-part-spec = tie.close (tie.spec (λ c κs. search needs) (λ c κs. search needs) returns (λ c κs. search needs) returns-2)

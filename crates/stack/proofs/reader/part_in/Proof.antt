@@ -5,25 +5,13 @@ use borrow.Author.Needs.{needs}
 use Rattle.stack.proofs.reader.part_in.Statement.{statement}
 use Rattle.stack.proofs.reader.part_in.Tie as tie
 
-room-requires : tie.Need-room-requires
-room-requires c κs = search needs
-
-nowhere-requires : tie.Need-nowhere-requires
-nowhere-requires c κs = search needs
-
 returns : tie.Need-returns
 unfolding partIn
 returns c = rw (← c .before .before .room .ensures .0, lt-ltb _ _ (c .before .if1 .taken)) (c .nowhere .ensures)
-
-distance-requires : tie.Need-distance-requires
-distance-requires c κs = search needs
-
-mul-t12 : tie.Need-mul-t12
-mul-t12 c = search needs
 
 returns-2 : tie.Need-returns-2
 unfolding partIn placed
 returns-2 c = rw (← c .before .before .room .ensures .0, le-ltb _ _ (c .before .if1 .left), c .distance .ensures)
 
 pub part-in-spec : {M : Type 1} → statement M
-part-in-spec = tie.close (tie.spec room-requires nowhere-requires returns distance-requires mul-t12 returns-2)
+part-in-spec = tie.close (tie.spec (λ c κs. search needs) (λ c κs. search needs) returns (λ c κs. search needs) (λ c. search needs) returns-2)

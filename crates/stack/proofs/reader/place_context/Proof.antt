@@ -19,23 +19,11 @@ ruled c = sym (c .before .windows-refusal .ensures) ∙ c .if1 .left
 found : (c : tie.After-located) → Standing (lent (c .before .before .before .before .before .before .before .args .at) (c .before .before .before .before .before .before .before .args .a .now) (c .before .before .before .before .before .before .before .args .b .now)) (c .located .given .0 .0)
 found c = stands-at _ _ _ (c .before .before .locate .ensures) _ (c .located .given .1)
 
-windows-refusal-requires : tie.Need-windows-refusal-requires
-windows-refusal-requires c κs = search needs
-
 unruled-requires : tie.Need-unruled-requires
 unruled-requires c κs = unruled-by _ _ (c .before .windows-refusal .ensures) (c .if1 .taken)
 
-nowhere-requires : tie.Need-nowhere-requires
-nowhere-requires c κs = search needs
-
 returns : tie.Need-returns
 returns c = place-unruled _ _ _ (c .before .before .before .windows-refusal .ensures) (c .before .before .if1 .taken) _ (c .before .unruled .ensures) _ (c .nowhere .ensures)
-
-locate-requires : tie.Need-locate-requires
-locate-requires c κs = search needs
-
-enum-known-located : tie.Need-enum-known-located
-enum-known-located c = search needs
 
 add-octas : tie.Need-add-octas
 add-octas c =
@@ -52,18 +40,6 @@ held-part-requires c κs =
     let l = context-lent _ _ (ruled (c .before .before .before .before .before .before)) _ (c .before .before .before .before .before .locate .ensures) _ (c .before .before .before .located .given .1) in
     (l .0, l .1, ruled (c .before .before .before .before .before .before), l .2)
 
-enum-known-located-2 : tie.Need-enum-known-located-2
-enum-known-located-2 c = search needs
-
-nowhere-requires-2 : tie.Need-nowhere-requires-2
-nowhere-requires-2 c κs = search needs
-
-enum-known-located-3 : tie.Need-enum-known-located-3
-enum-known-located-3 c = search needs
-
-nowhere-requires-3 : tie.Need-nowhere-requires-3
-nowhere-requires-3 c κs = search needs
-
 returns-2 : tie.Need-returns-2
 returns-2 c = place-part _ _ (ruled (c .before .before .before .before .before .before .before)) _ (c .before .before .before .before .before .before .locate .ensures) _ (c .before .before .before .before .located .given .1) _ (c .held-part .ensures)
 
@@ -77,19 +53,15 @@ pub place-context-spec : {M : Type 1} → statement M
 place-context-spec =
     tie.close
     (tie.spec
-    windows-refusal-requires
+    (λ c κs. search needs)
     unruled-requires
-    nowhere-requires
+    (λ c κs. search needs)
     returns
-    locate-requires
-    enum-known-located
+    (λ c κs. search needs) (λ c. search needs)
     add-octas
     sub-octas
     held-part-requires
-    enum-known-located-2
-    nowhere-requires-2
-    enum-known-located-3
-    nowhere-requires-3
+    (λ c. search needs) (λ c κs. search needs) (λ c. search needs) (λ c κs. search needs)
     returns-2
     returns-3
     returns-4)

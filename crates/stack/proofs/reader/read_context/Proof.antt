@@ -12,24 +12,12 @@ use Rattle.stack.proofs.reader.read_context.Tie as tie
 lies : (b o start a : ℕ) → start ≡ a → _≡_ {A = ℕ × ℕ} (b, start + o) (b, o + a)
 lies b o start a e = let h : start + o ≡ o + a = omega arith in ap (λ (k : ℕ). (b, k)) h
 
-place-context-requires : tie.Need-place-context-requires
-place-context-requires c κs = search needs
-
 add-end : tie.Need-add-end
 add-end c =
     let start = c .before .before .before .before in
     let a = start .args in
     let found = c .before .place-context in
     omega (arith, ends-short (a .at) (a .a .now) (a .b .now) (found .result .which) (found .result .start + found .result .size) (start .good .0 .0) (start .good .1 .0 .0) (found .ensures .lies-inside))
-
-number-of-requires : tie.Need-number-of-requires
-number-of-requires c κs = search needs
-
-sub-result : tie.Need-sub-result
-sub-result c = search needs
-
-part-result-start : tie.Need-part-result-start
-part-result-start c = search needs
 
 part-result-end : tie.Need-part-result-end
 part-result-end c = rw (eq-eqb _ _ (c .if1 .taken)) at (c .before .before .before .before .place-context .ensures .lies-inside)
@@ -44,12 +32,6 @@ returns c =
       bytes-are = bytes-b (lent (a .at) (a .a .now) (a .b .now)) _ _ _ _ (found .which-is) (found .start-is) (found .size-is) (c .before .if1 .taken);
       lies-at = rw (eq-eqb _ _ (c .before .if1 .taken)) (lies _ _ _ _ (found .start-is));
     }
-
-sub-result-2 : tie.Need-sub-result-2
-sub-result-2 c = search needs
-
-part-result-start-2 : tie.Need-part-result-start-2
-part-result-start-2 c = search needs
 
 part-result-end-2 : tie.Need-part-result-end-2
 part-result-end-2 c = rw (ne-eqb _ _ (c .if1 .left)) at (c .before .before .before .before .place-context .ensures .lies-inside)
@@ -69,14 +51,11 @@ pub read-context-spec : {M : Type 1} → statement M
 read-context-spec =
     tie.close
     (tie.spec
-    place-context-requires
+    (λ c κs. search needs)
     add-end
-    number-of-requires
-    sub-result
-    part-result-start
+    (λ c κs. search needs) (λ c. search needs) (λ c. search needs)
     part-result-end
     returns
-    sub-result-2
-    part-result-start-2
+    (λ c. search needs) (λ c. search needs)
     part-result-end-2
     returns-2)

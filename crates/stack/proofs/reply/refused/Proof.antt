@@ -13,8 +13,5 @@ returns c = sym (ap replyOf (c .if1 .taken))
 unruled-requires : tie.Need-unruled-requires
 unruled-requires c κs = ⊎-elim (λ one. absurd (c .if1 .left one)) (λ e. e) (c .before .pre)
 
-returns-2 : tie.Need-returns-2
-returns-2 c = search needs
-
 pub refused-spec : {M : Type 1} → statement M
-refused-spec = tie.close (tie.spec returns unruled-requires returns-2)
+refused-spec = tie.close (tie.spec returns unruled-requires (λ c. search needs))

@@ -7,17 +7,11 @@ use borrow.Author.Needs.{needs}
 use Rattle.stack.proofs.value.pop_frame.Statement.{statement}
 use Rattle.stack.proofs.value.pop_frame.Tie as tie
 
-refusal-requires : tie.Need-refusal-requires
-refusal-requires c κs = search needs
-
 refused-requires : tie.Need-refused-requires
 refused-requires c κs = let a = c .before .before .before .before .before .before .before .args in refused-by (lent (a .at) (a .a .now) (a .b .now)) (a .state) _ (c .before .refusal .ensures (a .state .general) (a .state .pc) (a .state .halt)) (c .if1 .taken)
 
 returns : tie.Need-returns
 returns c = let a = c .before .before .before .before .before .before .before .before .args in pop-refused (lent (a .at) (a .a .now) (a .b .now)) (a .state) (a .x) (a .yz) _ (c .before .before .refusal .ensures (a .state .general) (a .state .pc) (a .state .halt)) (c .before .if1 .taken) _ (c .refused .ensures .0) (c .refused .ensures .1 (a .state) (a .yz))
-
-pop-frame-judged-requires : tie.Need-pop-frame-judged-requires
-pop-frame-judged-requires c κs = search needs
 
 returns-2 : tie.Need-returns-2
 returns-2 c =
@@ -27,4 +21,4 @@ returns-2 c =
 
 pub pop-frame-spec : {M : Type 1} → statement M
 pop-frame-spec =
-    tie.close (tie.spec refusal-requires refused-requires returns pop-frame-judged-requires returns-2)
+    tie.close (tie.spec (λ c κs. search needs) refused-requires returns (λ c κs. search needs) returns-2)

@@ -7,29 +7,11 @@ use borrow.Author.Needs.{needs}
 use Rattle.stack.proofs.value.save_context.Statement.{statement}
 use Rattle.stack.proofs.value.save_context.Tie as tie
 
-refusal-requires : tie.Need-refusal-requires
-refusal-requires c κs = search needs
-
 refused-requires : tie.Need-refused-requires
 refused-requires c κs = let a = c .before .before .before .before .before .before .before .before .before .args in refused-by (lent (a .at) (a .a .now) (a .b .now)) (a .state) _ (c .before .refusal .ensures (a .state .general) (a .state .pc) (a .state .halt)) (c .if1 .taken)
 
-same-length : tie.Need-same-length
-same-length c = search needs
-
-same-length-2 : tie.Need-same-length-2
-same-length-2 c = search needs
-
 returns : tie.Need-returns
 returns c = let a = c .before .before .before .before .before .before .before .before .before .before .args in save-refused (lent (a .at) (a .a .now) (a .b .now)) (a .state) (a .x) _ (c .before .before .refusal .ensures (a .state .general) (a .state .pc) (a .state .halt)) (c .before .if1 .taken) _ (c .refused .ensures)
-
-save-context-judged-requires : tie.Need-save-context-judged-requires
-save-context-judged-requires c κs = search needs
-
-same-length-3 : tie.Need-same-length-3
-same-length-3 c = search needs
-
-same-length-4 : tie.Need-same-length-4
-same-length-4 c = search needs
 
 returns-2 : tie.Need-returns-2
 returns-2 c =
@@ -41,12 +23,9 @@ pub save-context-spec : {M : Type 1} → statement M
 save-context-spec =
     tie.close
     (tie.spec
-    refusal-requires
+    (λ c κs. search needs)
     refused-requires
-    same-length
-    same-length-2
+    (λ c. search needs) (λ c. search needs)
     returns
-    save-context-judged-requires
-    same-length-3
-    same-length-4
+    (λ c κs. search needs) (λ c. search needs) (λ c. search needs)
     returns-2)

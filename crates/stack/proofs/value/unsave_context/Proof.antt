@@ -7,17 +7,11 @@ use borrow.Author.Needs.{needs}
 use Rattle.stack.proofs.value.unsave_context.Statement.{statement}
 use Rattle.stack.proofs.value.unsave_context.Tie as tie
 
-refusal-requires : tie.Need-refusal-requires
-refusal-requires c κs = search needs
-
 refused-requires : tie.Need-refused-requires
 refused-requires c κs = let a = c .before .before .before .before .before .before .before .args in refused-by (lent (a .at) (a .a .now) (a .b .now)) (a .state) _ (c .before .refusal .ensures (a .state .general) (a .state .pc) (a .state .halt)) (c .if1 .taken)
 
 returns : tie.Need-returns
 returns c = let a = c .before .before .before .before .before .before .before .before .args in unsave-refused (lent (a .at) (a .a .now) (a .b .now)) (a .state) (a .address) _ (c .before .before .refusal .ensures (a .state .general) (a .state .pc) (a .state .halt)) (c .before .if1 .taken) _ (c .refused .ensures)
-
-unsave-context-judged-requires : tie.Need-unsave-context-judged-requires
-unsave-context-judged-requires c κs = search needs
 
 returns-2 : tie.Need-returns-2
 returns-2 c =
@@ -28,4 +22,4 @@ returns-2 c =
 pub unsave-context-spec : {M : Type 1} → statement M
 unsave-context-spec =
     tie.close
-    (tie.spec refusal-requires refused-requires returns unsave-context-judged-requires returns-2)
+    (tie.spec (λ c κs. search needs) refused-requires returns (λ c κs. search needs) returns-2)

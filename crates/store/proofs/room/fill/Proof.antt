@@ -14,30 +14,6 @@ use borrow.Author.Needs.{needs}
 use Rattle.store.proofs.room.fill.Statement.{statement}
 use Rattle.store.proofs.room.fill.Tie as tie
 
-slice-aggregate-store-octas : tie.Need-slice-aggregate-store-octas
-slice-aggregate-store-octas c = search needs
-
-store-octas-requires : tie.Need-store-octas-requires
-store-octas-requires c κs = search needs
-
-copy-in-requires : tie.Need-copy-in-requires
-copy-in-requires c κs = search needs
-
-slice-aggregate-store-octas-2 : tie.Need-slice-aggregate-store-octas-2
-slice-aggregate-store-octas-2 c = search needs
-
-store-octas-requires-2 : tie.Need-store-octas-requires-2
-store-octas-requires-2 c κs = search needs
-
-copy-in-requires-2 : tie.Need-copy-in-requires-2
-copy-in-requires-2 c κs = search needs
-
-copy-in-requires-3 : tie.Need-copy-in-requires-3
-copy-in-requires-3 c κs = search needs
-
-same-length : tie.Need-same-length
-same-length c = search needs
-
 returns : tie.Need-returns
 unfolding filled numbersOf
 returns c =
@@ -61,12 +37,6 @@ pub fill-spec : {M : Type 1} → statement M
 fill-spec =
     tie.close
     (tie.spec
-    slice-aggregate-store-octas
-    store-octas-requires
-    copy-in-requires
-    slice-aggregate-store-octas-2
-    store-octas-requires-2
-    copy-in-requires-2
-    copy-in-requires-3
-    same-length
+    (λ c. search needs) (λ c κs. search needs) (λ c κs. search needs) (λ c. search needs) (λ c κs. search needs)
+    (λ c κs. search needs) (λ c κs. search needs) (λ c. search needs)
     returns)

@@ -10,12 +10,6 @@ use borrow.Author.Needs.{needs}
 use Rattle.store.proofs.room.mask_fits.Statement.{statement}
 use Rattle.store.proofs.room.mask_fits.Tie as tie
 
-octabyte-requires : tie.Need-octabyte-requires
-octabyte-requires c κs = search needs
-
-has-room-requires : tie.Need-has-room-requires
-has-room-requires c κs = search needs
-
 returns : tie.Need-returns
 unfolding maskIn stateOf
 returns c =
@@ -25,4 +19,4 @@ returns c =
     ∙ ap (hasRoom (a .image .now)) (loading .octabyte .ensures ∙ ap (valueOf 0) (sym (part-within (a .room .now) imageLength oldImageLength 8 (omega arith))))
 
 pub mask-fits-spec : {M : Type 1} → statement M
-mask-fits-spec = tie.close (tie.spec octabyte-requires has-room-requires returns)
+mask-fits-spec = tie.close (tie.spec (λ c κs. search needs) (λ c κs. search needs) returns)

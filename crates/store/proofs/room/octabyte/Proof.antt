@@ -15,15 +15,6 @@ one-octa : (l : List ℕ) (o : ℕ) → getD (octas l o 1) 0 0 ≡ valueOf 0 (pa
 unfolding octas
 one-octa l o = refl
 
-slice-aggregate-load-octas : tie.Need-slice-aggregate-load-octas
-slice-aggregate-load-octas c = search needs
-
-load-octas-requires : tie.Need-load-octas-requires
-load-octas-requires c κs = search needs
-
-array-read-result : tie.Need-array-read-result
-array-read-result c = search needs
-
 returns : tie.Need-returns
 returns c =
     let loading = c .before in
@@ -32,4 +23,4 @@ returns c =
 
 pub octabyte-spec : {M : Type 1} → statement M
 octabyte-spec =
-    tie.close (tie.spec slice-aggregate-load-octas load-octas-requires array-read-result returns)
+    tie.close (tie.spec (λ c. search needs) (λ c κs. search needs) (λ c. search needs) returns)

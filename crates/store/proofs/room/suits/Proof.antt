@@ -8,41 +8,17 @@ use borrow.Author.Needs.{needs}
 use Rattle.store.proofs.room.suits.Statement.{statement}
 use Rattle.store.proofs.room.suits.Tie as tie
 
-number-requires : tie.Need-number-requires
-number-requires c κs = search needs
-
 returns : tie.Need-returns
 returns c = other-base-a _ _ _ _ _ (λ e. c .if1 .taken (c .before .before .number .ensures ∙ e))
-
-number-requires-2 : tie.Need-number-requires-2
-number-requires-2 c κs = search needs
 
 returns-2 : tie.Need-returns-2
 returns-2 c = other-base-b _ _ _ _ _ (λ e. c .if2 .taken (c .before .before .number2 .ensures ∙ e))
 
-number-requires-3 : tie.Need-number-requires-3
-number-requires-3 c κs = search needs
-
 returns-3 : tie.Need-returns-3
 returns-3 c = other-length-a _ _ _ _ _ (λ e. c .if3 .taken (c .before .number3 .ensures ∙ e))
 
-number-requires-4 : tie.Need-number-requires-4
-number-requires-4 c κs = search needs
-
 returns-4 : tie.Need-returns-4
 returns-4 c = other-length-b _ _ _ _ _ (λ e. c .if4 .taken (c .before .number4 .ensures ∙ e))
-
-sub-is-admissible : tie.Need-sub-is-admissible
-sub-is-admissible c = search needs
-
-part-is-admissible-start : tie.Need-part-is-admissible-start
-part-is-admissible-start c = search needs
-
-part-is-admissible-end : tie.Need-part-is-admissible-end
-part-is-admissible-end c = search needs
-
-is-admissible-requires : tie.Need-is-admissible-requires
-is-admissible-requires c κs = search needs
 
 returns-5 : tie.Need-returns-5
 returns-5 c =
@@ -63,16 +39,13 @@ pub suits-spec : {M : Type 1} → statement M
 suits-spec =
     tie.close
     (tie.spec
-    number-requires
+    (λ c κs. search needs)
     returns
-    number-requires-2
+    (λ c κs. search needs)
     returns-2
-    number-requires-3
+    (λ c κs. search needs)
     returns-3
-    number-requires-4
+    (λ c κs. search needs)
     returns-4
-    sub-is-admissible
-    part-is-admissible-start
-    part-is-admissible-end
-    is-admissible-requires
+    (λ c. search needs) (λ c. search needs) (λ c. search needs) (λ c κs. search needs)
     returns-5)

@@ -15,9 +15,6 @@ Inv-loop images n each k₀ k = (k ≤ n) × (admittedSo each images k ≡ true)
 abbrev μ-loop : tie.MeasureT-loop
 μ-loop images n each k₀ k = n - k
 
-each-len-requires : tie.Need-each-len-requires Inv-loop μ-loop
-each-len-requires c κs = search needs
-
 mul-if1 : tie.Need-mul-if1 Inv-loop μ-loop
 mul-if1 c = omega (arith, few-bytes (c .before .before .args .n) (c .before .before .args .images .now) _ (c .each-len .ensures _ refl) (omega arith))
 
@@ -39,32 +36,17 @@ add-end c =
     let a = each .before .before .args in
     omega (arith, ends-few (a .n) (a .images .now) _ (each .each-len .ensures _ refl) (omega arith) (c .before .loop .k) (omega arith))
 
-sub-is-admissible : tie.Need-sub-is-admissible Inv-loop μ-loop
-sub-is-admissible c = search needs
-
-part-is-admissible-start : tie.Need-part-is-admissible-start Inv-loop μ-loop
-part-is-admissible-start c = search needs
-
 part-is-admissible-end : tie.Need-part-is-admissible-end Inv-loop μ-loop
 part-is-admissible-end c =
     let each = c .before .before .before in
     let end = ends-before (c .before .loop .k) (each .before .before .args .n) (each .each-len .result) (omega arith) in
     search needs
 
-is-admissible-requires : tie.Need-is-admissible-requires Inv-loop μ-loop
-is-admissible-requires c κs = search needs
-
 returns-2 : tie.Need-returns-2 Inv-loop μ-loop
 returns-2 c =
     let turn = c .before .before .before .before in
     let each = turn .before .before in
     admitted-fails _ _ _ (each .each-len .ensures _ refl) (turn .before .if1 .left) (turn .loop .k) (omega arith) _ (c .before .is-admissible .ensures) (c .if2 .taken)
-
-add-k : tie.Need-add-k Inv-loop μ-loop
-add-k c = search needs
-
-loop-less : tie.Need-loop-less Inv-loop μ-loop
-loop-less c = search needs
 
 loop-again : tie.Need-loop-again Inv-loop μ-loop
 loop-again c =
@@ -86,18 +68,16 @@ are-admissible-spec =
     (tie.spec
     Inv-loop
     μ-loop
-    each-len-requires
+    (λ c κs. search needs)
     mul-if1
     returns
     loop-holds
     mul-start
     add-end
-    sub-is-admissible
-    part-is-admissible-start
+    (λ c. search needs) (λ c. search needs)
     part-is-admissible-end
-    is-admissible-requires
+    (λ c κs. search needs)
     returns-2
-    add-k
-    loop-less
+    (λ c. search needs) (λ c. search needs)
     loop-again
     returns-3)

@@ -7,17 +7,11 @@ use borrow.Author.Needs.{needs}
 use Rattle.tasks.proofs.judge.call_refusal.Statement.{statement}
 use Rattle.tasks.proofs.judge.call_refusal.Tie as tie
 
-windows-refusal-requires : tie.Need-windows-refusal-requires
-windows-refusal-requires c κs = search needs
-
 returns : tie.Need-returns
 returns c = call-unruled _ _ _ _ _ _ (c .before .windows-refusal .ensures) (c .if1 .taken)
 
 returns-2 : tie.Need-returns-2
 returns-2 c = call-granted _ _ _ _ _ _ (c .before .before .windows-refusal .ensures) (c .before .if1 .left) (omega arith)
-
-is-ruled-requires : tie.Need-is-ruled-requires
-is-ruled-requires c κs = search needs
 
 returns-3 : tie.Need-returns-3
 unfolding shapesOf shapeOf
@@ -50,10 +44,10 @@ pub call-refusal-spec : {M : Type 1} → statement M
 call-refusal-spec =
     tie.close
     (tie.spec
-    windows-refusal-requires
+    (λ c κs. search needs)
     returns
     returns-2
-    is-ruled-requires
+    (λ c κs. search needs)
     returns-3
     are-admissible-requires
     returns-4

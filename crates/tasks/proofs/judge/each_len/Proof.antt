@@ -6,9 +6,6 @@ use borrow.Author.Needs.{needs}
 use Rattle.tasks.proofs.judge.each_len.Statement.{statement}
 use Rattle.tasks.proofs.judge.each_len.Tie as tie
 
-mul-if1 : tie.Need-mul-if1
-mul-if1 c = search needs
-
 returns : tie.Need-returns
 returns c = λ l e. each-new _ l (e ∙ c .if1 .taken)
 
@@ -16,4 +13,4 @@ returns-2 : tie.Need-returns-2
 returns-2 c = λ l e. each-old _ l (λ d. c .if1 .left (omega (arith, e, d)))
 
 pub each-len-spec : {M : Type 1} → statement M
-each-len-spec = tie.close (tie.spec mul-if1 returns returns-2)
+each-len-spec = tie.close (tie.spec (λ c. search needs) returns returns-2)

@@ -14,28 +14,13 @@ Inv-loop parts k own j₀ j = (j ≤ k) × (clearSo parts k j ≡ true)
 abbrev μ-loop : tie.MeasureT-loop
 μ-loop parts k own j₀ j = k - j
 
-part-at-requires : tie.Need-part-at-requires Inv-loop μ-loop
-part-at-requires c κs = search needs
-
 loop-holds : tie.Need-loop-holds Inv-loop μ-loop
 loop-holds c = (omega arith, below-none _)
-
-part-at-requires-2 : tie.Need-part-at-requires-2 Inv-loop μ-loop
-part-at-requires-2 c κs = search needs
-
-overlap-requires : tie.Need-overlap-requires Inv-loop μ-loop
-overlap-requires c κs = search needs
 
 returns : tie.Need-returns Inv-loop μ-loop
 returns c =
     let turn = c .before .before .before .before in
     clear-fails _ _ (turn .loop .j) _ _ (c .before .before .part-at2 .ensures) (turn .before .part-at .ensures) _ (c .before .overlap .ensures) (omega arith) (c .if1 .taken)
-
-add-j : tie.Need-add-j Inv-loop μ-loop
-add-j c = search needs
-
-loop-less : tie.Need-loop-less Inv-loop μ-loop
-loop-less c = search needs
 
 loop-again : tie.Need-loop-again Inv-loop μ-loop
 loop-again c =
@@ -55,12 +40,10 @@ is-clear-spec =
     (tie.spec
     Inv-loop
     μ-loop
-    part-at-requires
+    (λ c κs. search needs)
     loop-holds
-    part-at-requires-2
-    overlap-requires
+    (λ c κs. search needs) (λ c κs. search needs)
     returns
-    add-j
-    loop-less
+    (λ c. search needs) (λ c. search needs)
     loop-again
     returns-2)

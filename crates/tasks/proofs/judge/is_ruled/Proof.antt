@@ -22,14 +22,8 @@ returns-4 c = rule-turn _ _ _ (omega arith)
 returns-5 : tie.Need-returns-5
 returns-5 c = rule-most _ _ _ (omega arith)
 
-are-ruled-requires : tie.Need-are-ruled-requires
-are-ruled-requires c κs = search needs
-
 returns-6 : tie.Need-returns-6
 returns-6 c = rule-part _ _ _ (denied _ _ (c .before .are-ruled .ensures) (c .if6 .taken))
-
-are-clear-requires : tie.Need-are-clear-requires
-are-clear-requires c κs = search needs
 
 returns-7 : tie.Need-returns-7
 returns-7 c =
@@ -45,7 +39,7 @@ is-ruled-spec =
     returns-3
     returns-4
     returns-5
-    are-ruled-requires
+    (λ c κs. search needs)
     returns-6
-    are-clear-requires
+    (λ c κs. search needs)
     returns-7)

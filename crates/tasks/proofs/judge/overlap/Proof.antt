@@ -5,17 +5,11 @@ use borrow.Author.Needs.{needs}
 use Rattle.tasks.proofs.judge.overlap.Statement.{statement}
 use Rattle.tasks.proofs.judge.overlap.Tie as tie
 
-begins-in-requires : tie.Need-begins-in-requires
-begins-in-requires c κs = search needs
-
 returns : tie.Need-returns
 returns c = overlaps-first _ _ (sym (c .before .begins-in .ensures) ∙ c .if1 .taken)
-
-begins-in-requires-2 : tie.Need-begins-in-requires-2
-begins-in-requires-2 c κs = search needs
 
 returns-2 : tie.Need-returns-2
 returns-2 c = c .begins-in2 .ensures ∙ overlaps-else _ _ (sym (c .before .before .begins-in .ensures) ∙ c .before .if1 .left)
 
 pub overlap-spec : {M : Type 1} → statement M
-overlap-spec = tie.close (tie.spec begins-in-requires returns begins-in-requires-2 returns-2)
+overlap-spec = tie.close (tie.spec (λ c κs. search needs) returns (λ c κs. search needs) returns-2)

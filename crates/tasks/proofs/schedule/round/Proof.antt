@@ -26,12 +26,6 @@ loop-holds c = (omega arith, refl, refl, turns-start _ _ _ _ _ _ _ (c .before .b
 turn-requires : tie.Need-turn-requires Inv-loop μ-loop
 turn-requires c κs = (omega arith, c .before .before .before .before .before .before .loop .inv .3 .ready)
 
-add-k : tie.Need-add-k Inv-loop μ-loop
-add-k c = search needs
-
-loop-less : tie.Need-loop-less Inv-loop μ-loop
-loop-less c = search needs
-
 loop-again : tie.Need-loop-again Inv-loop μ-loop
 loop-again c =
     let turning = c .before .before .before .before .before .before in
@@ -45,12 +39,6 @@ loop-again c =
 same-length : tie.Need-same-length Inv-loop μ-loop
 same-length c = let h = c .before .loop .inv .3 .long in search needs
 
-same-length-2 : tie.Need-same-length-2 Inv-loop μ-loop
-same-length-2 c = search needs
-
-same-length-3 : tie.Need-same-length-3 Inv-loop μ-loop
-same-length-3 c = search needs
-
 returns : tie.Need-returns Inv-loop μ-loop
 returns c = turns-all _ _ _ _ _ _ _ _ _ _ _ _ (c .before .loop .k) (omega arith) (c .before .loop .inv .3)
 
@@ -62,10 +50,8 @@ round-spec =
     μ-loop
     loop-holds
     turn-requires
-    add-k
-    loop-less
+    (λ c. search needs) (λ c. search needs)
     loop-again
     same-length
-    same-length-2
-    same-length-3
+    (λ c. search needs) (λ c. search needs)
     returns)

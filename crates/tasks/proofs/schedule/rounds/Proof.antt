@@ -29,12 +29,6 @@ loop-holds c = (omega arith, refl, refl, rounds-start _ _ _ _ _ _ _ (c .before .
 same-length : tie.Need-same-length Inv-loop μ-loop
 same-length c = let h = c .before .before .loop .inv .3 .long in search needs
 
-same-length-2 : tie.Need-same-length-2 Inv-loop μ-loop
-same-length-2 c = search needs
-
-same-length-3 : tie.Need-same-length-3 Inv-loop μ-loop
-same-length-3 c = search needs
-
 returns : tie.Need-returns Inv-loop μ-loop
 returns c = ends-spent _ _ _ _ _ _ _ _ _ _ _ _ (c .before .before .loop .i) (c .before .before .loop .inv .3) _ (omega arith) (c .if1 .taken)
 
@@ -44,12 +38,6 @@ any-runs-requires c κs = c .before .before .before .before .before .before .bef
 same-length-4 : tie.Need-same-length-4 Inv-loop μ-loop
 same-length-4 c = let h = c .before .before .before .before .before .loop .inv .3 .long in search needs
 
-same-length-5 : tie.Need-same-length-5 Inv-loop μ-loop
-same-length-5 c = search needs
-
-same-length-6 : tie.Need-same-length-6 Inv-loop μ-loop
-same-length-6 c = search needs
-
 returns-2 : tie.Need-returns-2 Inv-loop μ-loop
 returns-2 c =
     let turn = c .before .before .before .before .before in
@@ -57,12 +45,6 @@ returns-2 c =
 
 round-requires : tie.Need-round-requires Inv-loop μ-loop
 round-requires c κs = c .before .before .before .before .before .before .before .before .before .before .loop .inv .3 .ready
-
-add-i : tie.Need-add-i Inv-loop μ-loop
-add-i c = search needs
-
-loop-less : tie.Need-loop-less Inv-loop μ-loop
-loop-less c = search needs
 
 loop-again : tie.Need-loop-again Inv-loop μ-loop
 loop-again c =
@@ -79,12 +61,6 @@ loop-again c =
 same-length-7 : tie.Need-same-length-7 Inv-loop μ-loop
 same-length-7 c = let h = c .before .loop .inv .3 .long in search needs
 
-same-length-8 : tie.Need-same-length-8 Inv-loop μ-loop
-same-length-8 c = search needs
-
-same-length-9 : tie.Need-same-length-9 Inv-loop μ-loop
-same-length-9 c = search needs
-
 returns-3 : tie.Need-returns-3 Inv-loop μ-loop
 returns-3 c = ends-full _ _ _ _ _ _ _ _ _ _ _ _ (c .before .loop .i) (c .before .loop .inv .3) _ (omega arith)
 
@@ -97,19 +73,15 @@ rounds-spec =
     add-most
     loop-holds
     same-length
-    same-length-2
-    same-length-3
+    (λ c. search needs) (λ c. search needs)
     returns
     any-runs-requires
     same-length-4
-    same-length-5
-    same-length-6
+    (λ c. search needs) (λ c. search needs)
     returns-2
     round-requires
-    add-i
-    loop-less
+    (λ c. search needs) (λ c. search needs)
     loop-again
     same-length-7
-    same-length-8
-    same-length-9
+    (λ c. search needs) (λ c. search needs)
     returns-3)

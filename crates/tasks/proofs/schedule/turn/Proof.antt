@@ -15,19 +15,10 @@ returns c =
     let start = c .before .before .before .before .before in
     played-spent _ _ _ _ _ _ _ _ _ _ (start .pre .1) (c .if1 .taken)
 
-mul-if2 : tie.Need-mul-if2
-mul-if2 c = search needs
-
-element-copy-out-if2 : tie.Need-element-copy-out-if2
-element-copy-out-if2 c = search needs
-
 returns-2 : tie.Need-returns-2
 returns-2 c =
     let start = c .before .before .before .before .before .before .before in
     played-stopped _ _ _ _ _ _ _ _ _ _ (start .pre .1) (omega (arith, start .pre .0, start .pre .1 .few)) (c .if2 .taken)
-
-each-len-requires : tie.Need-each-len-requires
-each-len-requires c κs = search needs
 
 mul-start : tie.Need-mul-start
 mul-start c =
@@ -38,18 +29,6 @@ add-end : tie.Need-add-end
 add-end c =
     let start = c .before .before .before .before .before .before .before .before in
     omega (arith, ends-few _ (start .args .images .now) _ (c .each-len .ensures _ refl) (start .pre .1 .few) (start .args .k) (start .pre .0))
-
-part-at-requires : tie.Need-part-at-requires
-part-at-requires c κs = search needs
-
-least-requires : tie.Need-least-requires
-least-requires c κs = search needs
-
-sub-image-turn : tie.Need-sub-image-turn
-sub-image-turn c = search needs
-
-part-image-turn-start : tie.Need-part-image-turn-start
-part-image-turn-start c = search needs
 
 part-image-turn-end : tie.Need-part-image-turn-end
 part-image-turn-end c =
@@ -64,18 +43,6 @@ image-turn-requires c κs =
     let start = each .before .before .before .before .before .before .before .before in
     image-lent _ (start .args .images .now) _ (each .each-len .ensures _ refl) (start .pre .1 .fit) (start .args .k) (start .pre .0)
 
-mul-refusals : tie.Need-mul-refusals
-mul-refusals c = search needs
-
-element-write-refusals : tie.Need-element-write-refusals
-element-write-refusals c = search needs
-
-mul-counts : tie.Need-mul-counts
-mul-counts c = search needs
-
-element-copy-out-counts : tie.Need-element-copy-out-counts
-element-copy-out-counts c = search needs
-
 add-counts : tie.Need-add-counts
 add-counts c =
     let turning = c .before .before .before .before .before .before .before in
@@ -83,26 +50,11 @@ add-counts c =
     let start = least .before .before .before .before .before .before .before .before .before .before in
     omega (arith, start .pre .1 .small (start .args .k), turned-most _ _ _ _ _ _ _ _ (turning .image-turn .ensures), least .least .ensures)
 
-mul-counts-2 : tie.Need-mul-counts-2
-mul-counts-2 c = search needs
-
-element-write-counts : tie.Need-element-write-counts
-element-write-counts c = search needs
-
 sub-result : tie.Need-sub-result
 sub-result c =
     let turning = c .before .before .before .before .before .before .before in
     let least = turning .before .before .before .before .before in
     omega (arith, turned-most _ _ _ _ _ _ _ _ (turning .image-turn .ensures), least .least .ensures)
-
-same-length : tie.Need-same-length
-same-length c = search needs
-
-same-length-2 : tie.Need-same-length-2
-same-length-2 c = search needs
-
-same-length-3 : tie.Need-same-length-3
-same-length-3 c = search needs
 
 returns-3 : tie.Need-returns-3
 returns-3 c =
@@ -122,27 +74,17 @@ turn-spec =
     tie.close
     (tie.spec
     returns
-    mul-if2
-    element-copy-out-if2
+    (λ c. search needs) (λ c. search needs)
     returns-2
-    each-len-requires
+    (λ c κs. search needs)
     mul-start
     add-end
-    part-at-requires
-    least-requires
-    sub-image-turn
-    part-image-turn-start
+    (λ c κs. search needs) (λ c κs. search needs) (λ c. search needs) (λ c. search needs)
     part-image-turn-end
     image-turn-requires
-    mul-refusals
-    element-write-refusals
-    mul-counts
-    element-copy-out-counts
+    (λ c. search needs) (λ c. search needs) (λ c. search needs) (λ c. search needs)
     add-counts
-    mul-counts-2
-    element-write-counts
+    (λ c. search needs) (λ c. search needs)
     sub-result
-    same-length
-    same-length-2
-    same-length-3
+    (λ c. search needs) (λ c. search needs) (λ c. search needs)
     returns-3)

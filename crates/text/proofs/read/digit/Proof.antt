@@ -6,9 +6,6 @@ use Rattle.text.specs.Digits.{digitOf}
 use Rattle.text.proofs.read.digit.Statement.{statement}
 use Rattle.text.proofs.read.digit.Tie as tie
 
-add-result : tie.Need-add-result
-add-result c = search needs
-
 returns : tie.Need-returns
 unfolding digitOf
 returns c = simp (within-yes 48 58 (c .before .before .args .b) (omega arith) (omega arith))
@@ -38,4 +35,4 @@ returns-5 c =
     rw (within-above 48 58 b (omega arith), within-above 97 103 b (omega arith))
 
 pub digit-spec : {M : Type 1} → statement M
-digit-spec = tie.close (tie.spec add-result returns returns-2 returns-3 returns-4 returns-5)
+digit-spec = tie.close (tie.spec (λ c. search needs) returns returns-2 returns-3 returns-4 returns-5)

@@ -23,16 +23,10 @@ loop-holds c = (omega arith, omega arith, omega arith, refl, leads-whole _ _ _)
 shared-slice-read-byte : tie.Need-shared-slice-read-byte Inv-loop μ-loop
 shared-slice-read-byte c = omega arith
 
-field-at-requires : tie.Need-field-at-requires Inv-loop μ-loop
-field-at-requires c κs = search needs
-
 put-piece-requires : tie.Need-put-piece-requires Inv-loop μ-loop
 put-piece-requires c κs =
     let at-loop = c .before .before .before .before in
     omega (arith, at-loop .before .before .before .before .pre)
-
-marks-requires : tie.Need-marks-requires Inv-loop μ-loop
-marks-requires c κs = search needs
 
 add-used : tie.Need-add-used Inv-loop μ-loop
 add-used c =
@@ -77,9 +71,9 @@ fill-spec =
     μ-loop
     loop-holds
     shared-slice-read-byte
-    field-at-requires
+    (λ c κs. search needs)
     put-piece-requires
-    marks-requires
+    (λ c κs. search needs)
     add-used
     add-i
     loop-less

@@ -4,15 +4,6 @@ use Rattle.text.proofs.Writes.{wrote-one, wrote-past}
 use Rattle.text.proofs.write.put.Statement.{statement}
 use Rattle.text.proofs.write.put.Tie as tie
 
-add-end : tie.Need-add-end
-add-end c = search needs
-
-slice-write-out : tie.Need-slice-write-out
-slice-write-out c = search needs
-
-same-length : tie.Need-same-length
-same-length c = search needs
-
 returns : tie.Need-returns
 returns c = wrote-one _ _ _
 
@@ -20,4 +11,4 @@ returns-2 : tie.Need-returns-2
 returns-2 c = wrote-past (c .before .args .out .now) (c .before .args .at) (c .before .args .byte) (c .if1 .left)
 
 pub put-spec : {M : Type 1} → statement M
-put-spec = tie.close (tie.spec add-end slice-write-out same-length returns returns-2)
+put-spec = tie.close (tie.spec (λ c. search needs) (λ c. search needs) (λ c. search needs) returns returns-2)

@@ -7,19 +7,10 @@ use Rattle.text.proofs.Writes.{wrote-as}
 use Rattle.text.proofs.write.put_digit.Statement.{statement}
 use Rattle.text.proofs.write.put_digit.Tie as tie
 
-glyph-requires : tie.Need-glyph-requires
-glyph-requires c κs = search needs
-
-put-requires : tie.Need-put-requires
-put-requires c κs = search needs
-
-same-length : tie.Need-same-length
-same-length c = search needs
-
 returns : tie.Need-returns
 returns c =
     let putting = c .before .before in
     wrote-as _ _ _ _ _ _ (ap (λ (b : ℕ). b ∷ []) (putting .before .glyph .ensures)) (putting .put .ensures)
 
 pub put-digit-spec : {M : Type 1} → statement M
-put-digit-spec = tie.close (tie.spec glyph-requires put-requires same-length returns)
+put-digit-spec = tie.close (tie.spec (λ c κs. search needs) (λ c κs. search needs) (λ c. search needs) returns)

@@ -15,12 +15,6 @@ returns-2 c =
     let a = c .before .before .before .before .before .args in
     wrote-as _ _ _ _ _ _ (put-long (a .at) (a .pattern .now) (a .fields .now) (omega arith) (omega arith)) (wrote-nothing _ _)
 
-fill-requires : tie.Need-fill-requires
-fill-requires c κs = search needs
-
-same-length : tie.Need-same-length
-same-length c = search needs
-
 returns-3 : tie.Need-returns-3
 returns-3 c =
     let filling = c .before .before in
@@ -28,4 +22,4 @@ returns-3 c =
     wrote-as _ _ _ _ _ _ (put-here (a .at) (a .pattern .now) (a .fields .now) (omega arith) (omega arith)) (filling .fill .ensures)
 
 pub write-spec : {M : Type 1} → statement M
-write-spec = tie.close (tie.spec returns returns-2 fill-requires same-length returns-3)
+write-spec = tie.close (tie.spec returns returns-2 (λ c κs. search needs) (λ c. search needs) returns-3)

@@ -10,60 +10,15 @@ use Rattle.turns.proofs.ask.arm_asks.Tie as tie
 abbrev start : tie.Else2 → tie.Start
 start c = c .before .before .before .before .before .before
 
-is-among-requires : tie.Need-is-among-requires
-is-among-requires c κs = search needs
-
-sum-requires : tie.Need-sum-requires
-sum-requires c κs = search needs
-
-is-foreign-requires : tie.Need-is-foreign-requires
-is-foreign-requires c κs = search needs
-
 returns : tie.Need-returns
 returns c = λ pc halt marks mask.
     let sum = c .before in
     load-asks _ _ (made _ _ pc halt marks mask) _ _ _ _ _ (sum .sum .ensures _ pc halt marks mask) _ (c .is-foreign .ensures) (sym (sum .before .before .is-among .ensures) ∙ sum .before .if1 .taken)
 
-is-among-requires-2 : tie.Need-is-among-requires-2
-is-among-requires-2 c κs = search needs
-
-sum-requires-2 : tie.Need-sum-requires-2
-sum-requires-2 c κs = search needs
-
-is-foreign-requires-2 : tie.Need-is-foreign-requires-2
-is-foreign-requires-2 c κs = search needs
-
 returns-2 : tie.Need-returns-2
 returns-2 c = λ pc halt marks mask.
     let sum = c .before in
     store-asks _ _ (made _ _ pc halt marks mask) _ _ _ _ _ (sum .sum2 .ensures _ pc halt marks mask) _ (c .is-foreign2 .ensures) (sym (sum .before .before .is-among2 .ensures) ∙ sum .before .if2 .taken)
-
-push-asks-requires : tie.Need-push-asks-requires
-push-asks-requires c κs = search needs
-
-push-asks-requires-2 : tie.Need-push-asks-requires-2
-push-asks-requires-2 c κs = search needs
-
-push-asks-requires-3 : tie.Need-push-asks-requires-3
-push-asks-requires-3 c κs = search needs
-
-push-asks-requires-4 : tie.Need-push-asks-requires-4
-push-asks-requires-4 c κs = search needs
-
-pop-asks-requires : tie.Need-pop-asks-requires
-pop-asks-requires c κs = search needs
-
-save-asks-requires : tie.Need-save-asks-requires
-save-asks-requires c κs = search needs
-
-mul-address : tie.Need-mul-address
-mul-address c = search needs
-
-element-copy-out-address : tie.Need-element-copy-out-address
-element-copy-out-address c = search needs
-
-unsave-asks-requires : tie.Need-unsave-asks-requires
-unsave-asks-requires c κs = search needs
 
 returns-3 : tie.Need-returns-3
 returns-3 c = λ pc halt marks mask.
@@ -103,23 +58,12 @@ pub arm-asks-spec : {M : Type 1} → statement M
 arm-asks-spec =
     tie.close
     (tie.spec
-    is-among-requires
-    sum-requires
-    is-foreign-requires
+    (λ c κs. search needs) (λ c κs. search needs) (λ c κs. search needs)
     returns
-    is-among-requires-2
-    sum-requires-2
-    is-foreign-requires-2
+    (λ c κs. search needs) (λ c κs. search needs) (λ c κs. search needs)
     returns-2
-    push-asks-requires
-    push-asks-requires-2
-    push-asks-requires-3
-    push-asks-requires-4
-    pop-asks-requires
-    save-asks-requires
-    mul-address
-    element-copy-out-address
-    unsave-asks-requires
+    (λ c κs. search needs) (λ c κs. search needs) (λ c κs. search needs) (λ c κs. search needs) (λ c κs. search needs)
+    (λ c κs. search needs) (λ c. search needs) (λ c. search needs) (λ c κs. search needs)
     returns-3
     returns-4
     returns-5

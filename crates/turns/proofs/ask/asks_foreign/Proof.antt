@@ -7,38 +7,11 @@ use Rattle.turns.proofs.AsksArms.{unfetched-asks, fetched-asks, claim-c
 use Rattle.turns.proofs.ask.asks_foreign.Statement.{statement}
 use Rattle.turns.proofs.ask.asks_foreign.Tie as tie
 
-read-octa-requires : tie.Need-read-octa-requires
-read-octa-requires c κs = search needs
-
-is-foreign-requires : tie.Need-is-foreign-requires
-is-foreign-requires c κs = search needs
-
 returns : tie.Need-returns
 returns c = λ halt marks mask a.
     let octa = c .before .before .before in
     let start = octa .before .before .before in
     unfetched-asks _ _ (start .pre .1) (made _ _ _ halt marks mask) a (start .pre .2) _ (octa .read-octa .ensures .1) (c .before .if1 .taken) _ (c .is-foreign .ensures)
-
-tetra-at-requires : tie.Need-tetra-at-requires
-tetra-at-requires c κs = search needs
-
-cast-op : tie.Need-cast-op
-cast-op c = search needs
-
-cast-x : tie.Need-cast-x
-cast-x c = search needs
-
-cast-y : tie.Need-cast-y
-cast-y c = search needs
-
-cast-z : tie.Need-cast-z
-cast-z c = search needs
-
-claims-requires : tie.Need-claims-requires
-claims-requires c κs = search needs
-
-arm-asks-requires : tie.Need-arm-asks-requires
-arm-asks-requires c κs = search needs
 
 returns-2 : tie.Need-returns-2
 returns-2 c = λ halt marks mask a.
@@ -48,9 +21,6 @@ returns-2 c = λ halt marks mask a.
     let start = octa .before .before .before in
     fetched-asks _ _ (start .pre .1) (made _ _ _ halt marks mask) a (start .pre .2) _ (octa .read-octa .ensures .1) (tetra .before .if1 .left) _ _ (octa .read-octa .ensures .0) (tetra .tetra-at .ensures .0)
     (made _ _ _ halt marks mask) (plain-claim _ _ _ (denied _ _ (claims .claims .ensures) (c .before .if2 .taken))) _ (c .arm-asks .ensures _ halt marks mask)
-
-claim-local-requires : tie.Need-claim-local-requires
-claim-local-requires c κs = search needs
 
 arm-asks-requires-2 : tie.Need-arm-asks-requires-2
 arm-asks-requires-2 c κs =
@@ -75,17 +45,11 @@ pub asks-foreign-spec : {M : Type 1} → statement M
 asks-foreign-spec =
     tie.close
     (tie.spec
-    read-octa-requires
-    is-foreign-requires
+    (λ c κs. search needs) (λ c κs. search needs)
     returns
-    tetra-at-requires
-    cast-op
-    cast-x
-    cast-y
-    cast-z
-    claims-requires
-    arm-asks-requires
+    (λ c κs. search needs) (λ c. search needs) (λ c. search needs) (λ c. search needs) (λ c. search needs) (λ c κs. search needs)
+    (λ c κs. search needs)
     returns-2
-    claim-local-requires
+    (λ c κs. search needs)
     arm-asks-requires-2
     returns-3)

@@ -18,16 +18,10 @@ abbrev μ-loop : tie.MeasureT-loop
 loop-holds : tie.Need-loop-holds Inv-loop μ-loop
 loop-holds c = (omega arith, scan-none _ _ _)
 
-is-foreign-requires : tie.Need-is-foreign-requires Inv-loop μ-loop
-is-foreign-requires c κs = search needs
-
 returns : tie.Need-returns Inv-loop μ-loop
 returns c =
     let turn = c .before .before .before in
     scan-found _ _ _ _ _ (turn .loop .inv .1) (omega arith) (sym (c .if1 .taken) ∙ c .before .is-foreign .ensures)
-
-wrapping-add-requires : tie.Need-wrapping-add-requires Inv-loop μ-loop
-wrapping-add-requires c κs = search needs
 
 add-i : tie.Need-add-i Inv-loop μ-loop
 add-i c = omega arith
@@ -51,9 +45,9 @@ has-foreign-spec =
     Inv-loop
     μ-loop
     loop-holds
-    is-foreign-requires
+    (λ c κs. search needs)
     returns
-    wrapping-add-requires
+    (λ c κs. search needs)
     add-i
     loop-less
     loop-again

@@ -5,9 +5,6 @@ use Rattle.turns.proofs.Asks.{asked-out, asked-own, asked-before, asked
 use Rattle.turns.proofs.ask.is_foreign.Statement.{statement}
 use Rattle.turns.proofs.ask.is_foreign.Tie as tie
 
-distance-requires : tie.Need-distance-requires
-distance-requires c κs = search needs
-
 returns : tie.Need-returns
 returns c = asked-out _ _ _ (c .before .before .distance .ensures) (omega arith)
 
@@ -25,4 +22,4 @@ returns-5 c = asked-behind _ _ _ (c .before .before .before .before .before .bef
 
 pub is-foreign-spec : {M : Type 1} → statement M
 is-foreign-spec =
-    tie.close (tie.spec distance-requires returns returns-2 returns-3 returns-4 returns-5)
+    tie.close (tie.spec (λ c κs. search needs) returns returns-2 returns-3 returns-4 returns-5)

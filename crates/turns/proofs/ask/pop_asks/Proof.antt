@@ -20,38 +20,20 @@ standing c general pc halt marks mask = record {
   positive = sym (c .before .is-negative .ensures) ∙ c .if3 .left;
 }
 
-element-copy-out-ro : tie.Need-element-copy-out-ro
-element-copy-out-ro c = search needs
-
-element-copy-out-rg : tie.Need-element-copy-out-rg
-element-copy-out-rg c = search needs
-
 returns : tie.Need-returns
 returns c = λ general pc halt marks mask. pop-nothing _ _ (made general _ pc halt marks mask) (λ q. omega (arith, q .above))
 
 returns-2 : tie.Need-returns-2
 returns-2 c = λ general pc halt marks mask. pop-nothing _ _ (made general _ pc halt marks mask) (λ q. c .if2 .taken (q .even))
 
-is-negative-requires : tie.Need-is-negative-requires
-is-negative-requires c κs = search needs
-
 returns-3 : tie.Need-returns-3
 returns-3 c = λ general pc halt marks mask.
     pop-nothing _ _ (made general _ pc halt marks mask) (λ q. differ (sym (c .if3 .taken) ∙ c .before .is-negative .ensures ∙ q .positive))
-
-sub-below : tie.Need-sub-below
-sub-below c = search needs
-
-is-foreign-requires : tie.Need-is-foreign-requires
-is-foreign-requires c κs = search needs
 
 returns-4 : tie.Need-returns-4
 returns-4 c = λ general pc halt marks mask.
     let asked = c .before in
     pop-foreign _ _ (made general _ pc halt marks mask) (start (asked .before) .pre) (standing (asked .before) general pc halt marks mask) _ (asked .is-foreign .ensures) (c .if4 .taken)
-
-read-octa-requires : tie.Need-read-octa-requires
-read-octa-requires c κs = search needs
 
 returns-5 : tie.Need-returns-5
 returns-5 c = λ general pc halt marks mask.
@@ -59,21 +41,6 @@ returns-5 c = λ general pc halt marks mask.
     let asked = octa .before .before in
     pop-missing _ _ (made general _ pc halt marks mask) (start (asked .before) .pre) (standing (asked .before) general pc halt marks mask) _ (asked .is-foreign .ensures) (octa .before .if4 .left)
     _ (octa .read-octa .ensures .1) (c .if5 .taken)
-
-least-requires : tie.Need-least-requires
-least-requires c κs = search needs
-
-add-has-foreign : tie.Need-add-has-foreign
-add-has-foreign c = search needs
-
-mul-has-foreign : tie.Need-mul-has-foreign
-mul-has-foreign c = search needs
-
-sub-has-foreign : tie.Need-sub-has-foreign
-sub-has-foreign c = search needs
-
-has-foreign-requires : tie.Need-has-foreign-requires
-has-foreign-requires c κs = search needs
 
 returns-6 : tie.Need-returns-6
 returns-6 c = λ general pc halt marks mask.
@@ -87,20 +54,14 @@ pub pop-asks-spec : {M : Type 1} → statement M
 pop-asks-spec =
     tie.close
     (tie.spec
-    element-copy-out-ro
-    element-copy-out-rg
+    (λ c. search needs) (λ c. search needs)
     returns
     returns-2
-    is-negative-requires
+    (λ c κs. search needs)
     returns-3
-    sub-below
-    is-foreign-requires
+    (λ c. search needs) (λ c κs. search needs)
     returns-4
-    read-octa-requires
+    (λ c κs. search needs)
     returns-5
-    least-requires
-    add-has-foreign
-    mul-has-foreign
-    sub-has-foreign
-    has-foreign-requires
+    (λ c κs. search needs) (λ c. search needs) (λ c. search needs) (λ c. search needs) (λ c κs. search needs)
     returns-6)

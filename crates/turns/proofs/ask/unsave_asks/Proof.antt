@@ -5,14 +5,8 @@ use Rattle.turns.proofs.AsksUnsave.{unsave-foreign, unsave-missing, uns
 use Rattle.turns.proofs.ask.unsave_asks.Statement.{statement}
 use Rattle.turns.proofs.ask.unsave_asks.Tie as tie
 
-is-foreign-requires : tie.Need-is-foreign-requires
-is-foreign-requires c κs = search needs
-
 returns : tie.Need-returns
 returns c = let asked = c .before in unsave-foreign _ _ (asked .before .before .before .pre) _ _ (asked .is-foreign .ensures) (c .if1 .taken)
-
-read-octa-requires : tie.Need-read-octa-requires
-read-octa-requires c κs = search needs
 
 returns-2 : tie.Need-returns-2
 returns-2 c =
@@ -52,9 +46,9 @@ pub unsave-asks-spec : {M : Type 1} → statement M
 unsave-asks-spec =
     tie.close
     (tie.spec
-    is-foreign-requires
+    (λ c κs. search needs)
     returns
-    read-octa-requires
+    (λ c κs. search needs)
     returns-2
     returns-3
     returns-4

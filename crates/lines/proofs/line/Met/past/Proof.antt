@@ -20,9 +20,6 @@ loop-holds c = (omega arith, refl, λ p. refl)
 shared-slice-read-past-byte : tie.Need-shared-slice-read-past-byte Inv-loop μ-loop
 shared-slice-read-past-byte c = omega arith
 
-past-byte-requires : tie.Need-past-byte-requires Inv-loop μ-loop
-past-byte-requires c κs = search needs
-
 add-i : tie.Need-add-i Inv-loop μ-loop
 add-i c = omega arith
 
@@ -49,7 +46,7 @@ past-spec =
     μ-loop
     loop-holds
     shared-slice-read-past-byte
-    past-byte-requires
+    (λ c κs. search needs)
     add-i
     loop-less
     loop-again

@@ -5,15 +5,6 @@ use Rattle.lines.proofs.Forms.{met-on, met-other, met-missing}
 use Rattle.lines.proofs.line.Met.past_byte.Statement.{statement}
 use Rattle.lines.proofs.line.Met.past_byte.Tie as tie
 
-shared-slice-read-fits-byte : tie.Need-shared-slice-read-fits-byte
-shared-slice-read-fits-byte c = search needs
-
-fits-byte-requires : tie.Need-fits-byte-requires
-fits-byte-requires c κs = search needs
-
-add-self : tie.Need-add-self
-add-self c = search needs
-
 returns : tie.Need-returns
 returns c =
     let here = c .before .before .before in
@@ -34,4 +25,4 @@ returns-3 c =
 pub past-byte-spec : {M : Type 1} → statement M
 past-byte-spec =
     tie.close
-    (tie.spec shared-slice-read-fits-byte fits-byte-requires add-self returns returns-2 returns-3)
+    (tie.spec (λ c. search needs) (λ c κs. search needs) (λ c. search needs) returns returns-2 returns-3)

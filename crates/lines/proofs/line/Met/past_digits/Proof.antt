@@ -19,9 +19,6 @@ loop-holds c =
     let e : n - 0 ≡ n = omega arith in
     (omega arith, λ p. rw e)
 
-past-byte-requires : tie.Need-past-byte-requires Inv-loop μ-loop
-past-byte-requires c κs = search needs
-
 add-i : tie.Need-add-i Inv-loop μ-loop
 add-i c = omega arith
 
@@ -47,7 +44,7 @@ past-digits-spec =
     Inv-loop
     μ-loop
     loop-holds
-    past-byte-requires
+    (λ c κs. search needs)
     add-i
     loop-less
     loop-again

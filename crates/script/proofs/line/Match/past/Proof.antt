@@ -12,11 +12,5 @@ past-number-requires c κs = omega (arith, marks-mark (c .before .before .args .
 returns : tie.Need-returns
 returns c = rw (c .before .if1 .taken) (c .past-number .ensures)
 
-past-byte-requires : tie.Need-past-byte-requires
-past-byte-requires c κs = search needs
-
-returns-2 : tie.Need-returns-2
-returns-2 c = search needs
-
 pub past-spec : {M : Type 1} → statement M
-past-spec = tie.close (tie.spec past-number-requires returns past-byte-requires returns-2)
+past-spec = tie.close (tie.spec past-number-requires returns (λ c κs. search needs) (λ c. search needs))

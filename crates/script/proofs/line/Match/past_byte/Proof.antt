@@ -4,12 +4,6 @@ use Rattle.script.proofs.Turns.{byte-met, byte-other, byte-missing, pas
 use Rattle.script.proofs.line.Match.past_byte.Statement.{statement}
 use Rattle.script.proofs.line.Match.past_byte.Tie as tie
 
-shared-slice-read-if2 : tie.Need-shared-slice-read-if2
-shared-slice-read-if2 c = search needs
-
-add-self : tie.Need-add-self
-add-self c = search needs
-
 returns : tie.Need-returns
 returns c =
     let s = c .before .before .before in
@@ -28,4 +22,4 @@ returns-3 c =
     past-failed (a .c) (a .line .now) (a .self) (byte-missing (a .c) (a .line .now) (a .self .at) (c .before .pre) (c .if1 .left))
 
 pub past-byte-spec : {M : Type 1} → statement M
-past-byte-spec = tie.close (tie.spec shared-slice-read-if2 add-self returns returns-2 returns-3)
+past-byte-spec = tie.close (tie.spec (λ c. search needs) (λ c. search needs) returns returns-2 returns-3)

@@ -7,25 +7,10 @@ use Rattle.script.proofs.Turns.{number-missing, past-number, past-faile
 use Rattle.script.proofs.line.Match.past_number.Statement.{statement}
 use Rattle.script.proofs.line.Match.past_number.Tie as tie
 
-digits-end-requires : tie.Need-digits-end-requires
-digits-end-requires c κs = search needs
-
-is-number-requires : tie.Need-is-number-requires
-is-number-requires c κs = search needs
-
 value-requires : tie.Need-value-requires
 value-requires c κs =
     let a = c .before .before .before .before .args in
     (c .before .before .digits-end .ensures, read-below (drop (a .t1 .at) (a .line .now)) (sym (c .before .is-number .ensures) ∙ c .if1 .taken))
-
-mul-self : tie.Need-mul-self
-mul-self c = search needs
-
-element-write-self : tie.Need-element-write-self
-element-write-self c = search needs
-
-add-self : tie.Need-add-self
-add-self c = search needs
 
 returns : tie.Need-returns
 returns c =
@@ -42,11 +27,8 @@ pub past-number-spec : {M : Type 1} → statement M
 past-number-spec =
     tie.close
     (tie.spec
-    digits-end-requires
-    is-number-requires
+    (λ c κs. search needs) (λ c κs. search needs)
     value-requires
-    mul-self
-    element-write-self
-    add-self
+    (λ c. search needs) (λ c. search needs) (λ c. search needs)
     returns
     returns-2)
