@@ -41,6 +41,7 @@ pub mod Leaves
 pub mod StepNeeds
 pub mod Locality
 pub mod Computed
+pub mod KeptPoints
 pub mod Bench
 pub mod RunPoints
 pub mod Rules

@@ -55,3 +55,4 @@ pub mod PopOrder
 pub mod Unseen
 pub mod HiddenPoints
 pub mod FieldPoints
+pub mod KeptPoints
