@@ -105,7 +105,11 @@ pub fn print_targets(targets: &[Target]) {
         let most = group.iter().map(|target| target.ratio).fold(0.0, f64::max);
         let missed: Vec<String> =
             group.iter().filter(|t| !t.met()).map(|t| format!("{} {:.2}", t.of, t.ratio)).collect();
-        let verdict = if missed.is_empty() { "met".to_string() } else { format!("missed: {}", missed.join("; ")) };
+        let verdict = match missed.len() {
+            0 => "met".to_string(),
+            n if n == group.len() => "missed by all".to_string(),
+            _ => format!("missed: {}", missed.join("; ")),
+        };
         let range = if group.len() == 1 { format!("{least:.2}") } else { format!("{least:.2} to {most:.2}") };
         println!(
             "| {} | {range} | at {} {} | {verdict} |",
