@@ -26,7 +26,7 @@ WARNINGS = -Wall -Wextra -Wpedantic -Werror
 HEADERS = build/mmix.h build/mmix_text.h build/mmix_disassemble.h build/mmix_points.h
 VERSION = $(shell sed -n 's/^\#define MMIX_VERSION_[MI].* //p' include/mmix.h | paste -s -d .)
 
-.PHONY: help test quotes prove bench scripts-test points points-test lib shared install host host-test pop-watch programs oracle oracle-test differential guards mutants speed replay-list definitions constants clean need-rt need-gcc need-script need-points
+.PHONY: help test quotes prove bench scripts-test points points-test lib shared install host host-test replay pop-watch programs oracle oracle-test differential guards mutants speed replay-list definitions constants clean need-rt need-gcc need-script need-points
 
 help:
 	@echo 'make bench SCRIPT=path       the bench program on a script (examples/scripts/first.script)'
@@ -36,6 +36,7 @@ help:
 	@echo 'make build/store_lines       the program that moves points from one store to another as lines'
 	@echo 'make shared                  build/libmmix.so, the same code as a shared library, for Python and others'
 	@echo 'make host                    build and run examples/relay_host.c and grading.c, a program that grades relays'
+	@echo 'make replay                  replay a fixed list of the Rust'\''s answers on the library'
 	@echo 'make pop-watch               watch in which order the POP of the library writes registers'
 	@echo 'make programs                run compiled programs (PROGRAMS=folder) by grants, and compare answers and counts'
 	@echo 'make install PREFIX=dir      libmmix.a, its headers and mmix.pc under dir (/usr/local)'
@@ -43,7 +44,7 @@ help:
 	@echo 'make differential CASES=n    run n cases on the Rust and beside it; SEED=s for others'
 	@echo 'make guards                  the same with every buffer between guards, and under valgrind'
 	@echo 'make mutants                 put single faults into a copy of the Rust: each must be found'
-	@echo 'make replay-list             write the list of answers that crates/replay replays anew, by running the Rust'
+	@echo 'make replay-list             write the list of answers that `make replay` replays anew, by running the Rust'
 	@echo 'make definitions DEFINED=n   have the prover compute the definitions on n answers of the Rust'
 	@echo 'make constants               change each constant of the definitions in turn: something must refuse it'
 	@echo 'make speed                   time the library and the Rust side by side'
@@ -68,7 +69,7 @@ test: need-rt need-gcc
 	@docs/check_stack
 	@if $(MAKE) --no-print-directory -q build/ci.log; then echo 'proofs and edits: nothing has changed since they passed; make clean to repeat them'; \
 	  else $(MAKE) --no-print-directory build/ci.log; fi
-	@$(MAKE) --no-print-directory host-test pop-watch programs scripts-test points-test oracle-test differential
+	@$(MAKE) --no-print-directory host-test replay pop-watch programs scripts-test points-test oracle-test differential
 	@tail -n 1 build/ci.log
 
 # Only the papers are quoted. Without them, or python3, it says so, and fails only where CI is true.
@@ -143,7 +144,7 @@ build/%.h: include/%.h
 	@mkdir -p build
 	@cp $< $@
 
-HOSTS = $(addprefix build/,relay_host grading run_program store_lines take_points header_test facts_test pop_watch)
+HOSTS = $(addprefix build/,relay_host grading run_program store_lines take_points header_test facts_test replay pop_watch)
 LISTING = examples/grading/grading.mms
 
 $(HOSTS): build/%: examples/%.c build/libmmix.a $(HEADERS)
@@ -173,6 +174,10 @@ host-test: need-gcc build/relay_host build/grading build/header_test build/facts
 	  && echo 'libmmix.so: it has the functions of libmmix.a'
 	@if ! command -v python3 >/dev/null 2>&1; then echo 'no test of Python: python3 is not on the PATH; install the package python3'; [ "$${CI:-}" != true ]; \
 	  else python3 examples/first.py build/libmmix.so > build/told && build/first | diff - build/told && echo 'first.py: prints what first.c prints'; fi
+
+# A fixed list of the Rust's answers, with no Rust at hand.
+replay: need-gcc build/replay
+	@build/replay examples/replay/answers
 
 # POP's order of work, write by write; first the watcher itself.
 pop-watch: need-gcc build/pop_watch
@@ -222,9 +227,9 @@ guards: oracle
 	$(call RUN,if command -v valgrind >/dev/null 2>&1; then \
 	  valgrind --error-exitcode=1 $(ORACLE)/differential --cases 20000 --seed $(SEED) --threads 1 --guards heap; fi)
 
-# The list that crates/replay replays: 3,000 answers of the Rust.
+# The list that is replayed: 3,000 answers of the Rust.
 replay-list: oracle
-	$(call RUN,$(ORACLE)/replay_list crates/replay/data/answers)
+	$(call RUN,$(ORACLE)/replay_list examples/replay/answers)
 
 # The definitions of crate model, computed by the prover on answers of the Rust: replies, whole states, whole windows, needs. With
 # WRONG=17 the reply of case 17 is written down wrong, and the check must end with an error at `case-17-agrees`.
