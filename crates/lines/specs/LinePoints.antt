@@ -10,7 +10,7 @@ use Rattle.text.specs.Codes.{codes}
 use Rattle.text.specs.Text.{badText}
 use Rattle.lines.specs.Line.{pointForm, fits, octasA, octasB, isNew, isOld, isShort, isShortOld, widthsOf, zeros, renewed, longestLine}
 use Rattle.lines.specs.PointLine.{inForm, pointDigits}
-use Rattle.lines.specs.Stream.{badMost}
+use Rattle.lines.specs.Stream.{printed, badMost}
 
 -- ---- a line
 
@@ -37,6 +37,7 @@ LinePointsMet =
     (line ≡ codes "(point (name a) (octas 00000001 00000000) (bases 0123456789abcdef 6000000000000000) (state a55a) (windows 00010203fcfdfeff))")
     × (formMet 8 4672 0 ≡ true) × (formMet 8 4656 16 ≡ true) × (formMet 4 4672 8 ≡ true) × (formMet 4 4656 24 ≡ true)
     × (longestLine ≡ 4199080) × (length (badText 18446744073709551615) ≡ badMost)
+    × (printed (codes "x\n") ≡ codes "(bad 1)\n")
 
 -- ---- the most octabytes
 
