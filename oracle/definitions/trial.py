@@ -1,27 +1,28 @@
-"""Changes tried: a copy of crate model with a change in it, checked."""
+"""Changes tried: a copy of a crate with a change in it, checked."""
 import os
 import re
 import shutil
 import subprocess
+import threading
 
-HERE = os.path.dirname(os.path.abspath(__file__))
-ROOT = os.path.dirname(os.path.dirname(HERE))
-CRATE = os.path.join(ROOT, "crates", "model")
-# Copies of the crate stand under target/, where `rt` looks for no crate; what was tried is kept in build/.
+from changes import ROOT, read
+
+# Copies of crates stand under target/, where `rt` looks for no crate; what was tried is kept in build/.
 WORK = os.path.join(ROOT, "target", "constants")
 KEPT = os.path.join(ROOT, "build", "constants")
 
-# Some points, all points, laws and theorems.
-SIDES = ("some", "points", "laws")
-# What all others rest on: points first, and of these some.
+# Of model some points, one list of points, all points, laws and theorems, each in a repository of its own; any other crate is tried whole.
+WHOLE, SOME, POINTS, LAWS = "whole", "some", "points", "laws"
+# What all others rest on: some points first.
 GROUND = ["Registers", "Memory", "Plan", "Octa", "Fill", "NoMemory", "Lists"]
+# The list of points that is made for a file.
+OWN = {"Opcodes": "arithmeticStepPoints", "ArithmeticStep": "arithmeticStepPoints", "Arithmetic": "arithmeticPoints",
+       "Whole": "arithmeticPoints", "Field": "fieldPoints", "LoadStore": "loadStorePoints"}
 # Points are computed some at a time, each few in a file of their own, so that only those that a change reaches are computed anew.
-FEW, CHUNKS, SOME = 5, 80, 9
+FEW, CHUNKS, ONE_IN = 5, 80, 9
 
-
-def read(path):
-    with open(path, encoding="utf-8") as f:
-        return f.read()
+ERROR = re.compile(r"^\S*?/crates/\w+/(\S+?):\d+:\d+: error: `([^`]+)`: (.*)$", re.M)
+UNPROVED = re.compile(r"^(?:fn|struct|enum) \w+::(\S+): (?:not proved|no proof)$", re.M)
 
 
 def write(path, text):
@@ -29,13 +30,16 @@ def write(path, text):
         f.write(text)
 
 
-def rt(repository, *words):
+def rt(repository, *words, seconds=300):
     """The status of `rt WORDS` in a repository, and what it printed."""
+    run = subprocess.Popen(["nice", "-n", "19", "rt", *words], cwd=repository, stdout=subprocess.PIPE, stderr=subprocess.STDOUT,
+                           start_new_session=True)
     try:
-        ran = subprocess.run(["nice", "-n", "4", "rt", *words], cwd=repository, stdout=subprocess.PIPE, stderr=subprocess.STDOUT,
-                             timeout=900)
-        return ran.returncode, ran.stdout.decode("utf-8", "replace")
+        printed = run.communicate(timeout=seconds)[0]
+        return run.returncode, printed.decode("utf-8", "replace")
     except subprocess.TimeoutExpired:
+        os.killpg(run.pid, 9)
+        run.communicate()
         return 3, "timeout"
 
 
@@ -56,8 +60,8 @@ def computed(crate):
     return found
 
 
-def split_points(crate, some):
-    """Bench.antt as files of few points each, with `some` one in nine of these; left whole where its form is another."""
+def split_points(crate, side):
+    """Bench.antt as files of few points each, of all lists or of one; some are one in nine of these. Left whole where its form is another."""
     tests, bench = computed(crate), os.path.join(crate, "proofs", "Bench.antt")
     text = read(bench)
     opened = re.search(r"^unfolding (.*)$", text, re.M)
@@ -68,10 +72,12 @@ def split_points(crate, some):
     names = []
     for test in tests:
         function, _, points = test.partition(" ")
+        if side not in (SOME, POINTS, points):
+            continue
         parts = [f"{function} (take {FEW} (drop {FEW * k} {points}))" for k in range(CHUNKS)]
         parts = parts + [f"{function} (drop {FEW * CHUNKS} {points})"] if points else [function]
         for k, part in enumerate(parts):
-            if some and k % SOME:
+            if side == SOME and k % ONE_IN:
                 continue
             name = f"{points or function}-{k}"
             names.append(f"Part{len(names)}")
@@ -81,73 +87,129 @@ def split_points(crate, some):
     write(os.path.join(crate, "proofs", "Lib.antt"), "-- points\n" + "".join(f"pub mod {n}\n" for n in names))
 
 
-def repository(path, side):
-    """A repository of the crate alone, unchanged, with one side of its proofs: points or laws."""
-    shutil.rmtree(path, ignore_errors=True)
-    os.makedirs(os.path.join(path, "crates"))
-    write(os.path.join(path, "crates.txt"), "model:\n")
-    crate = os.path.join(path, "crates", "model")
-    shutil.copytree(CRATE, crate, ignore=shutil.ignore_patterns("must-fail"))
+def one_side(crate, side):
+    """Leaves of model's proofs one side: points or laws."""
     root, kept = os.path.join(crate, "proofs", "Lib.antt"), []
     for line in read(root).split("\n"):
         name = line.split()[-1] if line.startswith("pub mod ") else None
-        if name and (name == "Bench") == (side == "laws"):
+        if name and (name == "Bench") == (side == LAWS):
             os.remove(os.path.join(crate, "proofs", name + ".antt"))
         else:
             kept.append(line)
     write(root, "\n".join(kept))
-    if side != "laws":
-        split_points(crate, side == "some")
+    if side != LAWS:
+        split_points(crate, side)
 
 
-def prepared():
-    """Checks the crate as it is, both sides, for trials to start from; what was printed where it is not proved."""
-    for side in SIDES:
-        base = os.path.join(WORK, "base", side)
-        repository(base, side)
-        status, printed = rt(base, "dev", "model")
-        if status != 0:
-            return printed
-    return None
+def repository(path, crate, side):
+    """A repository with a copy of the crate, unchanged; the other crates, and the libraries that are proved, are the root's own."""
+    shutil.rmtree(os.path.join(path, "crates"), ignore_errors=True)
+    os.makedirs(os.path.join(path, "crates"))
+    os.makedirs(os.path.join(path, "target"), exist_ok=True)
+    shutil.copy(os.path.join(ROOT, "crates.txt"), path)
+    for other in os.listdir(os.path.join(ROOT, "crates")):
+        if other != crate:
+            os.symlink(os.path.join(ROOT, "crates", other), os.path.join(path, "crates", other))
+    for part in ("rlib", "stamp"):
+        os.makedirs(os.path.join(ROOT, "target", part), exist_ok=True)
+        if not os.path.lexists(os.path.join(path, "target", part)):
+            os.symlink(os.path.join(ROOT, "target", part), os.path.join(path, "target", part))
+    copy = os.path.join(path, "crates", crate)
+    shutil.copytree(os.path.join(ROOT, "crates", crate), copy, ignore=shutil.ignore_patterns("must-fail"))
+    if side != WHOLE:
+        one_side(copy, side)
 
 
-def refusal(printed):
-    """The first name that refuses. None where what is printed says nothing of a proof."""
-    errors = re.findall(r"^(\S+?):\d+:\d+: error: `([^`]+)`: ", printed, re.M)
-    return errors[0][1] if errors and "/specs/" not in errors[0][0] else None
+def same_files(base, copy):
+    """Makes a folder as another is, by those files alone that differ in their time."""
+    for folder, _, files in os.walk(copy):
+        for file in files:
+            if not os.path.exists(os.path.join(base, os.path.relpath(folder, copy), file)):
+                os.remove(os.path.join(folder, file))
+    for folder, _, files in os.walk(base):
+        into = os.path.join(copy, os.path.relpath(folder, base))
+        os.makedirs(into, exist_ok=True)
+        for file in files:
+            old, new = os.path.join(folder, file), os.path.join(into, file)
+            if not os.path.exists(new) or os.stat(new).st_mtime_ns != os.stat(old).st_mtime_ns:
+                shutil.copy2(old, new)
+
+
+class Bases:
+    """The crates checked as they are, for trials to start from: each when it is first asked for."""
+
+    def __init__(self):
+        self.locks, self.proved, self.guard, self.checking = {}, {}, threading.Lock(), threading.Lock()
+
+    def path(self, crate, side):
+        """Where the crate is checked; None where it is not proved as it is."""
+        with self.guard:
+            lock = self.locks.setdefault((crate, side), threading.Lock())
+        with lock:
+            if (crate, side) not in self.proved:
+                self.proved[crate, side] = self.checked(crate, side)
+            return self.proved[crate, side]
+
+    def checked(self, crate, side):
+        path = os.path.join(WORK, "base", f"{crate}-{side}")
+        repository(path, crate, side)
+        with self.checking:
+            status, printed = rt(path, "dev", crate, seconds=3600)
+        if status == 0:
+            return path
+        print(printed + f"\ncrate {crate} is not proved as it is: nothing can be said of changes", flush=True)
+        return None
+
+
+def verdict(printed):
+    """Which law, theorem or point refuses, the first of them; or else which function's contract. None where nothing of the kind is printed."""
+    errors = [(path, name) for path, name, why in ERROR.findall(printed) if not re.match(r"`[^`]+` was not admitted", why)]
+    if any(path.startswith("specs/") for path, _ in errors):
+        return None
+    for path, name in errors:
+        file = re.fullmatch(r"proofs/([^/]+)\.antt", path)
+        if file:
+            return "refused at " + (f"computed of {file.group(1)}" if name == "computed" else name)
+    functions = UNPROVED.findall(printed)
+    return "refused at the contract of " + functions[0] if functions else None
 
 
 class Trial:
     """Folders in which changes are tried, one after the other, from what is checked of the crate unchanged."""
 
-    def __init__(self, number):
-        self.path = os.path.join(WORK, f"trial{number}")
-        for side in SIDES:
-            repository(os.path.join(self.path, side), side)
+    def __init__(self, number, bases, from_nothing):
+        self.path, self.bases, self.from_nothing, self.made = os.path.join(WORK, f"trial{number}"), bases, from_nothing, set()
 
-    def tried(self, change, from_nothing):
-        for side in SIDES if change.file in GROUND else ("laws", "points"):
-            verdict = self.on(side, change, from_nothing)
-            if verdict != "accepted":
+    def tried(self, change):
+        sides = [WHOLE] if change.crate != "model" else [SOME, LAWS, POINTS] if change.file in GROUND else [LAWS, OWN.get(change.file, SOME), POINTS]
+        for side in sides:
+            said = self.on(side, change)
+            if said != "accepted":
                 break
-        return verdict
+        return said
 
-    def on(self, side, change, from_nothing):
-        path = os.path.join(self.path, side)
-        file = os.path.join(path, "crates", "model", "specs", change.file + ".antt")
+    def on(self, side, change):
+        base, path = self.bases.path(change.crate, side), os.path.join(self.path, f"{change.crate}-{side}")
+        if base is None:
+            return "not tried"
+        if path not in self.made:
+            repository(path, change.crate, side)
+            self.made.add(path)
+        kept = os.path.join(path, "target", "inc")
+        if self.from_nothing:
+            shutil.rmtree(kept, ignore_errors=True)
+        else:
+            same_files(os.path.join(base, "target", "inc"), kept)
+        file = os.path.join(path, "crates", change.crate, "specs", change.file + ".antt")
         source = read(file)
-        shutil.rmtree(os.path.join(path, "target"), ignore_errors=True)
-        if not from_nothing:
-            shutil.copytree(os.path.join(WORK, "base", side, "target", "inc"), os.path.join(path, "target", "inc"))
         write(file, change.applied(source))
         try:
-            status, printed = rt(path, "dev", "model")
+            status, printed = rt(path, "dev", change.crate)
         finally:
             write(file, source)
         if status == 0:
             return "accepted"
-        name = refusal(printed) if status == 1 else None
-        if name:
-            return "refused at " + name
-        write(os.path.join(KEPT, f"no-verdict-{change.file}-{change.line}-{change.at}.log"), change.key() + "\n" + printed)
-        return "no verdict"
+        said = verdict(printed) if status == 1 else None
+        if said is None:
+            write(os.path.join(KEPT, f"no-verdict-{change.crate}-{change.file}-{change.line}-{change.at}.log"), change.key() + "\n" + printed)
+        return said or "no verdict"
