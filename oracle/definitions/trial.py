@@ -13,6 +13,8 @@ KEPT = os.path.join(ROOT, "build", "constants")
 
 # Of model some points, one list of points, all points, laws and theorems, each in a repository of its own; any other crate is tried whole.
 WHOLE, SOME, POINTS, LAWS = "whole", "some", "points", "laws"
+# What the crate accepts is tried over it: in crates above that have the theorems of its file, with those below them passed as source.
+OVER, ABOVE = "over", {"model Kept": ["image", "store", "lines"]}
 # What all others rest on: some points first.
 GROUND = ["Registers", "Memory", "Plan", "Octa", "Fill", "NoMemory", "Lists"]
 # The list of points that is made for a file.
@@ -30,9 +32,9 @@ def write(path, text):
         f.write(text)
 
 
-def rt(repository, *words, seconds=300):
-    """The status of `rt WORDS` in a repository, and what it printed."""
-    run = subprocess.Popen(["nice", "-n", "19", "rt", *words], cwd=repository, stdout=subprocess.PIPE, stderr=subprocess.STDOUT,
+def run(repository, *words, seconds=300):
+    """The status of a command in a repository, and what it printed."""
+    run = subprocess.Popen(["nice", "-n", "19", *words], cwd=repository, stdout=subprocess.PIPE, stderr=subprocess.STDOUT,
                            start_new_session=True)
     try:
         printed = run.communicate(timeout=seconds)[0]
@@ -41,6 +43,29 @@ def rt(repository, *words, seconds=300):
         os.killpg(run.pid, 9)
         run.communicate()
         return 3, "timeout"
+
+
+def over(path, crate, seconds):
+    """Checks a crate with those that it depends on as source: what a change below does not reach is taken from before."""
+    home = os.path.dirname(os.path.dirname(os.path.realpath(shutil.which("rt"))))
+    own, kept = os.path.join(home, "on", os.uname().machine), os.path.join(path, "target", "inc", OVER)
+    os.makedirs(kept, exist_ok=True)
+    below = re.search(rf"^{crate}:(.*)$", read(os.path.join(path, "crates.txt")), re.M).group(1).split()
+    words = [word for name in below for word in ("--lib", f"{name}={path}/crates/{name}/src/lib.rt")]
+    return run(path, f"{own}/bin/rattle", "check", "--crate-name", crate, f"{path}/crates/{crate}/src/lib.rt", "--extern", f"std={own}/rlib/std.rlib",
+               *words, "-L", f"dependency={own}/rlib", "--antt-project", f"{home}/logic/antt-project.json", "--logic-built", f"{own}/logic-built",
+               "--incremental", kept, seconds=seconds)
+
+
+def check(path, crate, side, above, seconds=300):
+    """Checks the copy of a crate in a repository, or the crates above it one after the other, up to the first that is refused."""
+    if side != OVER:
+        return run(path, "rt", "dev", crate, seconds=seconds)
+    for other in above:
+        status, printed = over(path, other, seconds)
+        if status != 0:
+            break
+    return status, printed
 
 
 def computed(crate):
@@ -116,7 +141,7 @@ def repository(path, crate, side):
             os.symlink(os.path.join(ROOT, "target", part), os.path.join(path, "target", part))
     copy = os.path.join(path, "crates", crate)
     shutil.copytree(os.path.join(ROOT, "crates", crate), copy, ignore=shutil.ignore_patterns("must-fail"))
-    if side != WHOLE:
+    if side not in (WHOLE, OVER):
         one_side(copy, side)
 
 
@@ -153,25 +178,28 @@ class Bases:
     def checked(self, crate, side):
         path = os.path.join(WORK, "base", f"{crate}-{side}")
         repository(path, crate, side)
+        above = [other for file, others in ABOVE.items() if file.startswith(crate + " ") for other in others]
         with self.checking:
-            status, printed = rt(path, "dev", crate, seconds=3600)
+            status, printed = check(path, crate, side, above, seconds=3600)
         if status == 0:
             return path
         print(printed + f"\ncrate {crate} is not proved as it is: nothing can be said of changes", flush=True)
         return None
 
 
-def verdict(printed):
+def verdict(printed, crate):
     """Which law, theorem or point refuses, the first of them; or else which function's contract. None where nothing of the kind is printed."""
+    checked = re.search(r"^crate (\w+): modules", printed, re.M)
+    where = f" of {checked.group(1)}" if checked and checked.group(1) != crate else ""
     errors = [(path, name) for path, name, why in ERROR.findall(printed) if not re.match(r"`[^`]+` was not admitted", why)]
     if any(path.startswith("specs/") for path, _ in errors):
         return None
     for path, name in errors:
         file = re.fullmatch(r"proofs/([^/]+)\.antt", path)
         if file:
-            return "refused at " + (f"computed of {file.group(1)}" if name == "computed" else name)
+            return "refused at " + (f"computed of {file.group(1)}" if name == "computed" else name) + where
     functions = UNPROVED.findall(printed)
-    return "refused at the contract of " + functions[0] if functions else None
+    return "refused at the contract of " + functions[0] + where if functions else None
 
 
 class Trial:
@@ -182,7 +210,7 @@ class Trial:
 
     def tried(self, change):
         sides = [WHOLE] if change.crate != "model" else [SOME, LAWS, POINTS] if change.file in GROUND else [LAWS, OWN.get(change.file, SOME), POINTS]
-        for side in sides:
+        for side in sides + [OVER] * (f"{change.crate} {change.file}" in ABOVE):
             said = self.on(side, change)
             if said != "accepted":
                 break
@@ -204,12 +232,12 @@ class Trial:
         source = read(file)
         write(file, change.applied(source))
         try:
-            status, printed = rt(path, "dev", change.crate)
+            status, printed = check(path, change.crate, side, ABOVE.get(f"{change.crate} {change.file}"))
         finally:
             write(file, source)
         if status == 0:
             return "accepted"
-        said = verdict(printed) if status == 1 else None
+        said = verdict(printed, change.crate) if status == 1 else None
         if said is None:
             write(os.path.join(KEPT, f"no-verdict-{change.crate}-{change.file}-{change.line}-{change.at}.log"), change.key() + "\n" + printed)
         return said or "no verdict"
