@@ -5,12 +5,12 @@ import re
 HERE = os.path.dirname(os.path.abspath(__file__))
 ROOT = os.path.dirname(os.path.dirname(HERE))
 
-# The crates that define something, in the order in which they are tried. calls and transfer state theorems alone; bench, points and replay
-# are programs.
+# The crates that define something, in the order in which they are tried. calls and transfer state theorems alone; bench and points are
+# programs.
 CRATES = ["model", "studies", "image", "sets", "decode", "machine", "stack", "exceptions", "instruction", "text", "script", "turns", "tasks",
           "mmix", "lines", "store"]
 # Files that state theorems in records with parameters too, though their first line does not say so: of these only what is no Type.
-STATING = ["mmix Calls", "mmix Leaves"]
+STATING = ["mmix Calls", "mmix Leaves", "lines Stream"]
 # Definitions that are a computed point's own.
 POINTS = ["script Script sample", "script Script sampleText"]
 
@@ -180,6 +180,6 @@ def all_changes(text_of):
     for crate in CRATES:
         for file in re.findall(r"^pub mod (\S+)", text_of(f"crates/{crate}/specs/Lib.antt") or "", re.M):
             source = text_of(f"crates/{crate}/specs/{file}.antt")
-            if source and not source.startswith("-- Theorem"):
+            if source and not source.startswith("-- Theorem") and not file.endswith("Points"):
                 found += scanned(crate, file, source, registers)
     return found

@@ -11,10 +11,9 @@ from changes import ROOT, read
 WORK = os.path.join(ROOT, "target", "constants")
 KEPT = os.path.join(ROOT, "build", "constants")
 
-# Of model some points, one list of points, all points, laws and theorems, each in a repository of its own; any other crate is tried whole.
+# Of model some points, one list of points, all points, laws and theorems, each in a repository of its own; of any other crate first what it has
+# without its functions, laws, theorems and points, and then the whole.
 WHOLE, SOME, POINTS, LAWS = "whole", "some", "points", "laws"
-# What the crate accepts is tried over it: in crates above that have the theorems of its file, with those below them passed as source.
-OVER, ABOVE = "over", {"model Kept": ["image", "store", "lines"]}
 # What all others rest on: some points first.
 GROUND = ["Registers", "Memory", "Plan", "Octa", "Fill", "NoMemory", "Lists"]
 # The list of points that is made for a file.
@@ -32,9 +31,9 @@ def write(path, text):
         f.write(text)
 
 
-def run(repository, *words, seconds=300):
-    """The status of a command in a repository, and what it printed."""
-    run = subprocess.Popen(["nice", "-n", "19", *words], cwd=repository, stdout=subprocess.PIPE, stderr=subprocess.STDOUT,
+def rt(repository, *words, seconds=300):
+    """The status of `rt WORDS` in a repository, and what it printed."""
+    run = subprocess.Popen(["nice", "-n", "19", "rt", *words], cwd=repository, stdout=subprocess.PIPE, stderr=subprocess.STDOUT,
                            start_new_session=True)
     try:
         printed = run.communicate(timeout=seconds)[0]
@@ -43,29 +42,6 @@ def run(repository, *words, seconds=300):
         os.killpg(run.pid, 9)
         run.communicate()
         return 3, "timeout"
-
-
-def over(path, crate, seconds):
-    """Checks a crate with those that it depends on as source: what a change below does not reach is taken from before."""
-    home = os.path.dirname(os.path.dirname(os.path.realpath(shutil.which("rt"))))
-    own, kept = os.path.join(home, "on", os.uname().machine), os.path.join(path, "target", "inc", OVER)
-    os.makedirs(kept, exist_ok=True)
-    below = re.search(rf"^{crate}:(.*)$", read(os.path.join(path, "crates.txt")), re.M).group(1).split()
-    words = [word for name in below for word in ("--lib", f"{name}={path}/crates/{name}/src/lib.rt")]
-    return run(path, f"{own}/bin/rattle", "check", "--crate-name", crate, f"{path}/crates/{crate}/src/lib.rt", "--extern", f"std={own}/rlib/std.rlib",
-               *words, "-L", f"dependency={own}/rlib", "--antt-project", f"{home}/logic/antt-project.json", "--logic-built", f"{own}/logic-built",
-               "--incremental", kept, seconds=seconds)
-
-
-def check(path, crate, side, above, seconds=300):
-    """Checks the copy of a crate in a repository, or the crates above it one after the other, up to the first that is refused."""
-    if side != OVER:
-        return run(path, "rt", "dev", crate, seconds=seconds)
-    for other in above:
-        status, printed = over(path, other, seconds)
-        if status != 0:
-            break
-    return status, printed
 
 
 def computed(crate):
@@ -126,6 +102,43 @@ def one_side(crate, side):
         split_points(crate, side)
 
 
+FUNCTION = re.compile(r"^(?:(?:///?[^\n]*|#\[[^\n]*\])\n)*(?:pub(?:\([a-z]+\))? )?(?:extern \"C\" )?fn ", re.M)
+METHODS = re.compile(r"^(?:///?[^\n]*\n)*impl \w+ ", re.M)
+
+
+def block_end(text, at):
+    """Behind the block whose brace is the next one."""
+    at, depth = text.index("{", at), 0
+    while True:
+        depth += {"{": 1, "}": -1}.get(text[at], 0)
+        at += 1
+        if depth == 0:
+            return at
+
+
+def function_end(text, at):
+    """Behind a function: its contract's clauses are blocks too."""
+    while True:
+        brace = text.index("{", at)
+        clause, at = re.search(r"(\w+)\s*$", text[at:brace]), block_end(text, brace)
+        if not clause or clause.group(1) not in ("requires", "ensures", "decreases"):
+            return at
+
+
+def without_functions(crate):
+    """Leaves of a crate's code its types and numbers, and of its proofs the laws, theorems and points."""
+    for file in os.listdir(os.path.join(crate, "src")):
+        path = os.path.join(crate, "src", file)
+        text = read(path)
+        for what, end in ((METHODS, block_end), (FUNCTION, function_end)):
+            while match := what.search(text):
+                text = text[:match.start()] + text[end(text, match.end() - 1):]
+        write(path, "\n".join(line for line in text.split("\n") if not re.match(r"(?:pub )?use [\w:]+::[a-z_0-9]+;$", line)))
+    for name in os.listdir(os.path.join(crate, "proofs")):
+        if os.path.isdir(os.path.join(crate, "proofs", name)):
+            shutil.rmtree(os.path.join(crate, "proofs", name))
+
+
 def repository(path, crate, side):
     """A repository with a copy of the crate, unchanged; the other crates, and the libraries that are proved, are the root's own."""
     shutil.rmtree(os.path.join(path, "crates"), ignore_errors=True)
@@ -141,8 +154,10 @@ def repository(path, crate, side):
             os.symlink(os.path.join(ROOT, "target", part), os.path.join(path, "target", part))
     copy = os.path.join(path, "crates", crate)
     shutil.copytree(os.path.join(ROOT, "crates", crate), copy, ignore=shutil.ignore_patterns("must-fail"))
-    if side not in (WHOLE, OVER):
+    if crate == "model":
         one_side(copy, side)
+    elif side == LAWS:
+        without_functions(copy)
 
 
 def same_files(base, copy):
@@ -178,28 +193,25 @@ class Bases:
     def checked(self, crate, side):
         path = os.path.join(WORK, "base", f"{crate}-{side}")
         repository(path, crate, side)
-        above = [other for file, others in ABOVE.items() if file.startswith(crate + " ") for other in others]
         with self.checking:
-            status, printed = check(path, crate, side, above, seconds=3600)
+            status, printed = rt(path, "dev", crate, seconds=3600)
         if status == 0:
             return path
         print(printed + f"\ncrate {crate} is not proved as it is: nothing can be said of changes", flush=True)
         return None
 
 
-def verdict(printed, crate):
+def verdict(printed):
     """Which law, theorem or point refuses, the first of them; or else which function's contract. None where nothing of the kind is printed."""
-    checked = re.search(r"^crate (\w+): modules", printed, re.M)
-    where = f" of {checked.group(1)}" if checked and checked.group(1) != crate else ""
     errors = [(path, name) for path, name, why in ERROR.findall(printed) if not re.match(r"`[^`]+` was not admitted", why)]
     if any(path.startswith("specs/") for path, _ in errors):
         return None
     for path, name in errors:
         file = re.fullmatch(r"proofs/([^/]+)\.antt", path)
         if file:
-            return "refused at " + (f"computed of {file.group(1)}" if name == "computed" else name) + where
+            return "refused at " + (f"computed of {file.group(1)}" if name == "computed" else name)
     functions = UNPROVED.findall(printed)
-    return "refused at the contract of " + functions[0] + where if functions else None
+    return "refused at the contract of " + functions[0] if functions else None
 
 
 class Trial:
@@ -209,10 +221,12 @@ class Trial:
         self.path, self.bases, self.from_nothing, self.made = os.path.join(WORK, f"trial{number}"), bases, from_nothing, set()
 
     def tried(self, change):
-        sides = [WHOLE] if change.crate != "model" else [SOME, LAWS, POINTS] if change.file in GROUND else [LAWS, OWN.get(change.file, SOME), POINTS]
-        for side in sides + [OVER] * (f"{change.crate} {change.file}" in ABOVE):
+        sides = [LAWS, WHOLE] if change.crate != "model" else [SOME, LAWS, POINTS] if change.file in GROUND else [LAWS, OWN.get(change.file, SOME), POINTS]
+        # laws that rest on the crate's functions are no side of their own
+        passed = ["accepted"] if change.crate == "model" else ["accepted", "not tried"]
+        for side in sides:
             said = self.on(side, change)
-            if said != "accepted":
+            if said not in passed:
                 break
         return said
 
@@ -232,12 +246,12 @@ class Trial:
         source = read(file)
         write(file, change.applied(source))
         try:
-            status, printed = check(path, change.crate, side, ABOVE.get(f"{change.crate} {change.file}"))
+            status, printed = rt(path, "dev", change.crate)
         finally:
             write(file, source)
         if status == 0:
             return "accepted"
-        said = verdict(printed, change.crate) if status == 1 else None
+        said = verdict(printed) if status == 1 else None
         if said is None:
             write(os.path.join(KEPT, f"no-verdict-{change.crate}-{change.file}-{change.line}-{change.at}.log"), change.key() + "\n" + printed)
         return said or "no verdict"
