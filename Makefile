@@ -26,7 +26,7 @@ WARNINGS = -Wall -Wextra -Wpedantic -Werror
 HEADERS = build/mmix.h build/mmix_text.h build/mmix_disassemble.h build/mmix_points.h
 VERSION = $(shell sed -n 's/^\#define MMIX_VERSION_[MI].* //p' include/mmix.h | paste -s -d .)
 
-.PHONY: help test quotes prove bench scripts-test points points-test lib shared install host host-test replay pop-watch programs oracle oracle-test differential guards mutants speed replay-list definitions constants clean need-rt need-gcc need-script need-points
+.PHONY: help test quotes prove bench scripts-test points points-test lib shared install host host-test replay pop-watch programs oracle oracle-test differential guards mutants speed replay-list definitions constants clean need-rt need-gcc need-script need-points constants-keys
 
 help:
 	@echo 'make bench SCRIPT=path       the bench program on a script (examples/scripts/first.script)'
@@ -62,6 +62,7 @@ need-gcc:
 # printed there only where the rest has passed too.
 test: need-rt need-gcc
 	@docs/check_traceability
+	@$(MAKE) --no-print-directory constants-keys
 	@docs/check_theorems
 	@$(MAKE) --no-print-directory quotes
 	@docs/check_contracts
@@ -242,6 +243,11 @@ definitions: need-rt
 # Each number, comparison and the like in the definitions, changed in turn (oracle/definitions/constants.txt has what refuses it).
 constants: need-rt
 	@oracle/definitions/constants
+
+# Each of them has its row in that list. Without python3 it says so, and fails only where CI is true.
+constants-keys:
+	@if ! command -v python3 >/dev/null 2>&1; then echo 'no check of the list of constants: python3 is not on the PATH; install the package python3'; [ "$${CI:-}" != true ]; \
+	  else oracle/definitions/constants --keys; fi
 
 mutants: oracle
 	$(call RUN,$(ORACLE)/mutants)
