@@ -118,7 +118,7 @@ call-by Q w s grant one unruled large passed = go (admissible s) refl
     go false a = rw (one-first w s grant a) (one a)
 
 pub runs-in-order : RunsInOrder
-runs-in-order = record { one-first = one-first; two-next = two-next; twenty-two = twenty-two; twenty-five = twenty-five }
+runs-in-order = record { one-first = one-first; two-next = two-next; twenty-two = twenty-two; twenty-five = twenty-five; most = refl }
 
 -- ---- the rest
 

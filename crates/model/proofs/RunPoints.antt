@@ -26,7 +26,7 @@ use Rattle.model.specs.HiddenPoints.{masksTaken, hiddenPoints, hiddenRun
 
 computed : RunPointsMet × HiddenPointsMet
 unfolding leadingZeros over indexed within tab octa part written valueOf bytesOf hideable hides admissible fresh goes halted withSpecial cleared claimLocal stored setRegister putLocals putGlobals spilled shapeOf ruledOne offset has octaBytes writeOcta shapesOf inside octaAt putOcta both ruled shares worst named look looks puts perform operationOf firstOf widthOf signOf conditionOf armOf tell targetOf holds hole framed slid slide pushedRule pushed pushFrame countOf lastOutput restored unslide popped popTo popRule noFrame misplaced popFrame saveContext got getSpecial interrupted tripRule tripTo trapOf leftmost added withAdded raised bytesIn unitAt operandIn extended loadFrom signedOf octaOf isSigned floorBy floorQuotient floorRemainder divided resultsOf withResults arithmeticSays stepOn runs refusalOf unruledBy refusing planOf guarded fromThree stepPlan claims tetraAt keepsClaim settledBy takenBack instructionPlan tetraPlan fetchedPlan itemPlan mmix runFor runOf start shows met allMet stops allStop runPoints unclaimedPoints claimEnds putRefusal putState unlessHidden putSpecial exceptionOf masksTaken hiddenPoints hiddenRuns
-computed = ((refl, refl, refl, refl), (refl, refl, refl))
+computed = ((refl, refl, refl), (refl, refl, refl))
 
 pub run-points-met : RunPointsMet
 run-points-met = computed .0

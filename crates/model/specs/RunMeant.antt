@@ -59,3 +59,5 @@ pub record RunsInOrder : Type 0 where
   pub twenty-two : (w : Windows) (s : State) (grant : ℕ) → admissible s ≡ true → ruled (shapesOf w) ≡ true → shares (shapesOf w) ≡ true
       → runOf w s grant ≡ refusedWhole 22 w s
   pub twenty-five : (w : Windows) (s : State) (grant : ℕ) → Passes w s → grantMost < grant → runOf w s grant ≡ refusedWhole 25 w s
+  -- "a grant above 1,000,000"
+  pub most : grantMost ≡ 1000000

@@ -9,7 +9,7 @@ use Rattle.model.specs.Octa.{bytesOf}
 use Rattle.model.specs.Memory.{Windows}
 use Rattle.model.specs.Registers.{rJ, rO, rS, rG, rL, rA, rW, rX, rWW, rXX, rZZ, stackStart, goes, halted, withSpecial, stored}
 use Rattle.model.specs.Step.{claims, opcodeIn, xIn, yIn, zIn, step}
-use Rattle.model.specs.Run.{Stopped, grantMost, runOf}
+use Rattle.model.specs.Run.{Stopped, runOf}
 use Rattle.model.specs.Bench.{Point, allMet, sameState, sameWindows, start}
 use Rattle.model.specs.declared.State.{State}
 
@@ -188,4 +188,4 @@ unfoldable pub runPoints : List RunPoint
 runPoints = marginalPoint ∷ (loopPoints ++ (lowPoints ++ (stopPoints ++ claimPoints)))
 
 abbrev pub RunPointsMet : Type 0
-RunPointsMet = (allStop runPoints ≡ true) × (allMet unclaimedPoints ≡ true) × (claimEnds ≡ true) × (grantMost ≡ 1000000)
+RunPointsMet = (allStop runPoints ≡ true) × (allMet unclaimedPoints ≡ true) × (claimEnds ≡ true)
