@@ -11,7 +11,7 @@ use Rattle.model.specs.Octa.{written}
 use Rattle.model.proofs.Octa.{length-written}
 use Rattle.text.specs.Text.{badText}
 use Rattle.text.proofs.Writes.{take-written}
-use Rattle.script.specs.Script.{scriptMost, printed, outputLength, FrontTells}
+use Rattle.script.specs.Script.{scriptMost, printed, outputLength, FrontTells, BufferLengths}
 use Rattle.script.proofs.Bounds.{bounded}
 
 long-prints : (l : List ℕ) → scriptMost < length l → printed l ≡ badText 0
@@ -39,3 +39,6 @@ module _ (l b c : List ℕ) (n : ℕ) (h : outputLength ≤ length b) (e : c ≡
 
   pub text-fits : n ≤ length c
   text-fits = omega (arith, room, ap length e, length-written b 0 (printed l))
+
+pub buffer-lengths : BufferLengths
+buffer-lengths = (refl, refl)

@@ -101,6 +101,10 @@ pub record Bounded : Type 0 where
 abbrev pub FrontTells : Type 0
 FrontTells = (l : List ℕ) (n : ℕ) → scriptMost < n → printed (take n l) ≡ printed l
 
+-- THEOREM: both lengths in bytes, of "at most 65,536 bytes"
+abbrev pub BufferLengths : Type 0
+BufferLengths = (inputLength ≡ 65537) × (outputLength ≡ 786459)
+
 -- THEOREM: 01's sample
 unfoldable pub sample : List ℕ
 sample = codes "(set (reg 0) 7)\n(set (reg 1) 9)\n(step (f2 1 0 5))\n(step (f8 0 0 0))\n"
