@@ -23,7 +23,7 @@ OWN = {"Opcodes": "arithmeticStepPoints", "ArithmeticStep": "arithmeticStepPoint
 FEW, CHUNKS, ONE_IN = 5, 80, 9
 
 ERROR = re.compile(r"^\S*?/crates/\w+/(\S+?):\d+:\d+: error: `([^`]+)`: (.*)$", re.M)
-UNPROVED = re.compile(r"^(?:fn|struct|enum) \w+::(\S+): (?:not proved|no proof)$", re.M)
+UNPROVED = re.compile(r"^(?:fn|struct|enum) \w+::(\S+): (?:not proved|no proof)(?:: .*)?$", re.M)
 
 
 def write(path, text):
