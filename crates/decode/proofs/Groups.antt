@@ -8,7 +8,7 @@ use lib.Dec.{leb, eqb}
 use borrow.Author.Tests.{leb-true, lt-leb, eqb-true, ne-eqb}
 use mir.Val.{hasKey}
 use Rattle.model.specs.Opcodes.{firstBranch, lastBranch, firstLoad, lastLoad, firstStore, lastStore, firstArithmetic, lastArithmetic}
-use Rattle.model.specs.Opcodes.{branch, load, store, arithmetic, operationOf, firstOf, directionOf, conditionOf, widthOf, signOf, lastOf, among, armOf}
+use Rattle.model.specs.Opcodes.{branch, load, store, arithmetic, operationOf, firstOf, directionOf, conditionOf, widthOf, signOf, lastOf, among, armOf, control, memory}
 use Rattle.model.proofs.Bools.{and-left, and-right}
 
 -- what a match has learnt, after N, where it met none of its keys
@@ -42,15 +42,15 @@ module _ (op : ℕ) where
   below : (a b c d : ℕ) → d < a → among c d op ≡ true → among a b op ≡ false
   below a b c d l h = let k : op ≤ d = leb-true op d (and-right (leb c op) _ h) in ap (λ (t : Bool). t && leb op b) (lt-leb a op (omega arith))
 
-  pub branch-arm : among firstBranch lastBranch op ≡ true → armOf op ≡ branch (conditionOf op) (directionOf op)
+  pub branch-arm : among firstBranch lastBranch op ≡ true → armOf op ≡ (control (branch (conditionOf op) (directionOf op)))
   unfolding armOf
   branch-arm h = rw h
 
-  pub load-arm : among firstLoad lastLoad op ≡ true → armOf op ≡ load (widthOf op) (signOf op) (lastOf op)
+  pub load-arm : among firstLoad lastLoad op ≡ true → armOf op ≡ (memory (load (widthOf op) (signOf op) (lastOf op)))
   unfolding armOf
   load-arm h = rw (above firstBranch lastBranch firstLoad lastLoad (omega arith) h, h)
 
-  pub store-arm : among firstStore lastStore op ≡ true → armOf op ≡ store (widthOf op) (signOf op) (lastOf op)
+  pub store-arm : among firstStore lastStore op ≡ true → armOf op ≡ (memory (store (widthOf op) (signOf op) (lastOf op)))
   unfolding armOf
   store-arm h = rw (above firstBranch lastBranch firstStore lastStore (omega arith) h, above firstLoad lastLoad firstStore lastStore (omega arith) h, h)
 

@@ -10,7 +10,7 @@ use lib.Dec.{leb, eqb}
 use borrow.Author.Tests.{leb-true, eqb-true, ne-eqb}
 use Rattle.model.specs.Opcodes.{opTRAP, opGO, opGOI, opPUSHGO, opPUSHGOI, opJMP, opJMPB, opPUSHJ, opPUSHJB, opGETA, opGETAB}
 use Rattle.model.specs.Opcodes.{opPUT, opPUTI, opPOP, opSAVE, opUNSAVE, opSYNC, opSWYM, opGET, opTRIP}
-use Rattle.model.specs.Opcodes.{firstBranch, lastBranch, firstLoad, lastLoad, firstStore, lastStore, firstArithmetic, lastArithmetic, put, none, lastOf, among, armOf}
+use Rattle.model.specs.Opcodes.{firstBranch, lastBranch, firstLoad, lastLoad, firstStore, lastStore, firstArithmetic, lastArithmetic, put, none, lastOf, among, armOf, system}
 use Rattle.model.proofs.Bools.{and-left, and-right}
 use Rattle.model.proofs.Fill.{lt-or-le}
 use Rattle.decode.proofs.Groups.{Missed, missed}
@@ -30,7 +30,7 @@ module _ (op : ℕ) where
       go true e = sym (ap (among a b) (eqb-true op k e) ∙ i) ∙ f
       go false e = refl
 
-  pub put-arm : among opPUT opPUTI op ≡ true → armOf op ≡ put (lastOf op)
+  pub put-arm : among opPUT opPUTI op ≡ true → armOf op ≡ (system (put (lastOf op)))
   unfolding armOf
   put-arm h =
       let l : opPUT ≤ op = leb-true opPUT op (and-left (leb opPUT op) _ h) in

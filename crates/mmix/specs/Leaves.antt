@@ -11,7 +11,7 @@ use Rattle.model.specs.Octa.{part, written, bytesOf}
 use Rattle.model.specs.Memory.{Windows, shapesOf, inside, putOcta, both}
 use Rattle.model.specs.Plan.{look}
 use Rattle.model.specs.Registers.{rB, rJ, rBB, rA, rW, rX, rY, rZ, rWW, rXX, rYY, rZZ, sp, reg, following, Sized, admissible}
-use Rattle.model.specs.Opcodes.{Operand, Width, signed, trip, store, arithmetic, armOf}
+use Rattle.model.specs.Opcodes.{Operand, Width, signed, trip, store, arithmetic, armOf, memory, system}
 use Rattle.model.specs.NoMemory.{say}
 use Rattle.model.specs.Control.{operandOf, sumOf}
 use Rattle.model.specs.Trips.{wordOf, withAdded}
@@ -64,7 +64,7 @@ raisedIn s f p q x y z = withAdded (withResults s x (resultsIn s f (operandOf s 
 
 -- 19 of TRIP leaves the windows
 pub record TripCallLeaves (l : List ℕ) (w : Windows) (op x y z : ℕ) (m : List ℕ) (v : Windows) : Type 0 where
-  pub arm-is : armOf op ≡ trip
+  pub arm-is : armOf op ≡ (system trip)
   pub image-is : m ≡ replaced l (tripOctas (stateOf l) (wordOf op x y z) (reg (stateOf l) y) (reg (stateOf l) z))
   pub window-is : v ≡ w
 
@@ -72,7 +72,7 @@ pub record TripCallLeaves (l : List ℕ) (w : Windows) (op x y z : ℕ) (m : Lis
 pub record StoreCallLeaves (l : List ℕ) (w : Windows) (op x y z : ℕ) (m : List ℕ) (v : Windows) : Type 0 where
   pub width : Width
   pub last : Operand
-  pub arm-is : armOf op ≡ store width signed last
+  pub arm-is : armOf op ≡ (memory (store width signed last))
   pub image-is : m ≡ replaced l ((atSpecial rA, sp (withAdded (stateOf l) flagV) rA) ∷ tripOctas (stateOf l) (wordOf op x y z) (sumOf (stateOf l) last y z) (reg (stateOf l) x))
   pub window-is : v ≡ putOcta w (sumOf (stateOf l) last y z) (merged width (sumOf (stateOf l) last y z) (look both w (sumOf (stateOf l) last y z)) (reg (stateOf l) x))
 

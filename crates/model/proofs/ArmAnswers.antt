@@ -12,19 +12,21 @@ use lib.ListN.{length, getD}
 use lib.Count.{leadingZeros, leading-le}
 use borrow.Author.Tests.{leb-true, ltb-false, eqb-true, eqb-false}
 use Rattle.model.specs.Fill.{tab}
-use Rattle.model.specs.Registers.{rG, rL, rA, rJ, sp, reg, hides, admissible, goes, following, next, halted, withSpecial, setRegister, putLocals, putGlobals}
+use Rattle.model.specs.Registers.{rG, rL, rA, sp, reg, hides, admissible, goes, following, next, halted, withSpecial, setRegister, putLocals, putGlobals}
 use Rattle.model.specs.Memory.{Windows, Shapes, shapesOf, ruled, shares, inside, both}
 use Rattle.model.specs.Plan.{Plan, answer, read, Outcome, perform, worst, clear, looks, puts, named}
-use Rattle.model.specs.Opcodes.{Width, Sign, signed, unsigned, Arm, Direction, forward, backward, Operand, register, immediate, branch, jump, getAddress, go, pushJump, pushGo, pop, put, get, save, unsave, sync, swym, trip, trap, load, store, arithmetic, none, armOf}
+use Rattle.model.specs.Opcodes.{Width, Sign, signed, unsigned, Arm, Direction, forward, backward, Operand, register, immediate, trip, trap, store, arithmetic, armOf, memory, system}
+use Rattle.model.specs.Row.{Refusal, passes, noArm, namedTrap, noSpecial, numberOf, Row, quiet, touching, refusalIn}
+use Rattle.model.specs.Rows.{rowOf}
 use Rattle.model.specs.NoMemory.{say, Said, tell}
-use Rattle.model.specs.Control.{branchFields, jumpFields, targetOf, near, far, yzOf, xyzOf, sumOf, operandOf, holds}
-use Rattle.model.specs.Frames.{hole, framed, pushed, pushFrame, popped, popTo, popRule, noFrame, misplaced, popFrame}
-use Rattle.model.specs.Contexts.{extent, saved, savedState, saveContext, unsaved, contextRest, contextCount, contextAt, unsaveContext}
+use Rattle.model.specs.Control.{targetOf, sumOf, operandOf}
+use Rattle.model.specs.Frames.{hole, framed, pushed, popped, popTo, popRule, noFrame, misplaced, popFrame}
+use Rattle.model.specs.Contexts.{extent, saved, savedState, saveContext, unsaved, contextRest, contextCount, contextAt}
 use Rattle.model.specs.System.{isPrivileged, isIllegal, putRefusal, putState, unlessHidden, putSpecial, got, getSpecial, syncOf}
-use Rattle.model.specs.Trips.{wordOf, tripped, trapped, isLoaded, tripRule, tripTo, trapOf, enabled, withAdded, raised}
+use Rattle.model.specs.Trips.{wordOf, tripped, trapped, isLoaded, tripRule, tripTo, enabled, withAdded, raised}
 use Rattle.model.specs.LoadStore.{fits, loadFrom, flagV, storeSays, storeTo}
 use Rattle.model.specs.ArithmeticStep.{resultsIn, withResults, arithmeticSays}
-use Rattle.model.specs.Step.{isNamed, refusalOf, unruledBy, judged, refusing, planOf, guarded, fromThree, stepPlan, exceptionOf}
+use Rattle.model.specs.Step.{refusalOf, unruledBy, judged, refusing, planOf, guarded, fromThree, stepPlan, exceptionOf}
 use Rattle.model.specs.Numbers.{Early, Lost, Halting}
 use Rattle.model.specs.declared.State.{State}
 use Rattle.model.specs.declared.Operation.{Operation}
@@ -66,17 +68,17 @@ pub record MeetsRaise (s : State) (W : ℕ → Type 0) (R : ℕ → State → Ty
 
 -- of an instruction op x y z of arm a: TRIP, TRAP, a store that raises V, an operation that raises V or D
 pub record MeetsInterrupt (s : State) (W : ℕ → Type 0) (R : ℕ → State → List ℕ → Type 0) (a : Arm) (op x y z : ℕ) : Type 0 where
-  pub trips : a ≡ trip → MeetsTrip s W (λ r t. R r t []) (wordOf op x y z) (reg s y) (reg s z)
-  pub traps : a ≡ trap → R 20 (halted (trapped s (wordOf op x y z) (reg s y) (reg s z))) []
-  pub stores : (d : Width) (o : Operand) → a ≡ store d signed o → (v : ℕ) → MeetsRaise s W (λ r t. R r t (v ∷ [])) flagV (wordOf op x y z) (sumOf s o y z) (reg s x)
+  pub trips : a ≡ (system trip) → MeetsTrip s W (λ r t. R r t []) (wordOf op x y z) (reg s y) (reg s z)
+  pub traps : a ≡ (system trap) → R 20 (halted (trapped s (wordOf op x y z) (reg s y) (reg s z))) []
+  pub stores : (d : Width) (o : Operand) → a ≡ (memory (store d signed o)) → (v : ℕ) → MeetsRaise s W (λ r t. R r t (v ∷ [])) flagV (wordOf op x y z) (sumOf s o y z) (reg s x)
   pub computes : (f : Operation) (p q : Operand) → a ≡ arithmetic f p q
       → MeetsRaise (withResults s x (resultsIn s f (operandOf s p y) (operandOf s q z))) W (λ r t. R r t []) (resultsIn s f (operandOf s p y) (operandOf s q z) .flags)
       (wordOf op x y z) (operandOf s p y) (operandOf s q z)
 
-small : (n : ℕ) → n % 2 ^ 64 < 2 ^ 64
+pub small : (n : ℕ) → n % 2 ^ 64 < 2 ^ 64
 small n = omega arith
 
-target-small : (a : ℕ) (d : Direction) (size f : ℕ) → targetOf a d size f < 2 ^ 64
+pub target-small : (a : ℕ) (d : Direction) (size f : ℕ) → targetOf a d size f < 2 ^ 64
 unfolding targetOf
 target-small a forward size f = small _
 target-small a backward size f = small _
@@ -120,12 +122,12 @@ put-range s x v e = pick (putRefusal s x v) (eqb-false _ _ e) (put-bound s x v)
 
 -- ---- the arms
 
-abbrev Tells : (ℕ → State → Type 0) → Said → Type 0
+abbrev pub Tells : (ℕ → State → Type 0) → Said → Type 0
 Tells R d = R (d .reply) (d .state)
 
 module _ (s : State) (W : ℕ → Type 0) (R : ℕ → State → Type 0) (word : (n : ℕ) → n < 2 ^ 64 → W n) where
   -- a trip through vector k, for TRIP and for exceptions
-  trip-meets : (k n u v : ℕ) → k ≤ 9 → MeetsTrip s W R n u v → Tells R (tripTo s k n u v)
+  pub trip-meets : (k n u v : ℕ) → k ≤ 9 → MeetsTrip s W R n u v → Tells R (tripTo s k n u v)
   unfolding tripTo tripRule
   trip-meets k n u v b m = on {A = Said} (Tells R) (isLoaded s k) (λ e. m .trips (16 * k) (word _ (omega arith))) (λ e. m .trips-not)
 
@@ -139,10 +141,10 @@ raised-meets s W R word f n u v m =
     trip-meets (withAdded s f) W R word (leadingZeros 8 (enabled s f) + 1) n u v (omega arith) (m .takes))
 
 module _ (s : State) (W : ℕ → Type 0) (Read : List ℕ → Type 0) (R : ℕ → State → List ℕ → Type 0) (m : Meets s W Read R) where
-  onward : (t : State) → W (following t)
+  pub onward : (t : State) → W (following t)
   onward t = m .word (following t) (small (t .pc + 4))
 
-  operand-is : (o : Operand) (z : ℕ) → W z → W (operandOf s o z)
+  pub operand-is : (o : Operand) (z : ℕ) → W z → W (operandOf s o z)
   operand-is register z w = m .general-is z
   operand-is immediate z w = w
 
@@ -162,30 +164,30 @@ module _ (s : State) (W : ℕ → Type 0) (Read : List ℕ → Type 0) (R : ℕ 
   unfolding unlessHidden
   unless-meets k d h = on {A = Said} (Tells (λ r t. R r t [])) (hides (s .mask) k) (λ e. m .halts 31 (inr (inr refl))) (λ e. h)
 
-  put-meets : (x v : ℕ) → W v → Tells (λ r t. R r t []) (putSpecial s x v)
+  pub put-meets : (x v : ℕ) → W v → Tells (λ r t. R r t []) (putSpecial s x v)
   unfolding putSpecial
   put-meets x v w =
       unless-meets _ _
       (on {A = Said} (Tells (λ r t. R r t [])) (eqb (putRefusal s x v) 0) (λ e. putState-meets x v w (eqb-true _ _ e))
       (λ e. m .halts (putRefusal s x v) (put-range s x v e)))
 
-  get-meets : (x z : ℕ) → Tells (λ r t. R r t []) (getSpecial s x z)
+  pub get-meets : (x z : ℕ) → Tells (λ r t. R r t []) (getSpecial s x z)
   unfolding getSpecial got
   get-meets x z = unless-meets _ _ (m .writes x (sp s z) _ (m .special-is z) (onward (setRegister s x (sp s z))))
 
-  sync-meets : (n : ℕ) → Tells (λ r t. R r t []) (syncOf s n)
+  pub sync-meets : (n : ℕ) → Tells (λ r t. R r t []) (syncOf s n)
   unfolding syncOf
   sync-meets n =
       on {A = Said} (Tells (λ r t. R r t [])) (ltb 7 n) (λ e. m .halts 18 (inl (omega arith, omega arith)))
       (λ e. on {A = Said} (Tells (λ r t. R r t [])) (leb 4 n) (λ e. m .halts 17 (inl (omega arith, omega arith))) (λ e. m .moves _ (onward s)))
 
-  pop-meets : (x t : ℕ) → W t → Answers Read R (popFrame s x t)
+  pub pop-meets : (x t : ℕ) → W t → Answers Read R (popFrame s x t)
   unfolding popFrame popRule popTo tell Answers
   pop-meets x t w =
       on (Answers Read R) (noFrame s) (λ e. m .halts 29 (inr (inl refl)))
       (λ e. on (Answers Read R) (misplaced s) (λ e. m .halts 12 (inl (omega arith, omega arith))) (λ e. (refl, λ vs i. (refl, λ ls j. m .pops x t _ ls w j))))
 
-  save-meets : (x : ℕ) → Answers Read R (saveContext s x)
+  pub save-meets : (x : ℕ) → Answers Read R (saveContext s x)
   unfolding saveContext tell Answers
   save-meets x = on (Answers Read R) (ltb x (sp s rG)) (λ e. m .halts 13 (inl (omega arith, omega arith))) (λ e. m .saves x _ (ltb-false _ _ e) (onward (savedState s x)))
 
@@ -212,7 +214,7 @@ module _ {S : Type 0} (bad : S) (found : ℕ → ℕ → ℕ → ℕ → List �
   context-meets = (refl, λ v j. count-meets _ _)
 
 module _ (s : State) (W : ℕ → Type 0) (Read : List ℕ → Type 0) (R : ℕ → State → List ℕ → Type 0) (m : Meets s W Read R) where
-  load-meets : (d : Width) (g : Sign) (x a : ℕ) → Answers Read R (loadFrom s d g x a)
+  pub load-meets : (d : Width) (g : Sign) (x a : ℕ) → Answers Read R (loadFrom s d g x a)
   unfolding loadFrom Answers
   load-meets d g x a = (refl, λ v j. m .writes x _ _ (m .word _ (extended-small d g _ (operand-small d a (getD v 0 0)))) (onward s W Read R m (setRegister s x _)))
 
@@ -224,66 +226,32 @@ module _ (s : State) (W : ℕ → Type 0) (Read : List ℕ → Type 0) (R : ℕ 
       (λ e. raised-meets s W (λ r t. R r t (v ∷ [])) (m .word) flagV n a (reg s x) (h refl))
   says-meets d unsigned x a n v h = m .stores v _ (onward s W Read R m s)
 
-  store-meets : (d : Width) (g : Sign) (x a n : ℕ) → (g ≡ signed → (v : ℕ) → MeetsRaise s W (λ r t. R r t (v ∷ [])) flagV n a (reg s x)) → Answers Read R (storeTo s d g x a n)
+  pub store-meets : (d : Width) (g : Sign) (x a n : ℕ) → (g ≡ signed → (v : ℕ) → MeetsRaise s W (λ r t. R r t (v ∷ [])) flagV n a (reg s x)) → Answers Read R (storeTo s d g x a n)
   unfolding storeTo Answers
   store-meets d g x a n h = (refl, λ v j. says-meets d g x a n _ (λ e. h e _))
 
-  arithmetic-meets : (f : Operation) (x u v n : ℕ) → W u → W v
+  pub arithmetic-meets : (f : Operation) (x u v n : ℕ) → W u → W v
       → MeetsRaise (withResults s x (resultsIn s f u v)) W (λ r t. R r t []) (resultsIn s f u v .flags) n u v → Tells (λ r t. R r t []) (arithmeticSays s f x u v n)
   unfolding arithmeticSays
   arithmetic-meets f x u v n wu wv h =
       on {A = Said} (Tells (λ r t. R r t [])) (eqb (resultsIn s f u v .flags) 0) (λ e. m .computes f x u v _ wu wv (onward s W Read R m (withResults s x (resultsIn s f u v))))
       (λ e. raised-meets (withResults s x (resultsIn s f u v)) W (λ r t. R r t []) (m .word) (resultsIn s f u v .flags) n u v h)
 
-  -- the nineteen arms
-  pub plan-meets : (a : Arm) (op x y z : ℕ) → W y → W z → MeetsInterrupt s W R a op x y z → Answers Read R (planOf s a op x y z)
-  unfolding planOf tell Answers pushFrame trapOf unsaveContext
-  plan-meets (branch c d) op x y z wy wz mi =
-      on (λ (t : State). R 0 t []) (holds c (reg s x)) (λ e. m .moves (near s d y z) (m .word _ (target-small (s .pc) d branchFields (yzOf y z))))
-      (λ e. m .moves (following s) (onward s W Read R m s))
-  plan-meets (jump d) op x y z wy wz mi = m .moves (far s d x y z) (m .word _ (target-small (s .pc) d jumpFields (xyzOf x y z)))
-  plan-meets (getAddress d) op x y z wy wz mi =
-      m .writes x (near s d y z) _ (m .word _ (target-small (s .pc) d branchFields (yzOf y z))) (onward s W Read R m (setRegister s x (near s d y z)))
-  plan-meets (go o) op x y z wy wz mi = m .writes x (following s) (sumOf s o y z) (onward s W Read R m s) (m .word _ (small (reg s y + operandOf s o z)))
-  plan-meets (pushJump d) op x y z wy wz mi = m .pushes x (near s d y z) (m .word _ (target-small (s .pc) d branchFields (yzOf y z)))
-  plan-meets (pushGo o) op x y z wy wz mi = m .pushes x (sumOf s o y z) (m .word _ (small (reg s y + operandOf s o z)))
-  plan-meets pop op x y z wy wz mi = pop-meets s W Read R m x _ (m .word _ (small (sp s rJ + 4 * yzOf y z)))
-  plan-meets (put o) op x y z wy wz mi = put-meets s W Read R m x (operandOf s o z) (operand-is s W Read R m o z wz)
-  plan-meets get op x y z wy wz mi = get-meets s W Read R m x z
-  plan-meets save op x y z wy wz mi = save-meets s W Read R m x
-  plan-meets unsave op x y z wy wz mi =
-      context-meets (halted s) _ (reg s z) Read R (λ n a b. m .halts n (inl (omega arith, omega arith))) (λ o g a l vs c. m .unsaves o g a l vs _ (onward s W Read R m (unsaved s o g a l vs)) (m .word o c))
-  plan-meets sync op x y z wy wz mi = sync-meets s W Read R m (xyzOf x y z)
-  plan-meets swym op x y z wy wz mi = m .moves (following s) (onward s W Read R m s)
-  plan-meets trip op x y z wy wz mi = trip-meets s W (λ r t. R r t []) (m .word) 0 (wordOf op x y z) (reg s y) (reg s z) (omega arith) (mi .trips refl)
-  plan-meets trap op x y z wy wz mi = mi .traps refl
-  plan-meets (load d g o) op x y z wy wz mi = load-meets d g x (sumOf s o y z)
-  plan-meets (store d g o) op x y z wy wz mi = store-meets d g x (sumOf s o y z) (wordOf op x y z) (λ e. mi .stores d o (ap (λ (h : Sign). store d h o) e))
-  plan-meets (arithmetic f p q) op x y z wy wz mi =
-      arithmetic-meets f x (operandOf s p y) (operandOf s q z) (wordOf op x y z) (operand-is s W Read R m p y wy) (operand-is s W Read R m q z wz) (mi .computes f p q refl)
-  plan-meets none op x y z wy wz mi = m .refuses
+-- ---- 3 to 5
+
+number-most : (r : Refusal) → numberOf r ≤ 5
+number-most passes = omega arith
+number-most noArm = omega arith
+number-most namedTrap = omega arith
+number-most noSpecial = omega arith
 
 pub refusal-most : (a : Arm) (x y z : ℕ) → refusalOf a x y z ≤ 5
 unfolding refusalOf
-refusal-most none x y z = omega arith
-refusal-most trap x y z = on (λ (n : ℕ). n ≤ 5) (eqb x 0 && isNamed y) (λ e. omega arith) (λ e. omega arith)
-refusal-most get x y z = on (λ (n : ℕ). n ≤ 5) (ltb 31 z) (λ e. omega arith) (λ e. omega arith)
-refusal-most (branch c d) x y z = omega arith
-refusal-most (jump d) x y z = omega arith
-refusal-most (getAddress d) x y z = omega arith
-refusal-most (go o) x y z = omega arith
-refusal-most (pushJump d) x y z = omega arith
-refusal-most (pushGo o) x y z = omega arith
-refusal-most pop x y z = omega arith
-refusal-most (put o) x y z = omega arith
-refusal-most save x y z = omega arith
-refusal-most unsave x y z = omega arith
-refusal-most sync x y z = omega arith
-refusal-most swym x y z = omega arith
-refusal-most trip x y z = omega arith
-refusal-most (load d g o) x y z = omega arith
-refusal-most (store d g o) x y z = omega arith
-refusal-most (arithmetic f p q) x y z = omega arith
+refusal-most a x y z = most (rowOf a)
+  where
+    most : (r : Row) → refusalIn r x y z ≤ 5
+    most (quiet q) = number-most (q .refusal x y z)
+    most (touching t) = omega arith
 
 -- 0, or one of 1 to 5 and 22
 Judged : ℕ → Type 0

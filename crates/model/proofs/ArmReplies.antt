@@ -1,43 +1,37 @@
 -- A property of the replies alone, of every answer that an arm may give: 0, 3 to 5, 7 to 18, 29, 31, 19, and 20 of TRAP.
 use mathlib.Core.Path.{_≡_, refl}
 use mathlib.Core.Logic.{_≢_}
-use mathlib.Core.Bool.{_&&_}
 use Prim.Native.Nat.{ℕ, _≤_}
 use native.Mathlib.Omega.{arith}
-use lib.Dec.{ltb, eqb}
+use lib.Dec.{eqb}
 use borrow.Author.Tests.{eqb-false}
-use Rattle.model.specs.Opcodes.{Arm, branch, jump, getAddress, go, pushJump, pushGo, pop, put, get, save, unsave, sync, swym, trip, trap, load, store, arithmetic, none}
+use Rattle.model.specs.Opcodes.{Arm, trap, system}
+use Rattle.model.specs.Row.{Refusal, passes, noArm, namedTrap, noSpecial, numberOf, Row, quiet, touching, refusalIn}
+use Rattle.model.specs.Rows.{rowOf}
 use Rattle.model.specs.NoMemory.{tell}
-use Rattle.model.specs.Step.{isNamed, refusalOf, planOf, fromThree}
+use Rattle.model.specs.Step.{refusalOf, planOf, fromThree}
 use Rattle.model.specs.Numbers.{Halting}
 use Rattle.model.specs.declared.State.{State}
 use Rattle.model.proofs.Bools.{on}
-use Rattle.model.proofs.ArmAnswers.{Answers, MeetsTrip, MeetsRaise, plan-meets, refusal-most}
+use Rattle.model.proofs.ArmAnswers.{Answers, MeetsTrip, MeetsRaise, refusal-most}
+use Rattle.model.proofs.ArmLaws.{plan-meets}
+
+number-least : (r : Refusal) → numberOf r ≢ 0 → 3 ≤ numberOf r
+number-least passes n = absurd (n refl)
+number-least noArm n = omega arith
+number-least namedTrap n = omega arith
+number-least noSpecial n = omega arith
 
 pub refusal-least : (a : Arm) (x y z : ℕ) → refusalOf a x y z ≢ 0 → 3 ≤ refusalOf a x y z
 unfolding refusalOf
-refusal-least none x y z = λ n. omega arith
-refusal-least trap x y z = on (λ (n : ℕ). n ≢ 0 → 3 ≤ n) (eqb x 0 && isNamed y) (λ e n. omega arith) (λ e n. absurd (n refl))
-refusal-least get x y z = on (λ (n : ℕ). n ≢ 0 → 3 ≤ n) (ltb 31 z) (λ e n. omega arith) (λ e n. absurd (n refl))
-refusal-least (branch c d) x y z = λ n. absurd (n refl)
-refusal-least (jump d) x y z = λ n. absurd (n refl)
-refusal-least (getAddress d) x y z = λ n. absurd (n refl)
-refusal-least (go o) x y z = λ n. absurd (n refl)
-refusal-least (pushJump d) x y z = λ n. absurd (n refl)
-refusal-least (pushGo o) x y z = λ n. absurd (n refl)
-refusal-least pop x y z = λ n. absurd (n refl)
-refusal-least (put o) x y z = λ n. absurd (n refl)
-refusal-least save x y z = λ n. absurd (n refl)
-refusal-least unsave x y z = λ n. absurd (n refl)
-refusal-least sync x y z = λ n. absurd (n refl)
-refusal-least swym x y z = λ n. absurd (n refl)
-refusal-least trip x y z = λ n. absurd (n refl)
-refusal-least (load d g o) x y z = λ n. absurd (n refl)
-refusal-least (store d g o) x y z = λ n. absurd (n refl)
-refusal-least (arithmetic f p q) x y z = λ n. absurd (n refl)
+refusal-least a x y z = least (rowOf a)
+  where
+    least : (r : Row) → refusalIn r x y z ≢ 0 → 3 ≤ refusalIn r x y z
+    least (quiet q) n = number-least (q .refusal x y z) n
+    least (touching t) n = absurd (n refl)
 
 pub plan-replies : (Q : ℕ → Type 0) → Q 0 → Q 3 → ((n : ℕ) → Halting n → Q n) → Q 19
-    → (s : State) (a : Arm) (op x y z : ℕ) → (a ≡ trap → Q 20) → Answers (λ vs. Unit {0}) (λ r t vs. Q r) (planOf s a op x y z)
+    → (s : State) (a : Arm) (op x y z : ℕ) → (a ≡ (system trap) → Q 20) → Answers (λ vs. Unit {0}) (λ r t vs. Q r) (planOf s a op x y z)
 plan-replies Q done three halts nineteen s a op x y z twenty =
     plan-meets s (λ n. Unit {0}) (λ vs. Unit {0}) (λ r t vs. Q r) (record {
       word = λ n b. tt;
@@ -67,7 +61,7 @@ plan-replies Q done three halts nineteen s a op x y z twenty =
 
 -- from 3 on
 pub three-replies : (Q : ℕ → Type 0) → Q 0 → ((n : ℕ) → 3 ≤ n → n ≤ 5 → Q n) → ((n : ℕ) → Halting n → Q n) → Q 19
-    → (s : State) (a : Arm) (op x y z : ℕ) → (a ≡ trap → Q 20) → Answers (λ vs. Unit {0}) (λ r t vs. Q r) (fromThree s a op x y z)
+    → (s : State) (a : Arm) (op x y z : ℕ) → (a ≡ (system trap) → Q 20) → Answers (λ vs. Unit {0}) (λ r t vs. Q r) (fromThree s a op x y z)
 unfolding fromThree
 three-replies Q done three halts nineteen s a op x y z twenty =
     on (Answers (λ vs. Unit {0}) (λ r t vs. Q r)) (eqb (refusalOf a x y z) 0)

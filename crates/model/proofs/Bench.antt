@@ -22,7 +22,8 @@ use Rattle.model.specs.Lists.{stepOn, runs}
 use Rattle.model.specs.Step.{refusalOf, unruledBy, judged, refusing, planOf, guarded, fromThree, stepPlan, stepOf, exceptionOf, itemPlan, mmix}
 use Rattle.model.specs.Numbers.{numberOf}
 use Rattle.model.specs.Field.{fieldAt, fieldOf, answerOf}
-use Rattle.model.specs.Rules.{readRule, pushRule, belowTop, poppedRule, popHoleRule, popAnyRule, unsavedGeneralRule, unsavedSpecialRule, unsavedRule, unsaveRestRule, unsaveCountRule, unsaveRule, loadRule, storeState, storeRule, ruleOf, stepRule, withAddedRule, raisedRule, exceptionRule, counted, arithmeticRule}
+use Rattle.model.specs.Rules.{readRule, pushRule, belowTop, poppedRule, popHoleRule, popAnyRule, unsavedGeneralRule, unsavedSpecialRule, unsavedRule, unsaveRestRule, unsaveCountRule, unsaveRule, loadRule, storeState, storeRule, withAddedRule, raisedRule, exceptionRule, counted, arithmeticRule}
+use Rattle.model.specs.StepRule.{ruleOf, stepRule}
 use Rattle.model.specs.Bench.{start, shows, met, allMet, points, PointsMet}
 use Rattle.model.specs.Points.{ruledShapes, numbered, freshIs, freshAtIs, readerPoints, morePoints, MorePointsMet}
 use Rattle.model.specs.LoadStorePoints.{loadStorePoints, LoadStorePointsMet}

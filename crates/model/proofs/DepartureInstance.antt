@@ -7,14 +7,15 @@ use Rattle.model.specs.Fill.{over, indexed, within, tab}
 use Rattle.model.specs.Octa.{octa, part, written, valueOf, bytesOf}
 use Rattle.model.specs.Registers.{rO, rS, stackStart, sp, reg, hideable, hides, admissible, fresh, goes, withSpecial, cleared, claimLocal, stored, spilled}
 use Rattle.model.specs.Memory.{shapeOf, ruledOne, offset, has, octaBytes, shapesOf, inside, octaAt, both, ruled, shares}
-use Rattle.model.specs.Plan.{mapOutcome, look}
-use Rattle.model.specs.Opcodes.{forward, Arm, pushJump, armOf}
+use Rattle.model.specs.Plan.{All, mapOutcome, look}
+use Rattle.model.specs.Opcodes.{forward, Arm, stack, pushJump, armOf}
 use Rattle.model.specs.Frames.{hole, noFrame, misplaced}
 use Rattle.model.specs.LoadStore.{bytesIn, unitAt, operandIn}
 use Rattle.model.specs.Step.{unruledBy, stepOf, claims, opcodeIn, xIn, yIn, zIn, claimedBy, fetchedOf, tetraAt, tetraOf, claimedAt}
 use Rattle.model.specs.Fetched.{Fetches}
-use Rattle.model.specs.Rules.{readRule, After, goesOn, interrupts, settled, settledRule}
-use Rattle.model.specs.Departures.{ReadsAlike, Outside, fetchedRule}
+use Rattle.model.specs.Rules.{readRule, After, goesOn, interrupts}
+use Rattle.model.specs.StepRule.{settled, settledRule}
+use Rattle.model.specs.Departures.{ReadsZero, ReadsAlike, Outside, fetchedRule}
 use Rattle.model.specs.Bench.{start}
 use Rattle.model.specs.declared.State.{State}
 use Rattle.model.proofs.Computed.{below, rangedState, ranged}
@@ -30,7 +31,7 @@ moved interrupts = 0
 abbrev toldBy : Arm → ℕ
 toldBy a = moved (settled a (goesOn (withSpecial start rO 8)))
 
-no-call : (a : Arm) → toldBy a ≡ stackStart → pushJump forward ≡ a → ⊥
+no-call : (a : Arm) → toldBy a ≡ stackStart → stack (pushJump forward) ≡ a → ⊥
 unfolding settled spilled withSpecial start fresh
 no-call a e p = let h : 8 ≡ stackStart = ap toldBy p ∙ e in omega (arith, h)
 
@@ -44,7 +45,7 @@ abbrev claimed : State
 claimed = claimedAt lent (caller 7)
 
 computed : (rangedState (caller 7) ≡ true) × (admissible (caller 7) ≡ true) × (ruled (shapesOf lent) ≡ true) × (shares (shapesOf lent) ≡ false)
-    × (inside (shapesOf lent) (caller 7 .pc) ≡ true) × (armOf (opcodeIn word) ≡ pushJump forward)
+    × (inside (shapesOf lent) (caller 7 .pc) ≡ true) × (armOf (opcodeIn word) ≡ stack (pushJump forward))
     × (hole claimed (xIn word) ≡ 1) × (reg claimed 0 ≡ readRule claimed 0)
     × (noFrame claimed ≡ false) × (misplaced claimed ≡ false)
 unfolding over indexed within tab octa part written valueOf bytesOf hideable hides admissible fresh goes withSpecial cleared claimLocal stored shapeOf ruledOne offset has octaBytes shapesOf inside octaAt both ruled shares look armOf hole noFrame misplaced bytesIn unitAt operandIn unruledBy claims claimedBy tetraAt readRule start below rangedState
@@ -54,14 +55,14 @@ fetches : Fetches lent (caller 7)
 fetches = record { passes = record { admitted = computed .1; windowed = computed .2; apart = computed .3 }; there = computed .4 }
 
 -- the frame is $0 alone
-frame-read : (i : ℕ) → i < 1 → reg claimed i ≡ readRule claimed i
-frame-read zero l = computed .7
-frame-read (suc i) l = absurd (omega arith)
+frame-read : All (ReadsZero claimed) (tab 0 1 (λ i. i))
+unfolding All tab
+frame-read = (computed .7, tt)
 
-outside : (x y z : ℕ) → hole claimed x ≡ 1 → Outside lent claimed (pushJump forward) x y z
+outside : (x y z : ℕ) → hole claimed x ≡ 1 → Outside lent claimed (stack (pushJump forward)) x y z
 unfolding settled withSpecial start fresh ReadsAlike
 outside x y z h = record {
-  reads = λ i l. frame-read i (subst (λ (n : ℕ). i < n) h l);
+  reads = subst (λ (n : ℕ). All (ReadsZero claimed) (tab 0 n (λ i. i))) (sym h) frame-read;
   put-y = λ o e. absurd (no-call _ refl e);
   get-y = λ e. absurd (no-call _ refl e);
   save-yz = λ e. absurd (no-call _ refl e);

@@ -2,25 +2,29 @@
 use mathlib.Core.Path.{_≡_, refl, sym, ap, _∙_}
 use mathlib.Core.Logic.{_≢_}
 use mathlib.Core.Bool.{Bool, true, false, cond}
-use mathlib.Core.List.{List}
+use mathlib.Core.List.{List, [], _∷_}
 use Prim.Native.Nat.{ℕ, _+_, _-_, _%_, _^_, _<_}
 use native.Mathlib.Omega.{arith}
 use lib.ListN.{set}
 use lib.Seq.{set-getD, getD-set-other}
 use Rattle.model.specs.Registers.{withParts, rC, rO, rS, rI, rU, rK, sp, Words, Sized, MarginalZero, goes, halted, withSpecial, claimLocal, spilled}
 use Rattle.model.specs.Memory.{Windows}
-use Rattle.model.specs.Plan.{Outcome, mapOutcome}
-use Rattle.model.specs.Opcodes.{register, immediate, Arm, branch, jump, getAddress, go, pushJump, pushGo, pop, put, get, save, unsave, sync, swym, trip, trap, load, store, arithmetic, none, armOf}
+use Rattle.model.specs.Plan.{All, Outcome, mapOutcome}
+use Rattle.model.specs.Opcodes.{Arm, armOf}
+use Rattle.model.specs.Row.{readsIn}
+use Rattle.model.specs.Rows.{rowOf}
 use Rattle.model.specs.Trips.{trapped, trapRule, trapOf}
 use Rattle.model.specs.Step.{claims, opcodeIn, xIn, yIn, zIn, keepsClaim, settledBy, claimedBy, fetchedOf, tetraOf, claimedAt}
 use Rattle.model.specs.Fetched.{stepSaid, settled, Fetches}
-use Rattle.model.specs.Rules.{goesOn, settledRule, counted}
-use Rattle.model.specs.Departures.{ReadsAlike, Outside, fetchedRule, Departures}
+use Rattle.model.specs.Rules.{goesOn, counted}
+use Rattle.model.specs.StepRule.{settledRule}
+use Rattle.model.specs.Departures.{ReadsZero, ReadsAlike, Outside, fetchedRule, Departures}
 use Rattle.model.specs.declared.State.{State}
 use Rattle.model.proofs.Fetched.{fetched-is-step}
 use Rattle.model.proofs.Rules.{read-zero, frame-reads, frame-same, got-same, unsave-same}
 use Rattle.model.proofs.RaisedRule.{added-same, trip-same, exception-same}
-use Rattle.model.proofs.RuleStep.{pop-framed, unhidden, step-same, spilled-same, rule-settled}
+use Rattle.model.proofs.RuleStep.{step-same, spilled-same, rule-settled}
+use Rattle.model.proofs.ArmRules.{pop-framed, unhidden}
 
 -- ---- rS moves with rO
 
@@ -30,35 +34,14 @@ spilled-special s k n = getD-set-other (s .special) rS k (sp s rO) 0 n
 
 -- ---- marginal registers that are zero
 
+reads-zero : (s : State) → MarginalZero s → (ks : List ℕ) → All (ReadsZero s) ks
+unfolding All
+reads-zero s m [] = tt
+reads-zero s m (k ∷ ks) = (read-zero s k m, reads-zero s m ks)
+
 all-read : (s : State) (a : Arm) (x y z : ℕ) → MarginalZero s → ReadsAlike s a x y z
 unfolding ReadsAlike
-all-read s (branch c w) x y z m = read-zero s x m
-all-read s (jump w) x y z m = tt
-all-read s (getAddress w) x y z m = tt
-all-read s (go register) x y z m = (read-zero s y m, read-zero s z m)
-all-read s (go immediate) x y z m = read-zero s y m
-all-read s (pushJump w) x y z m = λ i l. read-zero s i m
-all-read s (pushGo register) x y z m = (read-zero s y m, read-zero s z m, λ i l. read-zero s i m)
-all-read s (pushGo immediate) x y z m = (read-zero s y m, λ i l. read-zero s i m)
-all-read s pop x y z m = tt
-all-read s (put register) x y z m = read-zero s z m
-all-read s (put immediate) x y z m = tt
-all-read s get x y z m = tt
-all-read s save x y z m = tt
-all-read s unsave x y z m = read-zero s z m
-all-read s sync x y z m = tt
-all-read s swym x y z m = tt
-all-read s trip x y z m = (read-zero s y m, read-zero s z m)
-all-read s trap x y z m = (read-zero s y m, read-zero s z m)
-all-read s (load d g register) x y z m = (read-zero s y m, read-zero s z m)
-all-read s (load d g immediate) x y z m = read-zero s y m
-all-read s (store d g register) x y z m = (read-zero s x m, read-zero s y m, read-zero s z m)
-all-read s (store d g immediate) x y z m = (read-zero s x m, read-zero s y m)
-all-read s (arithmetic f register register) x y z m = (read-zero s y m, read-zero s z m)
-all-read s (arithmetic f register immediate) x y z m = read-zero s y m
-all-read s (arithmetic f immediate register) x y z m = read-zero s z m
-all-read s (arithmetic f immediate immediate) x y z m = tt
-all-read s none x y z m = tt
+all-read s a x y z m = reads-zero s m (readsIn (rowOf a) s x y z)
 
 -- ---- traps
 

@@ -9,7 +9,7 @@ use borrow.Author.Tests.{eqb-false}
 use Rattle.model.specs.Registers.{withParts, Sized, admissible, halted, withSpecial, cleared, claimLocal, isMarginal}
 use Rattle.model.specs.Memory.{Windows, shapesOf, inside, both}
 use Rattle.model.specs.Plan.{Outcome}
-use Rattle.model.specs.Opcodes.{trap, operationOf, firstOf, widthOf, signOf, conditionOf, armOf}
+use Rattle.model.specs.Opcodes.{trap, operationOf, firstOf, widthOf, signOf, conditionOf, armOf, system}
 use Rattle.model.specs.Step.{refusalOf, unruledBy, fromThree, stepOf, claims, opcodeIn, xIn, yIn, zIn, settledBy, claimedBy, fetchedOf, tetraOf, claimedAt, fetched, mmix}
 use Rattle.model.specs.Run.{Stopped, runFor, runOf, grantMost}
 use Rattle.model.specs.RunMeant.{CallPasses}
@@ -37,7 +37,7 @@ claims-no-trap : each 256 (λ op. not (claims op && eqb (refusalOf (armOf op) 0 
 unfolding each claims refusalOf armOf operationOf firstOf widthOf signOf conditionOf
 claims-no-trap = refl
 
-pub no-trap : (op : ℕ) → op < 256 → claims op ≡ true → armOf op ≡ trap → ⊥
+pub no-trap : (op : ℕ) → op < 256 → claims op ≡ true → armOf op ≡ (system trap) → ⊥
 no-trap op l c e = differ (at-each 256 (λ k. not (claims k && eqb (refusalOf (armOf k) 0 0 0) 4)) claims-no-trap op l)
   where
     four : refusalOf (armOf op) 0 0 0 ≡ 4

@@ -11,7 +11,7 @@ use lib.Seq.{getD-set-same, getD-set-other}
 use Rattle.model.specs.Registers.{rB, rH, rJ, rR, rL, rBB, rA, rW, rX, rY, rZ, rWW, rXX, rYY, rZZ, sp, reg, following, Sized, admissible, goes, halted, withSpecial, cleared, claimLocal, stored, setRegister, putLocals, putGlobals, isMarginal, spilled}
 use Rattle.model.specs.Memory.{Windows, shapesOf, putOcta, both}
 use Rattle.model.specs.Plan.{Plan, Outcome, perform, worst, clear, named, look, looks, puts}
-use Rattle.model.specs.Opcodes.{Width, Sign, signed, Operand, Arm, trip, store, arithmetic, armOf}
+use Rattle.model.specs.Opcodes.{Width, Sign, signed, Operand, Arm, trip, store, arithmetic, armOf, memory, system}
 use Rattle.model.specs.Frames.{slide, pushedRule, pushed, unslide, popped}
 use Rattle.model.specs.Contexts.{savedUnspilled, savedState, unsavedUnspilled, unsaved}
 use Rattle.model.specs.NoMemory.{Said, tell}
@@ -32,7 +32,8 @@ use Rattle.model.specs.Fill.{over}
 use Rattle.model.proofs.Bools.{on}
 use Rattle.model.proofs.Fill.{length-over}
 use Rattle.model.proofs.ItemInvariant.{Any}
-use Rattle.model.proofs.ArmAnswers.{Answers, Meets, MeetsInterrupt, plan-meets, judged-early, step-judged, step-meets, raised-meets, exception-meets, worst-six, perform-meets}
+use Rattle.model.proofs.ArmLaws.{plan-meets}
+use Rattle.model.proofs.ArmAnswers.{Answers, Meets, MeetsInterrupt, judged-early, step-judged, step-meets, raised-meets, exception-meets, worst-six, perform-meets}
 use Rattle.model.proofs.ArmReplies.{three-replies}
 use Rattle.model.proofs.Numbers.{unhalting}
 use Rattle.model.proofs.Entry.{performOn, said-reply, shared-only}
@@ -86,7 +87,7 @@ traps s word u v n = interrupts s rBB rWW rXX rYY rZZ word u v n (omega arith) (
 record IsStore (m : Arm) : Type 0 where
   width : Width
   last : Operand
-  is-it : m ≡ store width signed last
+  is-it : m ≡ (memory (store width signed last))
 
 -- an operation that has raised its flag
 record Computed (s : State) (op x y z : ℕ) (t : State) (vs : List ℕ) : Type 0 where
@@ -102,7 +103,7 @@ record Computed (s : State) (op x y z : ℕ) (t : State) (vs : List ℕ) : Type 
 -- TRIP, a store, an operation
 abbrev Nineteen : State → ℕ → ℕ → ℕ → ℕ → State → List ℕ → Type 0
 Nineteen s op x y z t vs =
-    ((armOf op ≡ trip) × Tripped s t (wordOf op x y z) (reg s y) (reg s z) × (vs ≡ [])) ⊎ (IsStore (armOf op) ⊎ Computed s op x y z t vs)
+    ((armOf op ≡ (system trip)) × Tripped s t (wordOf op x y z) (reg s y) (reg s z) × (vs ≡ [])) ⊎ (IsStore (armOf op) ⊎ Computed s op x y z t vs)
 
 record Answered (s : State) (op x y z : ℕ) (r : ℕ) (t : State) (vs : List ℕ) : Type 0 where
   most : (r ≤ 20) ⊎ ((r ≡ 22) ⊎ ((r ≡ 29) ⊎ (r ≡ 31)))

@@ -20,6 +20,14 @@ pub mod Whole
 pub mod Arithmetic
 pub mod ArithmeticWords
 pub mod ArmAnswers
+pub mod ArmNeeds
+pub mod ArmRules
+pub mod RowLaws
+pub mod ControlLaws
+pub mod StackLaws
+pub mod SystemLaws
+pub mod OperandLaws
+pub mod ArmLaws
 pub mod ArmReplies
 pub mod ItemInvariant
 pub mod Entry

@@ -1,125 +1,31 @@
 -- A step raises at most one flag, and is as it was before change 7: its flags, then plans, items and outcomes. AddedFlags has what is added to rA.
 use mathlib.Core.Path.{_≡_, refl, ap, _∙_}
-use mathlib.Core.Logic.{inl, inr}
-use mathlib.Core.Bool.{Bool, true, false, cond}
-use mathlib.Core.List.{[], _∷_}
-use Prim.Native.Nat.{ℕ, zero, suc, _%_}
+use mathlib.Core.Bool.{cond}
+use Prim.Native.Nat.{ℕ, zero, suc}
 use lib.Dec.{eqb}
 use lib.Count.{leadingZeros}
 use lib.ListN.{getD}
 use Rattle.model.specs.Memory.{Windows, Shapes, shapesOf, both}
-use Rattle.model.specs.Plan.{Plan, answer, read, Outcome, perform}
+use Rattle.model.specs.Plan.{Plan, read, Outcome, perform}
 use Rattle.model.specs.Lists.{stepOn}
-use Rattle.model.specs.Registers.{reg, admissible, next, claimLocal, withSpecial, fresh}
-use Rattle.model.specs.Opcodes.{Arm, branch, jump, getAddress, go, pushJump, pushGo, pop, put, get, save, unsave, sync, swym, trip, trap, load, store, arithmetic, none, armOf}
-use Rattle.model.specs.NoMemory.{Said, say, tell}
-use Rattle.model.specs.Control.{sumOf, operandOf}
-use Rattle.model.specs.Trips.{wordOf, leftmost, added, raised}
-use Rattle.model.specs.LoadStore.{merged, fits, flagV, storeSays, storeTo}
-use Rattle.model.specs.ArithmeticStep.{operandsOf, resultsIn, withResults, arithmeticSays}
-use Rattle.model.specs.Step.{refusalOf, refusing, planOf, guarded, fromThree, stepPlan, stepOf, claims, opcodeIn, xIn, yIn, zIn, tetraAt, takenBack, instructionPlan, tetraPlan, fetchedPlan, fetchedOf, exceptionOf, Item, step, exception, fetched, itemPlan, mmix}
+use Rattle.model.specs.Registers.{claimLocal, withSpecial, fresh}
+use Rattle.model.specs.Opcodes.{Arm, armOf}
+use Rattle.model.specs.Trips.{leftmost, added, raised}
+use Rattle.model.specs.Step.{refusing, planOf, guarded, fromThree, stepPlan, stepOf, opcodeIn, xIn, yIn, zIn, tetraAt, instructionPlan, tetraPlan, fetchedPlan, fetchedOf, exceptionOf, Item, step, exception, fetched, itemPlan, mmix}
+use Rattle.model.specs.Row.{Raise}
 use Rattle.model.specs.Run.{Stopped, more, stoppedBy, runFor}
-use Rattle.model.specs.OneRaised.{flagsOf, OneFlag, planBy, threeBy, instructionBy, itemBy, machineBy, addedBefore, raisedBefore, RaisesOne}
+use Rattle.model.specs.OneRaised.{planBy, threeBy, instructionBy, itemBy, machineBy, addedBefore, raisedBefore, RaisesOne}
 use Rattle.model.specs.declared.State.{State}
-use Rattle.model.proofs.Bools.{on}
-use Rattle.model.proofs.ArithmeticWords.{flags-one}
+use Rattle.model.proofs.RowLaws.{Alike}
+use Rattle.model.proofs.ArmLaws.{flags-are, plan-alike, plan-raised}
 use Rattle.model.proofs.AddedFlags.{all-told, added-differs, exception-before, one-enabled}
-
--- ---- one flag
-
-flags-are : (s : State) (a : Arm) (x y z : ℕ) → OneFlag (flagsOf s a x y z)
-unfolding flagsOf
-flags-are s (store d g o) x y z = on OneFlag (fits d g (reg s x)) (λ e. inl refl) (λ e. inr (inl refl))
-flags-are s (arithmetic f p q) x y z = flags-one f (operandsOf s (operandOf s p y) (operandOf s q z))
-flags-are s (branch c w) x y z = inl refl
-flags-are s (jump w) x y z = inl refl
-flags-are s (getAddress w) x y z = inl refl
-flags-are s (go o) x y z = inl refl
-flags-are s (pushJump w) x y z = inl refl
-flags-are s (pushGo o) x y z = inl refl
-flags-are s pop x y z = inl refl
-flags-are s (put o) x y z = inl refl
-flags-are s get x y z = inl refl
-flags-are s save x y z = inl refl
-flags-are s unsave x y z = inl refl
-flags-are s sync x y z = inl refl
-flags-are s swym x y z = inl refl
-flags-are s trip x y z = inl refl
-flags-are s trap x y z = inl refl
-flags-are s (load d g o) x y z = inl refl
-flags-are s none x y z = inl refl
-
--- ---- plans over an exception step
-
-abbrev Step : Type 0
-Step = State → ℕ → ℕ → ℕ → ℕ → Said
-
--- two exception steps that agree where at most one flag is raised
-abbrev Alike : Step → Step → Type 0
-Alike e h = (s : State) (f word u v : ℕ) → OneFlag f → e s f word u v ≡ h s f word u v
 
 before-alike : Alike raisedBefore raised
 before-alike s f word u v o = exception-before s f word u v (one-enabled s f o)
 
-module _ (e h : Step) (k : Alike e h) where
-  plan-alike : (s : State) (a : Arm) (op x y z : ℕ) → planBy e s a op x y z ≡ planBy h s a op x y z
-  unfolding planBy
-  plan-alike s (store d g o) op x y z = rw (k s (flagsOf s (store d g o) x y z) (wordOf op x y z) (sumOf s o y z) (reg s x) (flags-are s (store d g o) x y z))
-  plan-alike s (arithmetic f p q) op x y z =
-      rw (k (withResults s x (resultsIn s f (operandOf s p y) (operandOf s q z))) (flagsOf s (arithmetic f p q) x y z) (wordOf op x y z) (operandOf s p y) (operandOf s q z) (flags-are s (arithmetic f p q) x y z))
-  plan-alike s (branch c w) op x y z = refl
-  plan-alike s (jump w) op x y z = refl
-  plan-alike s (getAddress w) op x y z = refl
-  plan-alike s (go o) op x y z = refl
-  plan-alike s (pushJump w) op x y z = refl
-  plan-alike s (pushGo o) op x y z = refl
-  plan-alike s pop op x y z = refl
-  plan-alike s (put o) op x y z = refl
-  plan-alike s get op x y z = refl
-  plan-alike s save op x y z = refl
-  plan-alike s unsave op x y z = refl
-  plan-alike s sync op x y z = refl
-  plan-alike s swym op x y z = refl
-  plan-alike s trip op x y z = refl
-  plan-alike s trap op x y z = refl
-  plan-alike s (load d g o) op x y z = refl
-  plan-alike s none op x y z = refl
-
--- over `raised` an arm is the machine's
-plan-raised : (s : State) (a : Arm) (op x y z : ℕ) → planBy raised s a op x y z ≡ planOf s a op x y z
-unfolding planBy planOf
-plan-raised s (store d g o) op x y z = ap (λ (q : Said). read 6 (sumOf s o y z) 1 (λ v. answer (q .reply) (q .state) (sumOf s o y z) (merged d (sumOf s o y z) (getD v 0 0) (reg s x) ∷ []))) said ∙ (unfold storeTo in refl)
-  where
-    said : cond (eqb (flagsOf s (store d g o) x y z) 0) (say 0 (next s)) (raised s (flagsOf s (store d g o) x y z) (wordOf op x y z) (sumOf s o y z) (reg s x))
-        ≡ storeSays s d g x (sumOf s o y z) (wordOf op x y z)
-    said = unfold flagsOf storeSays in (flagged-by (fits d g (reg s x)))
-      where
-        flagged-by : (b : Bool) → cond (eqb (cond b 0 flagV) 0) (say 0 (next s)) (raised s (cond b 0 flagV) (wordOf op x y z) (sumOf s o y z) (reg s x))
-            ≡ cond b (say 0 (next s)) (raised s flagV (wordOf op x y z) (sumOf s o y z) (reg s x))
-        flagged-by true = refl
-        flagged-by false = refl
-plan-raised s (arithmetic f p q) op x y z = unfold flagsOf arithmeticSays in refl
-plan-raised s (branch c w) op x y z = refl
-plan-raised s (jump w) op x y z = refl
-plan-raised s (getAddress w) op x y z = refl
-plan-raised s (go o) op x y z = refl
-plan-raised s (pushJump w) op x y z = refl
-plan-raised s (pushGo o) op x y z = refl
-plan-raised s pop op x y z = refl
-plan-raised s (put o) op x y z = refl
-plan-raised s get op x y z = refl
-plan-raised s save op x y z = refl
-plan-raised s unsave op x y z = refl
-plan-raised s sync op x y z = refl
-plan-raised s swym op x y z = refl
-plan-raised s trip op x y z = refl
-plan-raised s trap op x y z = refl
-plan-raised s (load d g o) op x y z = refl
-plan-raised s none op x y z = refl
-
 -- ---- items: from an arm's plan to the whole
 
-module _ (e : Step) (k : (s : State) (a : Arm) (op x y z : ℕ) → planBy e s a op x y z ≡ planOf s a op x y z) where
+module _ (e : Raise) (k : (s : State) (a : Arm) (op x y z : ℕ) → planBy e s a op x y z ≡ planOf s a op x y z) where
   three-is : (s : State) (a : Arm) (op x y z : ℕ) → threeBy e s a op x y z ≡ fromThree s a op x y z
   unfolding threeBy fromThree
   three-is s a op x y z = rw (k s a op x y z)

@@ -14,12 +14,13 @@ use Rattle.model.specs.Octa.{octa}
 use Rattle.model.specs.Registers.{withParts, rO, rG, rL, stackStart, sp, reg, goes, next, halted, withSpecial, spilled, cleared, claimLocal, isMarginal, MarginalZero}
 use Rattle.model.specs.Memory.{Windows, Shapes, shapesOf, inside, both}
 use Rattle.model.specs.Plan.{Plan, answer, read, Outcome, worst, clear, look, looks, perform, mapPlan}
-use Rattle.model.specs.Opcodes.{go, pop}
+use Rattle.model.specs.Opcodes.{go, pop, stack}
 use Rattle.model.specs.Frames.{hole, framed, framedRule, pushed, pushFrame, unslide, popped, popTo, popRule, countOf, noFrame, misplaced}
 use Rattle.model.specs.Contexts.{below, unsavedGeneral, unsavedSpecial, unsavedUnspilled, unsaved, contextRest, contextCount, contextAt, unsaveContext}
 use Rattle.model.specs.System.{got, gotRule}
 use Rattle.model.specs.Step.{refusing}
-use Rattle.model.specs.Rules.{readRule, goesOn, pushRule, belowTop, poppedRule, popHoleRule, popAnyRule, unsavedGeneralRule, unsavedSpecialRule, unsavedRule, unsaveRestRule, unsaveCountRule, unsaveRule, settled}
+use Rattle.model.specs.Rules.{readRule, goesOn, pushRule, belowTop, poppedRule, popHoleRule, popAnyRule, unsavedGeneralRule, unsavedSpecialRule, unsavedRule, unsaveRestRule, unsaveCountRule, unsaveRule}
+use Rattle.model.specs.StepRule.{settled}
 use Rattle.model.specs.Departures.{ReadsZero, countTaken, contextTaken}
 use Rattle.model.specs.declared.State.{State}
 use Rattle.model.proofs.Bools.{and-left, and-right, on, on-both}
@@ -127,7 +128,7 @@ hole-room : (s : State) (v : ℕ) → stackStart < sp s rO → 8 * (v % 256 + 1)
 hole-room s v a = omega arith
 
 pub pop-plans : (s : State) (x t : ℕ) → noFrame s ≡ false → misplaced s ≡ false
-    → mapPlan (settled pop) (mapPlan goesOn (popAnyRule s x t)) ≡ mapPlan goesOn (popRule s x t)
+    → mapPlan (settled (stack pop)) (mapPlan goesOn (popAnyRule s x t)) ≡ mapPlan goesOn (popRule s x t)
 unfolding popAnyRule popHoleRule popRule popTo popped mapPlan settled spilled withSpecial goes
 pop-plans s x t a b = λ i. read 6 (top-below s 1 (omega (arith, above)) w64 i) 1
     (λ v. read 6 (top-below s (getD v 0 0 % 256 + 1) (hole-room s (getD v 0 0) above) w64 i) (min (getD v 0 0 % 256) (sp s rG))
@@ -142,7 +143,7 @@ pop-plans s x t a b = λ i. read 6 (top-below s 1 (omega (arith, above)) w64 i) 
 -- ---- PUSH
 
 pub push-plans : (s : State) (x t : ℕ) → ((i : ℕ) → i < hole s x → ReadsZero s i)
-    → mapPlan (settled pop) (mapPlan goesOn (pushRule s x t)) ≡ mapPlan goesOn (pushFrame s (hole s x) t)
+    → mapPlan (settled (stack pop)) (mapPlan goesOn (pushRule s x t)) ≡ mapPlan goesOn (pushFrame s (hole s x) t)
 unfolding pushRule pushFrame pushed mapPlan settled spilled withSpecial goes
 push-plans s x t h = λ i. answer 0 (goesOn (goes (pushed s (hole s x)) t)) (sp s rO) (tab 0 (hole s x + 1) (λ k. frame-same s x h k i))
 

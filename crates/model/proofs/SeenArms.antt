@@ -3,7 +3,7 @@
 use mathlib.Core.Path.{_≡_, refl, sym, subst}
 use mathlib.Core.Bool.{Bool, true, false, cond, not, _&&_}
 use mathlib.Core.List.{List, [], _∷_}
-use Prim.Native.Nat.{ℕ, _+_, _-_, _*_, _/_, _%_, _^_, _≤_, _<_}
+use Prim.Native.Nat.{ℕ, _+_, _-_, _/_, _%_, _^_, _≤_, _<_}
 use native.Mathlib.Omega.{arith}
 use lib.Dec.{leb, ltb, eqb}
 use lib.Bits.{bitAnd}
@@ -11,22 +11,22 @@ use lib.ListN.{getD}
 use borrow.Author.Tests.{ltb-true, ltb-false}
 use Rattle.model.specs.Fill.{tab}
 use Rattle.model.specs.Registers.{rD, rH, rR, rB, rBB, rO, rG, rL, rA, rW, rX, rY, rZ, rWW, rXX, rYY, rZZ, sp, reg, hideable, hides, admissible}
-use Rattle.model.specs.Opcodes.{Width, Sign, Operand, register, immediate, Arm, branch, jump, getAddress, go, pushJump, pushGo, pop, put, get, save, unsave, sync, swym, trip, trap, load, store, arithmetic, none}
+use Rattle.model.specs.Opcodes.{Width, Sign, Operand, register, immediate}
 use Rattle.model.specs.NoMemory.{Said, say, refuse, tell}
-use Rattle.model.specs.Control.{targetOf, branchFields, jumpFields, yzOf, xyzOf, sumOf, operandOf, holds}
+use Rattle.model.specs.Control.{sumOf, operandOf}
 use Rattle.model.specs.Frames.{hole, framed, pushFrame, popTo, popRule, noFrame, misplaced, popFrame}
-use Rattle.model.specs.Contexts.{savedSpecial, saved, saveContext, contextRest, contextCount, contextAt, unsaveContext}
+use Rattle.model.specs.Contexts.{savedSpecial, saved, saveContext, contextRest, contextCount, contextAt}
 use Rattle.model.specs.System.{putRefusal, unlessHidden, putSpecial, got, getSpecial, syncOf}
-use Rattle.model.specs.Trips.{wordOf, tripped, isLoaded, tripRule, tripTo, trapOf, enabled, vectorOf, withAdded, raised}
+use Rattle.model.specs.Trips.{tripped, isLoaded, tripRule, tripTo, trapOf, enabled, vectorOf, withAdded, raised}
 use Rattle.model.specs.LoadStore.{merged, fits, loadFrom, flagV, storeSays, storeTo}
 use Rattle.model.specs.ArithmeticStep.{resultsIn, withResults, arithmeticSays}
-use Rattle.model.specs.Step.{planOf, exceptionOf}
+use Rattle.model.specs.Step.{exceptionOf}
 use Rattle.model.specs.declared.State.{State}
 use Rattle.model.specs.declared.Operation.{Operation}
 use Rattle.model.specs.declared.Results.{Results}
 use Rattle.model.proofs.Bools.{on-both, each, at-each}
 use Rattle.model.proofs.Related.{Related}
-use Rattle.model.proofs.SeenStates.{Seen, seen, g-same, l-same, o-same, a-same, j-same, reg-same, following-same, hides-same, admissible-same, goes-seen, next-seen, halted-seen, write-seen, pushed-seen, popped-seen, saved-seen, unsaved-seen, interrupted-seen, added-seen, putState-seen, results-seen}
+use Rattle.model.proofs.SeenStates.{Seen, seen, g-same, l-same, o-same, a-same, reg-same, hides-same, admissible-same, goes-seen, next-seen, halted-seen, write-seen, pushed-seen, popped-seen, saved-seen, interrupted-seen, added-seen, putState-seen, results-seen}
 
 -- by two tests that come to the same
 pub by-test : {A B : Type 0} (Q : A → B → Type 0) {x y : A} {u v : B} (b c : Bool) → b ≡ c → (b ≡ true → Q x u) → (b ≡ false → Q y v) → Q (cond b x y) (cond c u v)
@@ -50,10 +50,10 @@ module _ (m : ℕ) where
   unfolding tell Related
   tells d e h = (h .reply-same, h .states, refl, refl)
 
-  done : (s t : State) → R s t → Says (say 0 s) (say 0 t)
+  pub done : (s t : State) → R s t → Says (say 0 s) (say 0 t)
   done s t h = record { reply-same = refl; states = h }
 
-  refused : (r : ℕ) (s t : State) → R s t → Says (refuse r s) (refuse r t)
+  pub refused : (r : ℕ) (s t : State) → R s t → Says (refuse r s) (refuse r t)
   refused r s t h = record { reply-same = refl; states = halted-seen m s t h }
 
   trip-seen : (s t : State) (k word u v : ℕ) → R s t → Says (tripTo s k word u v) (tripTo t k word u v)
@@ -88,11 +88,11 @@ module _ (m : ℕ) where
       rw e (unless-seen s t x _ _ h
       (λ f. on-both Says (eqb (putRefusal t x v) 0) (λ f. done _ _ (next-seen m _ _ (putState-seen m s t x v h))) (λ f. refused _ s t h)))
 
-  get-seen : (s t : State) (x z : ℕ) → R s t → Says (getSpecial s x z) (getSpecial t x z)
+  pub get-seen : (s t : State) (x z : ℕ) → R s t → Says (getSpecial s x z) (getSpecial t x z)
   unfolding getSpecial got
   get-seen s t x z h = unless-seen s t z _ _ h (λ e. done _ _ (next-seen m _ _ (write-seen m s t x _ _ (h .special-same .seen-same z e) h)))
 
-  sync-seen : (s t : State) (n : ℕ) → R s t → Says (syncOf s n) (syncOf t n)
+  pub sync-seen : (s t : State) (n : ℕ) → R s t → Says (syncOf s n) (syncOf t n)
   unfolding syncOf
   sync-seen s t n h = on-both Says (ltb 7 n) (λ e. refused 18 s t h) (λ e. on-both Says (leb 4 n) (λ f. refused 17 s t h) (λ f. done _ _ (next-seen m s t h)))
 
@@ -113,10 +113,10 @@ module _ (m : ℕ) where
   unfolding hole
   hole-same s t x h = let g : sp s rG ≡ sp t rG = g-same m s t h in let l : sp s rL ≡ sp t rL = l-same m s t h in λ i. cond (leb (g i) x) (l i) x
 
-  call-seen : (s t : State) (x u v : ℕ) → u ≡ v → R s t → Related R (pushFrame s (hole s x) u) (pushFrame t (hole t x) v)
+  pub call-seen : (s t : State) (x u v : ℕ) → u ≡ v → R s t → Related R (pushFrame s (hole s x) u) (pushFrame t (hole t x) v)
   call-seen s t x u v e h = rw (hole-same s t x h) (push-seen s t (hole t x) u v e h)
 
-  pop-seen : (s t : State) (x u v : ℕ) → u ≡ v → R s t → Related R (popFrame s x u) (popFrame t x v)
+  pub pop-seen : (s t : State) (x u v : ℕ) → u ≡ v → R s t → Related R (popFrame s x u) (popFrame t x v)
   unfolding popFrame noFrame misplaced popRule popTo
   pop-seen s t x u v e h =
       let o : sp s rO ≡ sp t rO = o-same m s t h in
@@ -143,7 +143,7 @@ module _ (m : ℕ) where
       (λ q. let b : sp t rL + 257 - sp t rG ≤ i = ltb-false _ _ p in let c : i < sp t rL + 269 - sp t rG = ltb-true _ _ q in
       seen m s t (savedSpecial (i - (sp t rL + 257 - sp t rG))) (twelve _ (omega arith)) h) (λ q. refl)))))
 
-  save-seen : (s t : State) (x : ℕ) → R s t → Related R (saveContext s x) (saveContext t x)
+  pub save-seen : (s t : State) (x : ℕ) → R s t → Related R (saveContext s x) (saveContext t x)
   unfolding saveContext Related
   save-seen s t x h =
       let l : sp s rL ≡ sp t rL = l-same m s t h in
@@ -152,7 +152,7 @@ module _ (m : ℕ) where
       (λ e. (refl, next-seen m _ _ (saved-seen m s t x h), o-same m s t h, λ i. tab 0 (l i + 270 - g i) (λ k. octa-same s t k h i)))
 
   -- a context, whatever is made of it
-  context-seen : (bad bad' : State) (found found' : ℕ → ℕ → ℕ → ℕ → List ℕ → State) (p q : ℕ) → p ≡ q → R bad bad'
+  pub context-seen : (bad bad' : State) (found found' : ℕ → ℕ → ℕ → ℕ → List ℕ → State) (p q : ℕ) → p ≡ q → R bad bad'
       → ((o g a l : ℕ) (vs : List ℕ) → R (found o g a l vs) (found' o g a l vs)) → Related R (contextAt bad found p) (contextAt bad' found' q)
   unfolding contextAt contextCount contextRest Related
   context-seen bad bad' found found' p q e b f =
@@ -167,7 +167,7 @@ module _ (m : ℕ) where
             (λ x. (refl, b, refl, refl)),
       )
 
-  load-seen : (s t : State) (d : Width) (g : Sign) (x a b : ℕ) → a ≡ b → R s t → Related R (loadFrom s d g x a) (loadFrom t d g x b)
+  pub load-seen : (s t : State) (d : Width) (g : Sign) (x a b : ℕ) → a ≡ b → R s t → Related R (loadFrom s d g x a) (loadFrom t d g x b)
   unfolding loadFrom Related
   load-seen s t d g x a b e h = rw e (refl, refl, refl, λ v. (refl, next-seen m _ _ (write-seen m s t x _ _ refl h), refl, refl))
 
@@ -176,7 +176,7 @@ module _ (m : ℕ) where
   says-seen s t d g x a word h =
       rw (reg-same m s t x h) (on-both Says (fits d g (reg t x)) (λ e. done _ _ (next-seen m s t h)) (λ e. raised-seen s t flagV word a (reg t x) h))
 
-  store-seen : (s t : State) (d : Width) (g : Sign) (x a b word : ℕ) → a ≡ b → R s t → Related R (storeTo s d g x a word) (storeTo t d g x b word)
+  pub store-seen : (s t : State) (d : Width) (g : Sign) (x a b word : ℕ) → a ≡ b → R s t → Related R (storeTo s d g x a word) (storeTo t d g x b word)
   unfolding storeTo Related
   store-seen s t d g x a b word e h =
       let n : Says (storeSays s d g x b word) (storeSays t d g x b word) = says-seen s t d g x b word h in
@@ -186,51 +186,26 @@ module _ (m : ℕ) where
   results-same s t f u v h =
       rw (seen m s t rD (unfold hideable in refl) h, seen m s t rH (unfold hideable in refl) h, seen m s t rR (unfold hideable in refl) h)
 
-  arithmetic-seen : (s t : State) (f : Operation) (x u v u' v' word : ℕ) → u ≡ u' → v ≡ v' → R s t → Says (arithmeticSays s f x u v word) (arithmeticSays t f x u' v' word)
+  pub arithmetic-seen : (s t : State) (f : Operation) (x u v u' v' word : ℕ) → u ≡ u' → v ≡ v' → R s t → Says (arithmeticSays s f x u v word) (arithmeticSays t f x u' v' word)
   unfolding arithmeticSays
   arithmetic-seen s t f x u v u' v' word d e h =
       let r : Results = resultsIn t f u' v' in
       let w : R (withResults s x r) (withResults t x r) = results-seen m s t x r h in
       rw (d, e, results-same s t f u' v' h) (on-both Says (eqb (r .flags) 0) (λ q. done _ _ (next-seen m _ _ w)) (λ q. raised-seen _ _ (r .flags) word u' v' w))
 
-  operand-same : (s t : State) (o : Operand) (z : ℕ) → R s t → operandOf s o z ≡ operandOf t o z
+  pub operand-same : (s t : State) (o : Operand) (z : ℕ) → R s t → operandOf s o z ≡ operandOf t o z
   operand-same s t register z h = reg-same m s t z h
   operand-same s t immediate z h = refl
 
-  sum-same : (s t : State) (o : Operand) (y z : ℕ) → R s t → sumOf s o y z ≡ sumOf t o y z
+  pub sum-same : (s t : State) (o : Operand) (y z : ℕ) → R s t → sumOf s o y z ≡ sumOf t o y z
   sum-same s t o y z h = λ i. (reg-same m s t y h i + operand-same s t o z h i) % 2 ^ 64
 
-  trip-at : (s t : State) (word u v u' v' : ℕ) → u ≡ u' → v ≡ v' → R s t → Says (tripTo s 0 word u v) (tripTo t 0 word u' v')
+  pub trip-at : (s t : State) (word u v u' v' : ℕ) → u ≡ u' → v ≡ v' → R s t → Says (tripTo s 0 word u v) (tripTo t 0 word u' v')
   trip-at s t word u v u' v' e f h = rw (e, f) (trip-seen s t 0 word u' v' h)
 
-  trap-at : (s t : State) (word u v u' v' : ℕ) → u ≡ u' → v ≡ v' → R s t → Says (trapOf s word u v) (trapOf t word u' v')
+  pub trap-at : (s t : State) (word u v u' v' : ℕ) → u ≡ u' → v ≡ v' → R s t → Says (trapOf s word u v) (trapOf t word u' v')
   unfolding trapOf
   trap-at s t word u v u' v' e f h = rw (e, f) (refused 20 _ _ (interrupted-seen m s t rBB rWW rXX rYY rZZ word u' v' h))
 
-  put-at : (s t : State) (x u v : ℕ) → u ≡ v → R s t → Says (putSpecial s x u) (putSpecial t x v)
+  pub put-at : (s t : State) (x u v : ℕ) → u ≡ v → R s t → Says (putSpecial s x u) (putSpecial t x v)
   put-at s t x u v e h = rw e (put-seen s t x v h)
-
-  -- ---- the arms
-
-  pub arm-seen : (s t : State) (a : Arm) (op x y z : ℕ) → R s t → Related R (planOf s a op x y z) (planOf t a op x y z)
-  unfolding planOf
-  arm-seen s t (branch c w) op x y z h =
-      tells _ _ (done _ _ (by-test R (holds c (reg s x)) (holds c (reg t x)) (λ i. holds c (reg-same m s t x h i)) (λ e. goes-seen m s t _ _ (λ i. targetOf (h .pc-same i) w branchFields (yzOf y z)) h) (λ e. next-seen m s t h)))
-  arm-seen s t (jump w) op x y z h = tells _ _ (done _ _ (goes-seen m s t _ _ (λ i. targetOf (h .pc-same i) w jumpFields (xyzOf x y z)) h))
-  arm-seen s t (getAddress w) op x y z h = tells _ _ (done _ _ (next-seen m _ _ (write-seen m s t x _ _ (λ i. targetOf (h .pc-same i) w branchFields (yzOf y z)) h)))
-  arm-seen s t (go o) op x y z h = tells _ _ (done _ _ (goes-seen m _ _ _ _ (sum-same s t o y z h) (write-seen m s t x _ _ (following-same m s t h) h)))
-  arm-seen s t (pushJump w) op x y z h = call-seen s t x _ _ (λ i. targetOf (h .pc-same i) w branchFields (yzOf y z)) h
-  arm-seen s t (pushGo o) op x y z h = call-seen s t x _ _ (sum-same s t o y z h) h
-  arm-seen s t pop op x y z h = pop-seen s t x _ _ (λ i. (j-same m s t h i + 4 * yzOf y z) % 2 ^ 64) h
-  arm-seen s t (put o) op x y z h = tells _ _ (put-at s t x _ _ (operand-same s t o z h) h)
-  arm-seen s t get op x y z h = tells _ _ (get-seen s t x z h)
-  arm-seen s t save op x y z h = save-seen s t x h
-  arm-seen s t unsave op x y z h = unfold unsaveContext in (context-seen _ _ _ _ _ _ (reg-same m s t z h) (halted-seen m s t h) (λ o g a l vs. next-seen m _ _ (unsaved-seen m s t o g a l vs h)))
-  arm-seen s t sync op x y z h = tells _ _ (sync-seen s t (xyzOf x y z) h)
-  arm-seen s t swym op x y z h = tells _ _ (done _ _ (next-seen m s t h))
-  arm-seen s t trip op x y z h = tells _ _ (trip-at s t _ _ _ _ _ (reg-same m s t y h) (reg-same m s t z h) h)
-  arm-seen s t trap op x y z h = tells _ _ (trap-at s t _ _ _ _ _ (reg-same m s t y h) (reg-same m s t z h) h)
-  arm-seen s t (load d g o) op x y z h = load-seen s t d g x _ _ (sum-same s t o y z h) h
-  arm-seen s t (store d g o) op x y z h = store-seen s t d g x _ _ (wordOf op x y z) (sum-same s t o y z h) h
-  arm-seen s t (arithmetic f p q) op x y z h = tells _ _ (arithmetic-seen s t f x _ _ _ _ (wordOf op x y z) (operand-same s t p y h) (operand-same s t q z h) h)
-  arm-seen s t none op x y z h = tells _ _ (record { reply-same = refl; states = h })

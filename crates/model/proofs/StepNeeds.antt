@@ -1,126 +1,30 @@
 -- Theorem 4: the needs of every arm, by equations; bytes that an arm does not use.
 use mathlib.Core.Path.{_≡_, refl, sym, ap, _∙_}
 use mathlib.Core.Bool.{Bool, true, false, cond, _&&_}
-use mathlib.Core.List.{List, [], _∷_, _++_, append-nil}
-use Prim.Native.Nat.{ℕ, _+_, _-_, _/_, _%_, _^_, max}
+use mathlib.Core.List.{List, [], _∷_, _++_}
+use Prim.Native.Nat.{ℕ, _+_, _-_}
 use native.Mathlib.Omega.{arith}
-use lib.Dec.{leb, ltb, eqb}
+use lib.Dec.{ltb, eqb}
 use lib.ListN.{getD}
 use Rattle.model.specs.Fill.{tab}
-use Rattle.model.specs.Registers.{rO, rG, rL, sp, reg, admissible, goes, next, halted, claimLocal}
+use Rattle.model.specs.Registers.{rO, rG, rL, sp, admissible, goes, next, claimLocal}
 use Rattle.model.specs.Memory.{Windows, shapesOf, inside, both}
-use Rattle.model.specs.Plan.{Plan, answer, read, Outcome, perform, ups, worst, clear, missing, look, looks, needs}
-use Rattle.model.specs.Opcodes.{Width, Sign, Arm, forward, backward, register, immediate, branch, jump, getAddress, go, pushJump, pushGo, pop, put, get, save, unsave, sync, swym, trip, trap, load, store, arithmetic, none, armOf}
+use Rattle.model.specs.Plan.{Plan, answer, read, Outcome, perform, ups, worst, clear, missing, looks, needs}
+use Rattle.model.specs.Opcodes.{forward, backward, register, immediate, go, armOf}
 use Rattle.model.specs.NoMemory.{Said, say, refuse, tell}
 use Rattle.model.specs.Control.{near, sumOf}
-use Rattle.model.specs.Frames.{hole, framed, pushed, pushFrame, popTo, popRule, noFrame, misplaced, popFrame}
-use Rattle.model.specs.Contexts.{extent, saved, savedState, saveContext, below, unsaved, contextRest, contextCount, contextAt, unsaveContext}
-use Rattle.model.specs.Trips.{wordOf}
-use Rattle.model.specs.LoadStore.{loadFrom, storeTo}
+use Rattle.model.specs.Frames.{hole, framed, pushed, pushFrame}
+use Rattle.model.specs.Contexts.{extent, saved, savedState, saveContext}
 use Rattle.model.specs.Lists.{needsOf}
 use Rattle.model.specs.Step.{refusalOf, unruledBy, judged, refusing, planOf, guarded, fromThree, stepPlan, stepOf, stepNeeds, claims, opcodeIn, xIn, yIn, zIn, tetraAt, takenBack, claimedBy, instructionPlan, tetraPlan, fetchedPlan, tetraOf, claimedAt, fetchedNeeds, exceptionOf, itemPlan, mmix}
-use Rattle.model.specs.StepNeeds.{run, popNeeds, unsaveNeedsRest, unsaveNeedsCount, unsaveNeeds, armNeeds, tetraNeeds, NeedsAre, BytesUnused}
+use Rattle.model.specs.StepNeeds.{armNeeds, tetraNeeds, NeedsAre, BytesUnused}
 use Rattle.model.specs.declared.State.{State}
 use Rattle.model.proofs.Bools.{on, on-both}
 use Rattle.model.proofs.Runs.{length-tab}
 use Rattle.model.proofs.ArmAnswers.{step-judged, worst-six}
 use Rattle.model.proofs.Entry.{step-open, step-done}
-
-abbrev unsavedNext : State → ℕ → ℕ → ℕ → ℕ → List ℕ → State
-unsavedNext s o g a l vs = next (unsaved s o g a l vs)
-
-module _ (w : Windows) where
-  abbrev by : Plan State → List ℕ
-  by p = needs both (refusing (shapesOf w)) p w
-
-  tell-none : (d : Said) → by (tell d) ≡ []
-  unfolding needs tell worst ups
-  tell-none d = refl
-
-  by-cond : (b : Bool) (p q : Plan State) → by (cond b p q) ≡ cond b (by p) (by q)
-  by-cond true p q = refl
-  by-cond false p q = refl
-
-  by-read : (a n : ℕ) (k : List ℕ → Plan State) → by (read 6 a n k) ≡ run w a n (by (k (looks both w a n)))
-  unfolding needs
-  by-read a n k = refl
-
-  by-answer : (r : ℕ) (t : State) (a n : ℕ) (f : ℕ → ℕ) → by (answer r t a (tab 0 n f)) ≡ run w a n []
-  unfolding needs
-  by-answer r t a n f = rw (length-tab n 0 f, append-nil)
-
-  push-needs : (s : State) (h t : ℕ) → by (pushFrame s h t) ≡ run w (sp s rO) (h + 1) []
-  unfolding pushFrame
-  push-needs s h t = by-answer 0 (goes (pushed s h) t) (sp s rO) (h + 1) (framed s h)
-
-  save-needs : (s : State) (x : ℕ) → by (saveContext s x) ≡ cond (ltb x (sp s rG)) [] (run w (sp s rO) (extent s) [])
-  unfolding saveContext
-  save-needs s x = by-cond (ltb x (sp s rG)) (tell (refuse 13 s)) (answer 0 (next (savedState s x)) (sp s rO) (tab 0 (extent s) (saved s)))
-      ∙ rw (tell-none (refuse 13 s), by-answer 0 (next (savedState s x)) (sp s rO) (extent s) (saved s))
-
-  pop-needs : (s : State) (x t : ℕ) → by (popFrame s x t) ≡ popNeeds w s
-  unfolding popFrame popRule popTo popNeeds tell needs worst ups looks
-  pop-needs s x t =
-      by-cond (noFrame s) _ _
-      ∙ on-both (λ (a b : List ℕ). a ≡ b) (noFrame s) (λ e. refl) (λ e. by-cond (misplaced s) _ _ ∙ on-both (λ (a b : List ℕ). a ≡ b) (misplaced s) (λ e. refl) (λ e. refl))
-
-  rest-needs : (s : State) (p g a l : ℕ) → by (contextRest (halted s) (unsavedNext s) p g a l) ≡ unsaveNeedsRest w p g l
-  unfolding contextRest unsaveNeedsRest tell needs worst ups
-  rest-needs s p g a l = by-cond (leb l g) _ _
-
-  count-needs : (s : State) (p g a : ℕ) → by (contextCount (halted s) (unsavedNext s) p g a) ≡ unsaveNeedsCount w p g a
-  unfolding contextCount unsaveNeedsCount tell needs worst ups looks
-  count-needs s p g a =
-      by-cond (leb 32 g && leb g 255) _ _
-      ∙ on-both (λ (a b : List ℕ). a ≡ b) (leb 32 g && leb g 255)
-      (λ e. by-cond (leb a 0x3FFFF) _ _
-      ∙ on-both (λ (a b : List ℕ). a ≡ b) (leb a 0x3FFFF) (λ f. rw (← rest-needs s p g a (look both w (below p (269 - g))))) (λ f. refl))
-      (λ e. refl)
-
-  unsave-needs : (s : State) (p : ℕ) → by (unsaveContext s p) ≡ unsaveNeeds w p
-  unfolding unsaveContext contextAt unsaveNeeds needs looks
-  unsave-needs s p = rw (← count-needs s p (look both w p / 2 ^ 56) (look both w p % 2 ^ 56))
-
-  -- one octabyte
-  run-one : (a : ℕ) (rest : List ℕ) → run w a 1 rest ≡ cond (inside (shapesOf w) a) (a ∷ rest) (a ∷ [])
-  unfolding worst missing ups refusing
-  run-one a rest = go (inside (shapesOf w) a)
-    where
-      go : (b : Bool) → cond (eqb (max (cond b 0 6) 0) 0) (a ∷ rest) (cond (eqb (cond b 0 6) 0) [] (a ∷ []) ++ []) ≡ cond b (a ∷ rest) (a ∷ [])
-      go true = refl
-      go false = refl
-
-  load-needs : (s : State) (d : Width) (g : Sign) (x a : ℕ) → by (loadFrom s d g x a) ≡ a ∷ []
-  unfolding loadFrom needs worst ups
-  load-needs s d g x a = run-one a [] ∙ on (λ (l : List ℕ). l ≡ a ∷ []) (inside (shapesOf w) a) (λ e. refl) (λ e. refl)
-
-  store-needs : (s : State) (d : Width) (g : Sign) (x a n : ℕ) → by (storeTo s d g x a n) ≡ cond (inside (shapesOf w) a) (a ∷ a ∷ []) (a ∷ [])
-  unfolding storeTo needs ups
-  store-needs s d g x a n =
-      run-one a _ ∙ on-both (λ (k l : List ℕ). k ≡ l) (inside (shapesOf w) a)
-      (λ e. ap (λ (l : List ℕ). a ∷ l) (run-one a [] ∙ rw e)) (λ e. refl)
-
-  arm-needs : (s : State) (a : Arm) (op x y z : ℕ) → by (planOf s a op x y z) ≡ armNeeds w s a x y z
-  unfolding planOf armNeeds
-  arm-needs s (branch c d) op x y z = tell-none _
-  arm-needs s (jump d) op x y z = tell-none _
-  arm-needs s (getAddress d) op x y z = tell-none _
-  arm-needs s (go o) op x y z = tell-none _
-  arm-needs s (pushJump d) op x y z = push-needs s (hole s x) (near s d y z)
-  arm-needs s (pushGo o) op x y z = push-needs s (hole s x) (sumOf s o y z)
-  arm-needs s pop op x y z = pop-needs s x _
-  arm-needs s (put o) op x y z = tell-none _
-  arm-needs s get op x y z = tell-none _
-  arm-needs s save op x y z = save-needs s x
-  arm-needs s unsave op x y z = unsave-needs s (reg s z)
-  arm-needs s sync op x y z = tell-none _
-  arm-needs s swym op x y z = tell-none _
-  arm-needs s trip op x y z = tell-none _
-  arm-needs s trap op x y z = tell-none _
-  arm-needs s (load d g o) op x y z = load-needs s d g x (sumOf s o y z)
-  arm-needs s (store d g o) op x y z = store-needs s d g x (sumOf s o y z) (wordOf op x y z)
-  arm-needs s (arithmetic f p q) op x y z = tell-none _
-  arm-needs s none op x y z = tell-none _
+use Rattle.model.proofs.ArmNeeds.{by, tell-none, by-cond, run-one}
+use Rattle.model.proofs.ArmLaws.{arm-needs}
 
 step-needs : (w : Windows) (s : State) (op x y z : ℕ)
     → stepNeeds w s op x y z ≡ cond (eqb (judged s (shapesOf w) (armOf op) x y z) 0) (armNeeds w s (armOf op) x y z) []

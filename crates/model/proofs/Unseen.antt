@@ -18,7 +18,8 @@ use Rattle.model.specs.declared.State.{State}
 use Rattle.model.proofs.Bools.{on-both}
 use Rattle.model.proofs.Related.{Related, RelatedRan, RelatedStopped, runs-related, run-related}
 use Rattle.model.proofs.SeenStates.{Seen, seen-of, of-seen, admissible-same, parts-seen, claim-seen}
-use Rattle.model.proofs.SeenArms.{by-test, tells, exception-seen, arm-seen}
+use Rattle.model.proofs.SeenArms.{by-test, tells, exception-seen}
+use Rattle.model.proofs.ArmLaws.{arm-seen}
 
 module _ (m : ℕ) where
   abbrev R : State → State → Type 0

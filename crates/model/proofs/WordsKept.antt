@@ -35,7 +35,8 @@ use Rattle.model.proofs.ArithmeticWords.{ResultWords, results-words}
 use Rattle.model.proofs.Bools.{on, and-right}
 use Rattle.model.proofs.Fill.{length-over, over-in, over-below, over-above, lt-or-le}
 use Rattle.model.proofs.AdmissibleKept.{added-byte}
-use Rattle.model.proofs.ArmAnswers.{Answers, Meets, MeetsTrip, MeetsRaise, MeetsInterrupt, plan-meets, step-meets, exception-meets, perform-meets}
+use Rattle.model.proofs.ArmLaws.{plan-meets}
+use Rattle.model.proofs.ArmAnswers.{Answers, Meets, MeetsTrip, MeetsRaise, MeetsInterrupt, step-meets, exception-meets, perform-meets}
 use Rattle.model.proofs.Entry.{performOn, said}
 use Rattle.model.proofs.Fetched.{tetra-fits, instruction-claims, instruction-free, fetched-there, fetched-by}
 

@@ -9,7 +9,8 @@ use Rattle.model.specs.Registers.{rB, rJ, rR, rBB, rO, rS, rT, rK, rG, r
 use Rattle.model.specs.Memory.{Windows, putOcta}
 use Rattle.model.specs.Plan.{Outcome}
 use Rattle.model.specs.Step.{stepOf}
-use Rattle.model.specs.Rules.{After, goesOn, interrupts, unsavedGeneralRule, unsavedSpecialRule, stepRule, counted}
+use Rattle.model.specs.Rules.{After, goesOn, interrupts, unsavedGeneralRule, unsavedSpecialRule, counted}
+use Rattle.model.specs.StepRule.{stepRule}
 use Rattle.model.specs.Bench.{start, stackAlone, sameState, sameWindows}
 use Rattle.model.specs.ExceptionExamples.{tripRegisters, allShownExceptions, exceptionExamples}
 use Rattle.model.specs.declared.State.{State}

@@ -1,7 +1,7 @@
 -- Theorem 8, "recorded differences apart": where the steps depart from Knuth's rules, step and rule are equal outside the condition that is
 -- named with each departure; and so, outside them all, is the whole step, the fetched instruction, and the whole exception.
 -- docs/DIFFERENCES.md has the smallest example of each; DepartureExamples computes them.
-use Prim.Native.Nat.{ℕ, _+_, _-_, _/_, _%_, _^_, _<_}
+use Prim.Native.Nat.{ℕ, _+_, _-_, _/_, _%_, _^_}
 use mathlib.Core.Path.{_≡_}
 use mathlib.Core.Logic.{_≢_}
 use mathlib.Core.Bool.{Bool, true, false, cond, _&&_}
@@ -10,8 +10,8 @@ use lib.Count.{leadingZeros}
 use Rattle.model.specs.Octa.{octa}
 use Rattle.model.specs.Registers.{withParts, rC, rO, rS, rI, rU, rG, rL, rK, sp, reg, hides, Sized, Words, MarginalZero, isMarginal, spilled}
 use Rattle.model.specs.Memory.{Windows, shapesOf, inside, both}
-use Rattle.model.specs.Plan.{Outcome, look, mapOutcome, perform}
-use Rattle.model.specs.Opcodes.{Operand, register, immediate, Width, Sign, Arm, branch, jump, getAddress, go, pushJump, pushGo, pop, put, get, save, unsave, sync, swym, trip, trap, load, store, arithmetic, none, armOf}
+use Rattle.model.specs.Plan.{All, Outcome, look, mapOutcome, perform}
+use Rattle.model.specs.Opcodes.{Operand, Width, Sign, Arm, pop, put, get, save, unsave, sync, trip, trap, load, store, arithmetic, armOf, memory, stack, system}
 use Rattle.model.specs.NoMemory.{Said, say}
 use Rattle.model.specs.Control.{xyzOf, sumOf, operandOf, isNegative}
 use Rattle.model.specs.Frames.{hole, framed, framedRule, noFrame, misplaced, popRule, popFrame}
@@ -22,7 +22,10 @@ use Rattle.model.specs.LoadStore.{fits, flagV}
 use Rattle.model.specs.ArithmeticStep.{resultsIn, withResults}
 use Rattle.model.specs.Step.{refusing, stepOf, claims, opcodeIn, xIn, yIn, zIn, keepsClaim, fetchedOf, tetraOf, claimedAt, exceptionOf}
 use Rattle.model.specs.Fetched.{Fetches}
-use Rattle.model.specs.Rules.{readRule, After, goesOn, interrupts, unsaveRule, stepRule, settledRule, exceptionRule, counted}
+use Rattle.model.specs.Rules.{readRule, After, goesOn, interrupts, unsaveRule, exceptionRule, counted}
+use Rattle.model.specs.Row.{readsIn}
+use Rattle.model.specs.Rows.{rowOf}
+use Rattle.model.specs.StepRule.{stepRule, settledRule}
 use Rattle.model.specs.declared.State.{State}
 use Rattle.model.specs.declared.Operation.{Operation}
 
@@ -34,34 +37,7 @@ ReadsZero s k = reg s k ≡ readRule s k
 
 -- so does each register that an arm reads and that may be marginal
 unfoldable pub ReadsAlike : State → Arm → ℕ → ℕ → ℕ → Type 0
-ReadsAlike s (branch c w) x y z = ReadsZero s x
-ReadsAlike s (jump w) x y z = Unit {0}
-ReadsAlike s (getAddress w) x y z = Unit {0}
-ReadsAlike s (go register) x y z = ReadsZero s y × ReadsZero s z
-ReadsAlike s (go immediate) x y z = ReadsZero s y
--- the frame of a call
-ReadsAlike s (pushJump w) x y z = (i : ℕ) → i < hole s x → ReadsZero s i
-ReadsAlike s (pushGo register) x y z = ReadsZero s y × ReadsZero s z × ((i : ℕ) → i < hole s x → ReadsZero s i)
-ReadsAlike s (pushGo immediate) x y z = ReadsZero s y × ((i : ℕ) → i < hole s x → ReadsZero s i)
-ReadsAlike s pop x y z = Unit {0}
-ReadsAlike s (put register) x y z = ReadsZero s z
-ReadsAlike s (put immediate) x y z = Unit {0}
-ReadsAlike s get x y z = Unit {0}
-ReadsAlike s save x y z = Unit {0}
-ReadsAlike s unsave x y z = ReadsZero s z
-ReadsAlike s sync x y z = Unit {0}
-ReadsAlike s swym x y z = Unit {0}
-ReadsAlike s trip x y z = ReadsZero s y × ReadsZero s z
-ReadsAlike s trap x y z = ReadsZero s y × ReadsZero s z
-ReadsAlike s (load d g register) x y z = ReadsZero s y × ReadsZero s z
-ReadsAlike s (load d g immediate) x y z = ReadsZero s y
-ReadsAlike s (store d g register) x y z = ReadsZero s x × ReadsZero s y × ReadsZero s z
-ReadsAlike s (store d g immediate) x y z = ReadsZero s x × ReadsZero s y
-ReadsAlike s (arithmetic f register register) x y z = ReadsZero s y × ReadsZero s z
-ReadsAlike s (arithmetic f register immediate) x y z = ReadsZero s y
-ReadsAlike s (arithmetic f immediate register) x y z = ReadsZero s z
-ReadsAlike s (arithmetic f immediate immediate) x y z = Unit {0}
-ReadsAlike s none x y z = Unit {0}
+ReadsAlike s a x y z = All (ReadsZero s) (readsIn (rowOf a) s x y z)
 
 -- the context whose packed octabyte is at p passes what UNSAVE asks of the octabytes that it finds: 14, 15 and 16 are not met
 abbrev savedThreshold : Windows → ℕ → ℕ
@@ -85,35 +61,35 @@ pub record Outside (w : Windows) (s : State) (a : Arm) (x y z : ℕ) : Type 0 wh
   -- no marginal register that is not zero is read
   pub reads : ReadsAlike s a x y z
   -- bytes that Knuth wants to be zero are zero
-  pub put-y : (o : Operand) → a ≡ put o → y ≡ 0
-  pub get-y : a ≡ get → y ≡ 0
-  pub save-yz : a ≡ save → (y ≡ 0) × (z ≡ 0)
-  pub unsave-xy : a ≡ unsave → (x ≡ 0) × (y ≡ 0)
+  pub put-y : (o : Operand) → a ≡ (system (put o)) → y ≡ 0
+  pub get-y : a ≡ (system get) → y ≡ 0
+  pub save-yz : a ≡ (stack save) → (y ≡ 0) × (z ≡ 0)
+  pub unsave-xy : a ≡ (stack unsave) → (x ≡ 0) × (y ≡ 0)
   -- nothing that a number refuses here and an interrupt there: 7 to 11, 5, 13, 17 and 18
-  pub put-legal : (o : Operand) → a ≡ put o → putRefusal s x (operandOf s o z) ≡ 0
-  pub get-known : a ≡ get → leb z 31 ≡ true
-  pub save-global : a ≡ save → leb (sp s rG) x ≡ true
-  pub sync-legal : a ≡ sync → leb (xyzOf x y z) 3 ≡ true
+  pub put-legal : (o : Operand) → a ≡ (system (put o)) → putRefusal s x (operandOf s o z) ≡ 0
+  pub get-known : a ≡ (system get) → leb z 31 ≡ true
+  pub save-global : a ≡ (stack save) → leb (sp s rG) x ≡ true
+  pub sync-legal : a ≡ (system sync) → leb (xyzOf x y z) 3 ≡ true
   -- no hidden register is named: 31
-  pub put-seen : (o : Operand) → a ≡ put o → hides (s .mask) x ≡ false
-  pub get-seen : a ≡ get → hides (s .mask) z ≡ false
+  pub put-seen : (o : Operand) → a ≡ (system (put o)) → hides (s .mask) x ≡ false
+  pub get-seen : a ≡ (system get) → hides (s .mask) z ≡ false
   -- GET does not read rL into a marginal register
-  pub get-local : a ≡ get → (eqb z rL && isMarginal s x) ≡ false
+  pub get-local : a ≡ (system get) → (eqb z rL && isMarginal s x) ≡ false
   -- POP has a frame, at a place for one
-  pub pop-frame : a ≡ pop → noFrame s ≡ false
-  pub pop-placed : a ≡ pop → misplaced s ≡ false
+  pub pop-frame : a ≡ (stack pop) → noFrame s ≡ false
+  pub pop-placed : a ≡ (stack pop) → misplaced s ≡ false
   -- UNSAVE's address has no low bits, and its context is taken
-  pub unsave-low : a ≡ unsave → octa (reg s z) ≡ reg s z
-  pub unsave-taken : a ≡ unsave → contextTaken w (reg s z) ≡ true
+  pub unsave-low : a ≡ (stack unsave) → octa (reg s z) ≡ reg s z
+  pub unsave-taken : a ≡ (stack unsave) → contextTaken w (reg s z) ≡ true
   -- TRIP's vector is loaded
-  pub trip-loaded : a ≡ trip → isLoaded s 0 ≡ true
+  pub trip-loaded : a ≡ (system trip) → isLoaded s 0 ≡ true
   -- no TRAP
-  pub no-trap : a ≢ trap
+  pub no-trap : a ≢ (system trap)
   -- a load's or a store's address is not the kernel's
-  pub load-low : (d : Width) (g : Sign) (o : Operand) → a ≡ load d g o → isNegative (sumOf s o y z) ≡ false
-  pub store-low : (d : Width) (g : Sign) (o : Operand) → a ≡ store d g o → isNegative (sumOf s o y z) ≡ false
+  pub load-low : (d : Width) (g : Sign) (o : Operand) → a ≡ (memory (load d g o)) → isNegative (sumOf s o y z) ≡ false
+  pub store-low : (d : Width) (g : Sign) (o : Operand) → a ≡ (memory (store d g o)) → isNegative (sumOf s o y z) ≡ false
   -- the vector of a store that raises V, where that is enabled, is loaded
-  pub store-loaded : (d : Width) (g : Sign) (o : Operand) → a ≡ store d g o → fits d g (reg s x) ≡ false → eqb (enabled s flagV) 0 ≡ false
+  pub store-loaded : (d : Width) (g : Sign) (o : Operand) → a ≡ (memory (store d g o)) → fits d g (reg s x) ≡ false → eqb (enabled s flagV) 0 ≡ false
       → isLoaded s (leadingZeros 8 (enabled s flagV) + 1) ≡ true
   -- and so is that of an operation that raises D or V
   pub arithmetic-loaded : (f : Operation) (p q : Operand) → a ≡ arithmetic f p q

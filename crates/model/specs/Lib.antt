@@ -15,6 +15,16 @@ pub mod Trips
 pub mod LoadStore
 pub mod Arithmetic
 pub mod ArithmeticStep
+-- Knuth's rules beside the steps
+pub mod Rules
+-- what an arm is, family by family
+pub mod Needs
+pub mod Row
+pub mod ControlRows
+pub mod StackRows
+pub mod SystemRows
+pub mod OperandRows
+pub mod Rows
 pub mod Lists
 pub mod Step
 pub mod Run
@@ -23,8 +33,7 @@ pub mod Numbers
 pub mod Field
 pub mod Parts
 pub mod Kept
--- Knuth's rules where the steps depart from them
-pub mod Rules
+pub mod StepRule
 -- theorems: statements; proofs/ has the proofs
 pub mod Leaves
 pub mod Invariants

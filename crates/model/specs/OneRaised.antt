@@ -4,21 +4,20 @@ use Prim.Native.Nat.{ℕ, _+_, _-_, _%_, _<_}
 use mathlib.Core.Path.{_≡_}
 use mathlib.Core.Logic.{_⊎_, _≢_}
 use mathlib.Core.Bool.{cond}
-use mathlib.Core.List.{[], _∷_}
 use lib.Dec.{eqb}
 use lib.Bits.{bitAnd}
 use lib.ListN.{getD}
 use Rattle.model.specs.Memory.{Windows, Shapes, both}
-use Rattle.model.specs.Plan.{Plan, answer, read}
+use Rattle.model.specs.Plan.{Plan, read}
 use Rattle.model.specs.Lists.{Machine, stepOn}
-use Rattle.model.specs.Registers.{rA, reg, admissible, next, claimLocal, withSpecial, fresh}
-use Rattle.model.specs.Opcodes.{Arm, branch, jump, getAddress, go, pushJump, pushGo, pop, put, get, save, unsave, sync, swym, trip, trap, load, store, arithmetic, none, armOf}
+use Rattle.model.specs.Registers.{rA, admissible, next, claimLocal, withSpecial, fresh}
+use Rattle.model.specs.Opcodes.{Arm, armOf}
+use Rattle.model.specs.Row.{Raise, Raises, never, raises, flagsIn}
+use Rattle.model.specs.Rows.{rowOf}
 use Rattle.model.specs.NoMemory.{Said, say, tell}
-use Rattle.model.specs.Control.{sumOf, operandOf}
 use Rattle.model.specs.Trips.{wordOf, tripTo, enables, enabled, vectorOf, taken, added, flagged, raised}
-use Rattle.model.specs.LoadStore.{merged, fits, flagV}
+use Rattle.model.specs.LoadStore.{flagV}
 use Rattle.model.specs.Arithmetic.{flagD}
-use Rattle.model.specs.ArithmeticStep.{resultsIn, withResults}
 use Rattle.model.specs.Step.{refusalOf, refusing, planOf, guarded, claims, opcodeIn, xIn, yIn, zIn, tetraAt, takenBack, stepOf, fetchedOf, Item, step, exception, fetched, itemPlan, mmix}
 use Rattle.model.specs.Run.{runFor}
 use Rattle.model.specs.declared.State.{State}
@@ -26,26 +25,12 @@ use Rattle.model.specs.declared.State.{State}
 -- ---- what a step raises
 
 -- the flags that an arm raises: V by a store of a value that does not fit, an operation's own; no other arm raises any
+abbrev pub flagsBy : Raises → State → ℕ → ℕ → ℕ → ℕ
+flagsBy never s x y z = 0
+flagsBy (raises f p) s x y z = f s x y z
+
 unfoldable pub flagsOf : State → Arm → ℕ → ℕ → ℕ → ℕ
-flagsOf s (store d g o) x y z = cond (fits d g (reg s x)) 0 flagV
-flagsOf s (arithmetic f p q) x y z = resultsIn s f (operandOf s p y) (operandOf s q z) .flags
-flagsOf s (branch c w) x y z = 0
-flagsOf s (jump w) x y z = 0
-flagsOf s (getAddress w) x y z = 0
-flagsOf s (go o) x y z = 0
-flagsOf s (pushJump w) x y z = 0
-flagsOf s (pushGo o) x y z = 0
-flagsOf s pop x y z = 0
-flagsOf s (put o) x y z = 0
-flagsOf s get x y z = 0
-flagsOf s save x y z = 0
-flagsOf s unsave x y z = 0
-flagsOf s sync x y z = 0
-flagsOf s swym x y z = 0
-flagsOf s trip x y z = 0
-flagsOf s trap x y z = 0
-flagsOf s (load d g o) x y z = 0
-flagsOf s none x y z = 0
+flagsOf s a x y z = flagsBy (flagsIn (rowOf a)) s x y z
 
 -- none, V alone or D alone
 abbrev pub OneFlag : ℕ → Type 0
@@ -53,40 +38,14 @@ OneFlag n = (n ≡ 0) ⊎ ((n ≡ flagV) ⊎ (n ≡ flagD))
 
 -- ---- the machine over an exception step e, in the place of `raised`
 
--- at address a the octabyte v becomes `merge v`, and d is said of it
-abbrev storing : ℕ → (ℕ → ℕ) → Said → Plan State
-storing a merge d = read 6 a 1 (λ v. answer (d .reply) (d .state) a (merge (getD v 0 0) ∷ []))
+-- a plan that raises flags asks e, with these flags alone; all others are as they are
+abbrev pub askedBy : Raises → Raise → Plan State → State → ℕ → ℕ → ℕ → ℕ → Plan State
+askedBy never e p s op x y z = p
+askedBy (raises f q) e p s op x y z = q e s op x y z
 
 module _ (e : State → ℕ → ℕ → ℕ → ℕ → Said) where
-  -- e of some flags; where there is none, the next instruction
-  abbrev raisedIf : State → ℕ → ℕ → ℕ → ℕ → Said
-  raisedIf s f word u v = cond (eqb f 0) (say 0 (next s)) (e s f word u v)
-
-  -- an arm: the two that raise flags ask e, with these flags alone; all others are as they are
   unfoldable pub planBy : State → Arm → ℕ → ℕ → ℕ → ℕ → Plan State
-  planBy s (store d g o) op x y z =
-      storing (sumOf s o y z) (λ v. merged d (sumOf s o y z) v (reg s x))
-      (raisedIf s (flagsOf s (store d g o) x y z) (wordOf op x y z) (sumOf s o y z) (reg s x))
-  planBy s (arithmetic f p q) op x y z =
-      tell (raisedIf (withResults s x (resultsIn s f (operandOf s p y) (operandOf s q z)))
-      (flagsOf s (arithmetic f p q) x y z) (wordOf op x y z) (operandOf s p y) (operandOf s q z))
-  planBy s (branch c w) op x y z = planOf s (branch c w) op x y z
-  planBy s (jump w) op x y z = planOf s (jump w) op x y z
-  planBy s (getAddress w) op x y z = planOf s (getAddress w) op x y z
-  planBy s (go o) op x y z = planOf s (go o) op x y z
-  planBy s (pushJump w) op x y z = planOf s (pushJump w) op x y z
-  planBy s (pushGo o) op x y z = planOf s (pushGo o) op x y z
-  planBy s pop op x y z = planOf s pop op x y z
-  planBy s (put o) op x y z = planOf s (put o) op x y z
-  planBy s get op x y z = planOf s get op x y z
-  planBy s save op x y z = planOf s save op x y z
-  planBy s unsave op x y z = planOf s unsave op x y z
-  planBy s sync op x y z = planOf s sync op x y z
-  planBy s swym op x y z = planOf s swym op x y z
-  planBy s trip op x y z = planOf s trip op x y z
-  planBy s trap op x y z = planOf s trap op x y z
-  planBy s (load d g o) op x y z = planOf s (load d g o) op x y z
-  planBy s none op x y z = planOf s none op x y z
+  planBy s a op x y z = askedBy (flagsIn (rowOf a)) e (planOf s a op x y z) s op x y z
 
   -- from 3 on; with $X claimed first; and the items, as in Step
   unfoldable pub threeBy : State → Arm → ℕ → ℕ → ℕ → ℕ → Plan State

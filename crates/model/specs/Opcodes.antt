@@ -38,24 +38,42 @@ pub data Sign : Type 0 where
   signed : Sign
   unsigned : Sign
 
+-- ---- the arms, by families
+
+-- branches, JMP, GETA, GO: ControlRows
+pub data Control : Type 0 where
+  branch : Condition → Direction → Control
+  jump : Direction → Control
+  getAddress : Direction → Control
+  go : Operand → Control
+
+-- PUSHJ, PUSHGO, POP, SAVE, UNSAVE: StackRows
+pub data Stack : Type 0 where
+  pushJump : Direction → Stack
+  pushGo : Operand → Stack
+  pop : Stack
+  save : Stack
+  unsave : Stack
+
+-- PUT, GET, SYNC, SWYM, TRIP, TRAP: SystemRows
+pub data System : Type 0 where
+  put : Operand → System
+  get : System
+  sync : System
+  swym : System
+  trip : System
+  trap : System
+
+-- loads and stores: MemoryRows
+pub data Memory : Type 0 where
+  load : Width → Sign → Operand → Memory
+  store : Width → Sign → Operand → Memory
+
 pub data Arm : Type 0 where
-  branch : Condition → Direction → Arm
-  jump : Direction → Arm
-  getAddress : Direction → Arm
-  go : Operand → Arm
-  pushJump : Direction → Arm
-  pushGo : Operand → Arm
-  pop : Arm
-  put : Operand → Arm
-  get : Arm
-  save : Arm
-  unsave : Arm
-  sync : Arm
-  swym : Arm
-  trip : Arm
-  trap : Arm
-  load : Width → Sign → Operand → Arm
-  store : Width → Sign → Operand → Arm
+  control : Control → Arm
+  stack : Stack → Arm
+  system : System → Arm
+  memory : Memory → Arm
   arithmetic : Operation → Operand → Operand → Arm
   none : Arm
 
@@ -185,16 +203,16 @@ is o a = record { opcode = o; arm = a }
 
 -- the other arms; RESUME (0xF9) has none here
 abbrev arms : List Entry
-arms = is opTRAP trap
-    ∷ is opGO (go register) ∷ is opGOI (go immediate)
-    ∷ is opPUSHGO (pushGo register) ∷ is opPUSHGOI (pushGo immediate)
-    ∷ is opJMP (jump forward) ∷ is opJMPB (jump backward)
-    ∷ is opPUSHJ (pushJump forward) ∷ is opPUSHJB (pushJump backward)
-    ∷ is opGETA (getAddress forward) ∷ is opGETAB (getAddress backward)
-    ∷ is opPUT (put register) ∷ is opPUTI (put immediate)
-    ∷ is opPOP pop
-    ∷ is opSAVE save ∷ is opUNSAVE unsave
-    ∷ is opSYNC sync ∷ is opSWYM swym ∷ is opGET get ∷ is opTRIP trip ∷ []
+arms = is opTRAP (system trap)
+    ∷ is opGO (control (go register)) ∷ is opGOI (control (go immediate))
+    ∷ is opPUSHGO (stack (pushGo register)) ∷ is opPUSHGOI (stack (pushGo immediate))
+    ∷ is opJMP (control (jump forward)) ∷ is opJMPB (control (jump backward))
+    ∷ is opPUSHJ (stack (pushJump forward)) ∷ is opPUSHJB (stack (pushJump backward))
+    ∷ is opGETA (control (getAddress forward)) ∷ is opGETAB (control (getAddress backward))
+    ∷ is opPUT (system (put register)) ∷ is opPUTI (system (put immediate))
+    ∷ is opPOP (stack pop)
+    ∷ is opSAVE (stack save) ∷ is opUNSAVE (stack unsave)
+    ∷ is opSYNC (system sync) ∷ is opSWYM (system swym) ∷ is opGET (system get) ∷ is opTRIP (system trip) ∷ []
 
 abbrev find : ℕ → List Entry → Arm
 find op [] = none
@@ -221,8 +239,8 @@ firstOf op = cond (among firstNegation lastNegation op) immediate register
 -- 0x40 to 0x4F are the branches, each forward and then backward; "P-branches act as their plain kin": 0x50 to 0x5F in the same order
 unfoldable pub armOf : ℕ → Arm
 armOf op =
-    cond (among firstBranch lastBranch op) (branch (conditionOf op) (directionOf op))
-    (cond (among firstLoad lastLoad op) (load (widthOf op) (signOf op) (lastOf op))
-    (cond (among firstStore lastStore op) (store (widthOf op) (signOf op) (lastOf op))
+    cond (among firstBranch lastBranch op) (control (branch (conditionOf op) (directionOf op)))
+    (cond (among firstLoad lastLoad op) (memory (load (widthOf op) (signOf op) (lastOf op)))
+    (cond (among firstStore lastStore op) (memory (store (widthOf op) (signOf op) (lastOf op)))
     (cond (among firstArithmetic lastArithmetic op) (arithmetic (operationOf op) (firstOf op) (lastOf op))
     (find op arms))))

@@ -1,17 +1,16 @@
 -- Theorem 9. The order of judging. "Order: 1, 2, [22,] then 3 to 5, then the instruction's own", 31 "after 5 for GET and before 7 for PUT". "SAVE judges 13
 -- before 6; POP judges [29], 12, 6; UNSAVE judges 6, 14, 15, 6, 16, 6 as its needs appear"; an exception "judges 1, then 19".
 -- Each statement holds whatever a later judgment would be: it asks nothing of what that one looks at.
-use Prim.Native.Nat.{ℕ, _+_, _-_, _*_, _/_, _%_, _^_, _<_, _≤_}
+use Prim.Native.Nat.{ℕ, _+_, _-_, _/_, _%_, _^_, _<_, _≤_}
 use mathlib.Core.Path.{_≡_}
 use mathlib.Core.Logic.{_≢_}
 use mathlib.Core.Bool.{true, false}
 use lib.Count.{leadingZeros}
-use Rattle.model.specs.Registers.{rJ, rO, rG, sp, reg, hides, admissible, goes, halted}
+use Rattle.model.specs.Registers.{rO, rG, sp, reg, hides, admissible, halted}
 use Rattle.model.specs.Memory.{Windows, shapesOf, ruled, shares, inside, both}
 use Rattle.model.specs.Plan.{Outcome, clear, look}
-use Rattle.model.specs.Opcodes.{Operand, put, armOf, opGET, opSAVE, opPOP, opUNSAVE}
+use Rattle.model.specs.Opcodes.{Operand, put, armOf, opGET, opSAVE, opPOP, opUNSAVE, system}
 use Rattle.model.specs.NoMemory.{say}
-use Rattle.model.specs.Control.{yzOf}
 use Rattle.model.specs.Frames.{noFrame, misplaced}
 use Rattle.model.specs.Contexts.{extent, below, packedAt, octasOf, countBelow}
 use Rattle.model.specs.Trips.{enabled, isLoaded}
@@ -57,7 +56,7 @@ pub record StepsInOrder : Type 0 where
       → stepOf w s op x y z ≡ refusedBy (refusalOf (armOf op) x y z) w s
   -- GET and PUT: 31, and PUT's whatever its value is
   pub get-thirty-one : (w : Windows) (s : State) (x y z : ℕ) → Passes w s → hides (s .mask) z ≡ true → stepOf w s opGET x y z ≡ haltedBy 31 w s
-  pub put-thirty-one : (w : Windows) (s : State) (op x y z : ℕ) (o : Operand) → armOf op ≡ put o → Passes w s → hides (s .mask) x ≡ true
+  pub put-thirty-one : (w : Windows) (s : State) (op x y z : ℕ) (o : Operand) → armOf op ≡ (system (put o)) → Passes w s → hides (s .mask) x ≡ true
       → stepOf w s op x y z ≡ haltedBy 31 w s
   -- SAVE: 13, whatever lies in the window; then 6
   pub save-thirteen : (w : Windows) (s : State) (x y z : ℕ) → Passes w s → x < sp s rG → stepOf w s opSAVE x y z ≡ haltedBy 13 w s

@@ -2,25 +2,22 @@
 -- `exceptionRule`, under 01's order of judging. Departures says where step and rule are equal.
 -- Knuth: Fascicle 1, 1.3.1'; mmix-doc; mmix-sim for the letter, as we know them.
 use Prim.Native.Nat.{ℕ, _+_, _-_, _*_, _/_, _%_, _^_, min}
-use mathlib.Core.Bool.{cond, _&&_}
+use mathlib.Core.Bool.{cond}
 use mathlib.Core.List.{List, [], _∷_}
-use lib.Dec.{leb, ltb, eqb}
+use lib.Dec.{ltb, eqb}
 use lib.ListN.{getD}
 use Rattle.model.specs.Fill.{over, tab}
 use Rattle.model.specs.Octa.{octa}
-use Rattle.model.specs.Registers.{withParts, rJ, rC, rO, rI, rU, rG, rL, sp, reg, following, admissible, goes, next, withSpecial, isMarginal, setRegister, spilled}
-use Rattle.model.specs.Memory.{Windows, shapesOf, both}
-use Rattle.model.specs.Plan.{Plan, answer, read, Outcome, mapPlan, perform}
-use Rattle.model.specs.Opcodes.{Operand, register, immediate, Width, Sign, Arm, branch, jump, getAddress, go, pushJump, pushGo, pop, put, get, save, unsave, sync, swym, trip, trap, load, store, arithmetic, none, armOf}
+use Rattle.model.specs.Registers.{withParts, rC, rO, rI, rU, rG, rL, sp, reg, admissible, goes, next, withSpecial, isMarginal, spilled}
+use Rattle.model.specs.Plan.{Plan, answer, read, mapPlan}
+use Rattle.model.specs.Opcodes.{Operand, register, immediate, Width, Sign}
 use Rattle.model.specs.NoMemory.{Said, say, tell}
-use Rattle.model.specs.Control.{near, far, yzOf, xyzOf, isNegative, holds}
+use Rattle.model.specs.Control.{isNegative}
 use Rattle.model.specs.Frames.{hole, framedRule, pushedRule, unslide}
-use Rattle.model.specs.Contexts.{extent, saved, savedState, below, unsavedSpecial, packedAt, octasOf, countBelow}
-use Rattle.model.specs.System.{putRefusal, putState, gotRule}
-use Rattle.model.specs.Trips.{wordOf, tripRule, trapRule, enabled, vectorOf, addedRule, flagged}
+use Rattle.model.specs.Contexts.{below, unsavedSpecial, packedAt, octasOf, countBelow}
+use Rattle.model.specs.Trips.{wordOf, tripRule, enabled, vectorOf, addedRule, flagged}
 use Rattle.model.specs.LoadStore.{merged, fits, loadFrom, flagV}
 use Rattle.model.specs.ArithmeticStep.{resultsIn, withResults}
-use Rattle.model.specs.Step.{refusing, guarded}
 use Rattle.model.specs.declared.State.{State}
 use Rattle.model.specs.declared.Operation.{Operation}
 
@@ -44,13 +41,13 @@ pub data After : Type 0 where
   goesOn : State → After
   interrupts : After
 
-abbrev going : Plan State → Plan After
+abbrev pub going : Plan State → Plan After
 going p = mapPlan goesOn p
 
-abbrev done : State → Plan After
+abbrev pub done : State → Plan After
 done s = going (tell (say 0 s))
 
-abbrev interrupt : Plan After
+abbrev pub interrupt : Plan After
 interrupt = answer 0 interrupts 0 []
 
 -- ---- PUSH and POP: rS stays
@@ -123,71 +120,6 @@ unfoldable pub arithmeticRule : State → Operation → ℕ → ℕ → ℕ → 
 arithmeticRule s f x u v word =
     cond (eqb (resultsIn s f u v .flags) 0) (next (withResults s x (resultsIn s f u v)))
     (raisedRule (withResults s x (resultsIn s f u v)) (resultsIn s f u v .flags) word u v)
-
--- ---- the rule of each arm
-
-unfoldable pub ruleOf : State → Arm → ℕ → ℕ → ℕ → ℕ → Plan After
-ruleOf s (branch c w) op x y z = done (cond (holds c (readRule s x)) (goes s (near s w y z)) (next s))
-ruleOf s (jump w) op x y z = done (goes s (far s w x y z))
-ruleOf s (getAddress w) op x y z = done (next (setRegister s x (near s w y z)))
-ruleOf s (go o) op x y z = done (goes (setRegister s x (following s)) (sumRule s o y z))
-ruleOf s (pushJump w) op x y z = going (pushRule s x (near s w y z))
-ruleOf s (pushGo o) op x y z = going (pushRule s x (sumRule s o y z))
-ruleOf s pop op x y z = going (popAnyRule s x ((sp s rJ + 4 * yzOf y z) % 2 ^ 64))
--- an interrupt where Y is not 0; where PUT may not set special X, or not to this value
-ruleOf s (put o) op x y z =
-    cond (eqb y 0 && eqb (putRefusal s x (operandRule s o z)) 0) (done (next (putState s x (operandRule s o z)))) interrupt
--- where Y is not 0 or there is no special Z
-ruleOf s get op x y z = cond (eqb y 0 && leb z 31) (done (next (gotRule s x z))) interrupt
--- where Y or Z is not 0 or $X is not global
-ruleOf s save op x y z =
-    cond (eqb y 0 && (eqb z 0 && leb (sp s rG) x)) (going (answer 0 (next (savedState s x)) (sp s rO) (tab 0 (extent s) (saved s)))) interrupt
--- where X or Y is not 0
-ruleOf s unsave op x y z = cond (eqb x 0 && eqb y 0) (going (unsaveRule s (readRule s z))) interrupt
--- where XYZ is above 3
-ruleOf s sync op x y z = cond (leb (xyzOf x y z) 3) (done (next s)) interrupt
-ruleOf s swym op x y z = done (next s)
-ruleOf s trip op x y z = done (tripRule s 0 (wordOf op x y z) (readRule s y) (readRule s z))
-ruleOf s trap op x y z = done (trapRule s (wordOf op x y z) (readRule s y) (readRule s z))
-ruleOf s (load d g o) op x y z = loadRule s d g x (sumRule s o y z)
-ruleOf s (store d g o) op x y z = storeRule s d g (readRule s x) (sumRule s o y z) (wordOf op x y z)
-ruleOf s (arithmetic f p q) op x y z = done (arithmeticRule s f x (operandRule s p y) (operandRule s q z) (wordOf op x y z))
--- not an instruction of this machine
-ruleOf s none op x y z = going (tell (say 3 s))
-
--- KNUTH'S step
-unfoldable pub stepRule : Windows → State → ℕ → ℕ → ℕ → ℕ → Outcome After Windows
-stepRule w s op x y z = perform both (refusing (shapesOf w)) (goesOn s) (guarded (goesOn s) s (shapesOf w) (ruleOf s (armOf op) op x y z)) w
-
--- the same with rS moved with rO by PUSH and POP
-abbrev spilledAfter : After → After
-spilledAfter (goesOn t) = goesOn (spilled t)
-spilledAfter interrupts = interrupts
-
-unfoldable pub settled : Arm → After → After
-settled (branch c w) t = t
-settled (jump w) t = t
-settled (getAddress w) t = t
-settled (go o) t = t
-settled (pushJump w) t = spilledAfter t
-settled (pushGo o) t = spilledAfter t
-settled pop t = spilledAfter t
-settled (put o) t = t
-settled get t = t
-settled save t = t
-settled unsave t = t
-settled sync t = t
-settled swym t = t
-settled trip t = t
-settled trap t = t
-settled (load d g o) t = t
-settled (store d g o) t = t
-settled (arithmetic f p q) t = t
-settled none t = t
-
-unfoldable pub settledRule : Windows → State → ℕ → ℕ → ℕ → ℕ → Outcome After Windows
-settledRule w s op x y z =
-    perform both (refusing (shapesOf w)) (goesOn s) (guarded (goesOn s) s (shapesOf w) (mapPlan (settled (armOf op)) (ruleOf s (armOf op) op x y z))) w
 
 -- ---- exceptions
 

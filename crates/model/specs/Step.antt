@@ -1,52 +1,28 @@
 -- The entries' own definitions, `stepOf`, `exceptionOf` and `fetchedOf`: 01's steps under 01's order of judging, and one that is fetched; and lists of them.
-use Prim.Native.Nat.{ℕ, _+_, _*_, _/_, _%_, _^_}
-use mathlib.Core.Bool.{Bool, cond, _&&_, _||_}
+use Prim.Native.Nat.{ℕ, _/_, _%_, _^_}
+use mathlib.Core.Bool.{Bool, cond, _||_}
 use mathlib.Core.List.{List, []}
-use lib.Dec.{leb, ltb, eqb}
+use lib.Dec.{eqb}
 use lib.ListN.{getD}
-use Rattle.model.specs.Memory.{Windows, Shapes, shapesOf, ruled, shares, inside, both}
+use Rattle.model.specs.Memory.{Windows, Shapes, shapesOf, ruled, shares, both}
 use Rattle.model.specs.Plan.{Plan, answer, read, Outcome, look, perform, needs}
 use Rattle.model.specs.Lists.{Machine}
-use Rattle.model.specs.Registers.{rJ, sp, reg, admissible, goes, following, next, withParts, claimLocal, setRegister}
-use Rattle.model.specs.Opcodes.{tetra, Arm, branch, jump, getAddress, go, pushJump, pushGo, pop, put, get, save, unsave, sync, swym, trip, trap, load, store, arithmetic, none, among, armOf}
+use Rattle.model.specs.Registers.{admissible, withParts, claimLocal}
+use Rattle.model.specs.Opcodes.{tetra, Arm, among, armOf}
 use Rattle.model.specs.NoMemory.{Said, say, tell}
-use Rattle.model.specs.Control.{near, far, yzOf, xyzOf, sumOf, operandOf, holds}
-use Rattle.model.specs.Frames.{hole, pushFrame, popFrame}
-use Rattle.model.specs.Contexts.{saveContext, unsaveContext}
-use Rattle.model.specs.System.{putSpecial, getSpecial, syncOf}
-use Rattle.model.specs.Trips.{wordOf, tripTo, trapOf, raised}
-use Rattle.model.specs.LoadStore.{operandIn, loadFrom, storeTo}
-use Rattle.model.specs.ArithmeticStep.{arithmeticSays}
+use Rattle.model.specs.Trips.{wordOf, raised}
+use Rattle.model.specs.LoadStore.{operandIn}
+use Rattle.model.specs.Row.{refusalIn, planIn}
+use Rattle.model.specs.Rows.{rowOf}
+unfoldable pub use Rattle.model.specs.Needs.{refusing}
+pub use Rattle.model.specs.SystemRows.{isNamed}
 use Rattle.model.specs.declared.State.{State}
 
 -- ---- judging
 
--- the Y that `TrapCode::from_u8` names
-abbrev pub isNamed : ℕ → Bool
-isNamed y = leb y 10 || (leb 0x80 y && leb y 0x82)
-
--- 3: "opcode with no arm in the two dispatch files, or RESUME (0xF9)", and none of the requests'. 4: "TRAP with X = 0 and a Y that `from_u8` names".
--- 5: "GET with Z above 31"
+-- 3 to 5: what refuses an instruction before it is begun, 0 where nothing does
 unfoldable pub refusalOf : Arm → ℕ → ℕ → ℕ → ℕ
-refusalOf none x y z = 3
-refusalOf trap x y z = cond (eqb x 0 && isNamed y) 4 0
-refusalOf get x y z = cond (ltb 31 z) 5 0
-refusalOf (branch c w) x y z = 0
-refusalOf (jump w) x y z = 0
-refusalOf (getAddress w) x y z = 0
-refusalOf (go o) x y z = 0
-refusalOf (pushJump w) x y z = 0
-refusalOf (pushGo o) x y z = 0
-refusalOf pop x y z = 0
-refusalOf (put o) x y z = 0
-refusalOf save x y z = 0
-refusalOf unsave x y z = 0
-refusalOf sync x y z = 0
-refusalOf swym x y z = 0
-refusalOf trip x y z = 0
-refusalOf (load d g o) x y z = 0
-refusalOf (store d g o) x y z = 0
-refusalOf (arithmetic f p q) x y z = 0
+refusalOf a x y z = refusalIn (rowOf a) x y z
 
 -- 2: "window length or base breaks its rule", of either; 22: "the two windows share an octabyte, judged right after 2"; 0 where neither is so
 unfoldable pub unruledBy : Shapes → ℕ
@@ -56,39 +32,11 @@ unruledBy w = cond (ruled w) (cond (shares w) 22 0) 2
 unfoldable pub judged : State → Shapes → Arm → ℕ → ℕ → ℕ → ℕ
 judged s w a x y z = cond (admissible s) (cond (eqb (unruledBy w) 0) (refusalOf a x y z) (unruledBy w)) 1
 
--- 6: "a needed octabyte lies outside the window": "number 6 means in neither"
-unfoldable pub refusing : Shapes → ℕ → ℕ
-refusing w a = cond (inside w a) 0 6
-
 -- ---- one step
 
--- the instruction's own, arm by arm
+-- the instruction's own, from the arm's row
 unfoldable pub planOf : State → Arm → ℕ → ℕ → ℕ → ℕ → Plan State
-planOf s (branch c w) op x y z = tell (say 0 (cond (holds c (reg s x)) (goes s (near s w y z)) (next s)))
-planOf s (jump w) op x y z = tell (say 0 (goes s (far s w x y z)))
--- "GETA puts such a target in $X; GO puts @ + 4 there and goes to $Y + $Z or $Y + Z, read first"
-planOf s (getAddress w) op x y z = tell (say 0 (next (setRegister s x (near s w y z))))
-planOf s (go o) op x y z = tell (say 0 (goes (setRegister s x (following s)) (sumOf s o y z)))
--- "PUSHGO takes its target before the push"
-planOf s (pushJump w) op x y z = pushFrame s (hole s x) (near s w y z)
-planOf s (pushGo o) op x y z = pushFrame s (hole s x) (sumOf s o y z)
--- "PC is rJ + 4 × YZ"
-planOf s pop op x y z = popFrame s x ((sp s rJ + 4 * yzOf y z) % 2 ^ 64)
--- "PUT's value is $Z, PUTI's Z"
-planOf s (put o) op x y z = tell (putSpecial s x (operandOf s o z))
-planOf s get op x y z = tell (getSpecial s x z)
-planOf s save op x y z = saveContext s x
-planOf s unsave op x y z = unsaveContext s (reg s z)
-planOf s sync op x y z = tell (syncOf s (xyzOf x y z))
-planOf s swym op x y z = tell (say 0 (next s))
--- "TRIP's vector is 0; the operands of TRIP and TRAP are $Y and $Z from before"
-planOf s trip op x y z = tell (tripTo s 0 (wordOf op x y z) (reg s y) (reg s z))
-planOf s trap op x y z = tell (trapOf s (wordOf op x y z) (reg s y) (reg s z))
--- A is ($Y + $Z or Z) modulo 2^64
-planOf s (load d g o) op x y z = loadFrom s d g x (sumOf s o y z)
-planOf s (store d g o) op x y z = storeTo s d g x (sumOf s o y z) (wordOf op x y z)
-planOf s (arithmetic f p q) op x y z = tell (arithmeticSays s f x (operandOf s p y) (operandOf s q z) (wordOf op x y z))
-planOf s none op x y z = tell (say 3 s)
+planOf s a op x y z = planIn (rowOf a) s op x y z
 
 -- "Order: 1, 2, [22] ..", `bad` where one of them is met; ..
 unfoldable pub guarded : {S : Type 0} → S → State → Shapes → Plan S → Plan S

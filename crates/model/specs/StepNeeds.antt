@@ -1,70 +1,25 @@
 -- Theorem 4. What a step needs, arm by arm, as 01 says it; and that bytes which an arm does not use are not looked at.
-use Prim.Native.Nat.{ℕ, _+_, _-_, _*_, _/_, _%_, _^_, min}
+use Prim.Native.Nat.{ℕ, _+_, _-_}
 use mathlib.Core.Path.{_≡_}
 use mathlib.Core.Bool.{cond, _&&_}
-use mathlib.Core.List.{List, [], _∷_, _++_}
-use lib.Dec.{leb, ltb, eqb}
+use mathlib.Core.List.{List, [], _∷_}
+use lib.Dec.{eqb}
 use Rattle.model.specs.Memory.{Windows, shapesOf, inside, both}
-use Rattle.model.specs.Plan.{ups, clear, missing, look}
+use Rattle.model.specs.Plan.{ups}
 use Rattle.model.specs.Lists.{needsOf}
-use Rattle.model.specs.Registers.{rO, rG, sp, reg, admissible}
-use Rattle.model.specs.Opcodes.{Arm, branch, jump, getAddress, go, pushJump, pushGo, pop, put, get, save, unsave, sync, swym, trip, trap, load, store, arithmetic, none, armOf, opPUSHJ, opPUSHJB, opPUSHGO, opPUSHGOI, opSAVE, opUNSAVE, opPUT, opPUTI, opGET, opSWYM}
-use Rattle.model.specs.Control.{sumOf}
-use Rattle.model.specs.Frames.{hole, noFrame, misplaced}
-use Rattle.model.specs.Contexts.{extent, below, packedAt, octasOf, countBelow}
-use Rattle.model.specs.Step.{judged, unruledBy, refusalOf, refusing, stepOf, stepNeeds, claimedAt, opcodeIn, xIn, yIn, zIn, tetraOf, fetchedNeeds, exception, mmix}
+use Rattle.model.specs.Registers.{rO, sp, admissible}
+use Rattle.model.specs.Opcodes.{Arm, armOf, opPUSHJ, opPUSHJB, opPUSHGO, opPUSHGOI, opSAVE, opUNSAVE, opPUT, opPUTI, opGET, opSWYM}
+use Rattle.model.specs.Row.{needsIn}
+use Rattle.model.specs.Rows.{rowOf}
+unfoldable pub use Rattle.model.specs.Needs.{run, holeBelow, popNeeds, unsaveNeedsRest, unsaveNeedsCount, unsaveNeeds}
+use Rattle.model.specs.Frames.{hole}
+use Rattle.model.specs.Contexts.{extent}
+use Rattle.model.specs.Step.{judged, unruledBy, refusalOf, stepOf, stepNeeds, claimedAt, opcodeIn, xIn, yIn, zIn, tetraOf, fetchedNeeds, exception, mmix}
 use Rattle.model.specs.declared.State.{State}
 
--- a run of n octabytes from a: where all lie inside, these and then what follows; else those that do not
-abbrev pub run : Windows → ℕ → ℕ → List ℕ → List ℕ
-run w a n rest = cond (clear (refusing (shapesOf w)) a n) (ups a n ++ rest) (missing (refusing (shapesOf w)) a n)
-
--- H, as POP reads it
-abbrev pub holeBelow : Windows → State → ℕ
-holeBelow w s = look both w (sp s rO - 8) % 256
-
--- "POP needs the one below rO, then $i for each i below both H and rG; with no frame, none"
-unfoldable pub popNeeds : Windows → State → List ℕ
-popNeeds w s =
-    cond (noFrame s) []
-    (cond (misplaced s) []
-    (run w (sp s rO - 8) 1 (run w (sp s rO - 8 * (holeBelow w s + 1)) (min (holeBelow w s) (sp s rG)) [])))
-
--- "UNSAVE needs the packed one; if that passes, the local count; if that passes, the rest"
-unfoldable pub unsaveNeedsRest : Windows → ℕ → ℕ → ℕ → List ℕ
-unsaveNeedsRest w p g l = cond (leb l g) (run w (below p (packedAt l g)) (octasOf l g) []) []
-
-unfoldable pub unsaveNeedsCount : Windows → ℕ → ℕ → ℕ → List ℕ
-unsaveNeedsCount w p g a =
-    cond (leb 32 g && leb g 255)
-    (cond (leb a 0x3FFFF) (run w (below p (countBelow g)) 1 (unsaveNeedsRest w p g (look both w (below p (countBelow g))))) [])
-    []
-
-unfoldable pub unsaveNeeds : Windows → ℕ → List ℕ
-unsaveNeeds w p = run w p 1 (unsaveNeedsCount w p (look both w p / 2 ^ 56) (look both w p % 2 ^ 56))
-
--- "PUSH needs its frame, SAVE all that it stores. .. Other steps and exceptions need none."
+-- "PUSH needs its frame, SAVE all that it stores. .. Other steps and exceptions need none.": as the arm's row says it
 unfoldable pub armNeeds : Windows → State → Arm → ℕ → ℕ → ℕ → List ℕ
-armNeeds w s (branch c d) x y z = []
-armNeeds w s (jump d) x y z = []
-armNeeds w s (getAddress d) x y z = []
-armNeeds w s (go o) x y z = []
-armNeeds w s (pushJump d) x y z = run w (sp s rO) (hole s x + 1) []
-armNeeds w s (pushGo o) x y z = run w (sp s rO) (hole s x + 1) []
-armNeeds w s pop x y z = popNeeds w s
-armNeeds w s (put o) x y z = []
-armNeeds w s get x y z = []
-armNeeds w s save x y z = cond (ltb x (sp s rG)) [] (run w (sp s rO) (extent s) [])
-armNeeds w s unsave x y z = unsaveNeeds w (reg s z)
-armNeeds w s sync x y z = []
-armNeeds w s swym x y z = []
-armNeeds w s trip x y z = []
-armNeeds w s trap x y z = []
--- "A step needs the octabyte around its operand", done or not; a store reads it and then stores it
-armNeeds w s (load d g o) x y z = sumOf s o y z ∷ []
-armNeeds w s (store d g o) x y z = cond (inside (shapesOf w) (sumOf s o y z)) (sumOf s o y z ∷ sumOf s o y z ∷ []) (sumOf s o y z ∷ [])
-armNeeds w s (arithmetic f p q) x y z = []
-armNeeds w s none x y z = []
+armNeeds w s a x y z = needsIn (rowOf a) w s x y z
 
 -- what a tetra's instruction needs on the state that its arm works on; what 3 to 5 refuse needs nothing
 unfoldable pub tetraNeeds : Windows → ℕ → State → List ℕ

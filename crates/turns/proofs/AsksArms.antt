@@ -10,13 +10,15 @@ use borrow.Author.Tests.{ltb-true}
 use Rattle.model.specs.Memory.{Windows, shapesOf, holder, inside}
 use Rattle.model.specs.Plan.{ups}
 use Rattle.model.specs.Registers.{rO, rG, rL, sp, reg, admissible, withSpecial, cleared, isMarginal, claimLocal}
-use Rattle.model.specs.Opcodes.{tetra, Arm, branch, jump, getAddress, go, pushJump, pushGo, pop, put, get, save, unsave, sync, swym, trip, trap, load, store, arithmetic, none, armOf}
+use Rattle.model.specs.Opcodes.{tetra, Arm, armOf}
+use Rattle.model.specs.Row.{Row, quiet, touching, isQuiet, refusalIn, needsIn}
+use Rattle.model.specs.Rows.{rowOf}
 use Rattle.model.specs.Opcodes.{firstLoad, lastLoad, firstStore, lastStore, opPUSHGO, opPUSHGOI, opPUSHJ, opPUSHJB, opPOP, opSAVE, opUNSAVE, among, lastOf}
 use Rattle.model.specs.Control.{sumOf}
 use Rattle.model.specs.Frames.{hole}
 use Rattle.model.specs.Contexts.{extent}
 use Rattle.model.specs.LoadStore.{operandIn}
-use Rattle.model.specs.Step.{refusalOf, isNamed, unruledBy, claims, claimedBy, opcodeIn, xIn, yIn, zIn, tetraAt, tetraOf, claimedAt, fetchedNeeds}
+use Rattle.model.specs.Step.{refusalOf, unruledBy, claims, claimedBy, opcodeIn, xIn, yIn, zIn, tetraAt, tetraOf, claimedAt, fetchedNeeds}
 use Rattle.model.specs.StepNeeds.{run, popNeeds, unsaveNeeds, armNeeds, tetraNeeds}
 use Rattle.model.specs.declared.State.{State}
 use Rattle.model.proofs.Bools.{each, at-each, and-right}
@@ -32,48 +34,16 @@ use Rattle.turns.proofs.Asks.{differ, asks-last}
 
 -- ---- arms that need nothing
 
-unfoldable quiet : Arm → Bool
-quiet (branch c d) = true
-quiet (jump d) = true
-quiet (getAddress d) = true
-quiet (go o) = true
-quiet (pushJump d) = false
-quiet (pushGo o) = false
-quiet pop = false
-quiet (put o) = true
-quiet get = true
-quiet save = false
-quiet unsave = false
-quiet sync = true
-quiet swym = true
-quiet trip = true
-quiet trap = true
-quiet (load d g o) = false
-quiet (store d g o) = false
-quiet (arithmetic f p q) = true
-quiet none = true
+unfoldable silent : Arm → Bool
+silent a = isQuiet (rowOf a)
 
-quiet-needs : (w : Windows) (s : State) (a : Arm) (x y z : ℕ) → quiet a ≡ true → armNeeds w s a x y z ≡ []
-unfolding quiet armNeeds
-quiet-needs w s (branch c d) x y z e = refl
-quiet-needs w s (jump d) x y z e = refl
-quiet-needs w s (getAddress d) x y z e = refl
-quiet-needs w s (go o) x y z e = refl
-quiet-needs w s (pushJump d) x y z e = absurd (differ (sym e))
-quiet-needs w s (pushGo o) x y z e = absurd (differ (sym e))
-quiet-needs w s pop x y z e = absurd (differ (sym e))
-quiet-needs w s (put o) x y z e = refl
-quiet-needs w s get x y z e = refl
-quiet-needs w s save x y z e = absurd (differ (sym e))
-quiet-needs w s unsave x y z e = absurd (differ (sym e))
-quiet-needs w s sync x y z e = refl
-quiet-needs w s swym x y z e = refl
-quiet-needs w s trip x y z e = refl
-quiet-needs w s trap x y z e = refl
-quiet-needs w s (load d g o) x y z e = absurd (differ (sym e))
-quiet-needs w s (store d g o) x y z e = absurd (differ (sym e))
-quiet-needs w s (arithmetic f p q) x y z e = refl
-quiet-needs w s none x y z e = refl
+silent-needs : (w : Windows) (s : State) (a : Arm) (x y z : ℕ) → silent a ≡ true → armNeeds w s a x y z ≡ []
+unfolding silent armNeeds
+silent-needs w s a x y z = go (rowOf a)
+  where
+    go : (r : Row) → isQuiet r ≡ true → needsIn r w s x y z ≡ []
+    go (quiet q) e = refl
+    go (touching t) e = absurd (differ (sym e))
 
 -- the keys of the match, in their order
 abbrev pub keys : List ℕ
@@ -83,10 +53,10 @@ keys = opPUSHGO ∷ opPUSHGOI ∷ opPUSHJ ∷ opPUSHJB ∷ opPOP ∷ opSAVE ∷ 
 abbrev settles : ℕ → Bool
 settles op =
     among firstLoad lastLoad op || (among firstStore lastStore op || (eqb op opPUSHGO || (eqb op opPUSHGOI || (eqb op opPUSHJ || (eqb op opPUSHJB
-    || (eqb op opPOP || (eqb op opSAVE || (eqb op opUNSAVE || quiet (armOf op)))))))))
+    || (eqb op opPOP || (eqb op opSAVE || (eqb op opUNSAVE || silent (armOf op)))))))))
 
 all-settled : each 256 settles ≡ true
-unfolding each armOf quiet
+unfolding each armOf silent
 all-settled = refl
 
 module _ (h : Whole) (w : Windows) (s : State) (op x y z : ℕ) where
@@ -94,9 +64,9 @@ module _ (h : Whole) (w : Windows) (s : State) (op x y z : ℕ) where
   unfolding anyForeign
   none-asks l a b m =
       let k = missed keys op m in
-      let q : quiet (armOf op) ≡ true
+      let q : silent (armOf op) ≡ true
       = simp (a, b, k opPUSHGO refl, k opPUSHGOI refl, k opPUSHJ refl, k opPUSHJB refl, k opPOP refl, k opSAVE refl, k opUNSAVE refl) at (at-each 256 settles all-settled op l) in
-      rw (quiet-needs w s (armOf op) x y z q)
+      rw (silent-needs w s (armOf op) x y z q)
 
   -- ---- a load, a store: the octabyte at a
 
@@ -163,25 +133,11 @@ either false = refl
 -- what 3 to 5 refuse needs nothing in any case
 unrefused : (w : Windows) (s : State) (a : Arm) (x y z : ℕ) → cond (eqb (refusalOf a x y z) 0) (armNeeds w s a x y z) [] ≡ armNeeds w s a x y z
 unfolding refusalOf armNeeds
-unrefused w s (branch c d) x y z = refl
-unrefused w s (jump d) x y z = refl
-unrefused w s (getAddress d) x y z = refl
-unrefused w s (go o) x y z = refl
-unrefused w s (pushJump d) x y z = refl
-unrefused w s (pushGo o) x y z = refl
-unrefused w s pop x y z = refl
-unrefused w s (put o) x y z = refl
-unrefused w s get x y z = either (eqb (cond (ltb 31 z) 5 0) 0)
-unrefused w s save x y z = refl
-unrefused w s unsave x y z = refl
-unrefused w s sync x y z = refl
-unrefused w s swym x y z = refl
-unrefused w s trip x y z = refl
-unrefused w s trap x y z = either (eqb (cond (eqb x 0 && isNamed y) 4 0) 0)
-unrefused w s (load d g o) x y z = refl
-unrefused w s (store d g o) x y z = refl
-unrefused w s (arithmetic f p q) x y z = refl
-unrefused w s none x y z = refl
+unrefused w s a x y z = go (rowOf a)
+  where
+    go : (r : Row) → cond (eqb (refusalIn r x y z) 0) (needsIn r w s x y z) [] ≡ needsIn r w s x y z
+    go (quiet q) = either (eqb (refusalIn (quiet q) x y z) 0)
+    go (touching t) = refl
 
 module _ (h : Whole) (w : Windows) (o : OwnOnly h w) (s : State) (a : admissible s ≡ true) (u : unruledBy (shapesOf w) ≡ 0) (k : ℕ) (e : k ≡ holder (shapesOf w) (s .pc)) where
   needed : asks h (fetchedNeeds w s) ≡ (isForeign h (s .pc) || asks h (cond (inside (shapesOf w) (s .pc)) (tetraNeeds w (tetraOf w s) (claimedAt w s)) []))
