@@ -42,15 +42,15 @@ module _ (op : ℕ) where
   below : (a b c d : ℕ) → d < a → among c d op ≡ true → among a b op ≡ false
   below a b c d l h = let k : op ≤ d = leb-true op d (and-right (leb c op) _ h) in ap (λ (t : Bool). t && leb op b) (lt-leb a op (omega arith))
 
-  pub branch-arm : among firstBranch lastBranch op ≡ true → armOf op ≡ (control (branch (conditionOf op) (directionOf op)))
+  pub branch-arm : among firstBranch lastBranch op ≡ true → armOf op ≡ control (branch (conditionOf op) (directionOf op))
   unfolding armOf
   branch-arm h = rw h
 
-  pub load-arm : among firstLoad lastLoad op ≡ true → armOf op ≡ (memory (load (widthOf op) (signOf op) (lastOf op)))
+  pub load-arm : among firstLoad lastLoad op ≡ true → armOf op ≡ memory (load (widthOf op) (signOf op) (lastOf op))
   unfolding armOf
   load-arm h = rw (above firstBranch lastBranch firstLoad lastLoad (omega arith) h, h)
 
-  pub store-arm : among firstStore lastStore op ≡ true → armOf op ≡ (memory (store (widthOf op) (signOf op) (lastOf op)))
+  pub store-arm : among firstStore lastStore op ≡ true → armOf op ≡ memory (store (widthOf op) (signOf op) (lastOf op))
   unfolding armOf
   store-arm h = rw (above firstBranch lastBranch firstStore lastStore (omega arith) h, above firstLoad lastLoad firstStore lastStore (omega arith) h, h)
 

@@ -40,31 +40,31 @@ module _ (s : State) (op x y z n : ℕ) (b : Bool) (e : b ≡ holds (conditionOf
 -- ---- the step
 
 module _ (w : Windows) (s : State) (a : admissible s ≡ true) (u : unruledBy (shapesOf w) ≡ 0) (op x y z : ℕ) (r : Reply) (t : State) where
-  pub step-branch : armOf op ≡ (control (branch (conditionOf op) (directionOf op))) → Told (say 0 (branchOf s op x y z)) r t → Whole (stepOf w s op x y z) r t w
+  pub step-branch : armOf op ≡ control (branch (conditionOf op) (directionOf op)) → Told (say 0 (branchOf s op x y z)) r t → Whole (stepOf w s op x y z) r t w
   unfolding refusalOf planOf branchOf
   step-branch k q = told-step w s a u op x y z r t (control (branch (conditionOf op) (directionOf op))) k refl _ refl q
 
-  pub step-go : armOf op ≡ (control (go (lastOf op))) → Told (say 0 (goOf s op x y z)) r t → Whole (stepOf w s op x y z) r t w
+  pub step-go : armOf op ≡ control (go (lastOf op)) → Told (say 0 (goOf s op x y z)) r t → Whole (stepOf w s op x y z) r t w
   unfolding refusalOf planOf
   step-go k q = told-step w s a u op x y z r t (control (go (lastOf op))) k refl _ refl q
 
-  pub step-jump : armOf op ≡ (control (jump (directionOf op))) → Told (say 0 (jumpOf s op x y z)) r t → Whole (stepOf w s op x y z) r t w
+  pub step-jump : armOf op ≡ control (jump (directionOf op)) → Told (say 0 (jumpOf s op x y z)) r t → Whole (stepOf w s op x y z) r t w
   unfolding refusalOf planOf
   step-jump k q = told-step w s a u op x y z r t (control (jump (directionOf op))) k refl _ refl q
 
-  pub step-get-address : armOf op ≡ (control (getAddress (directionOf op))) → Told (say 0 (addressOf s op x y z)) r t → Whole (stepOf w s op x y z) r t w
+  pub step-get-address : armOf op ≡ control (getAddress (directionOf op)) → Told (say 0 (addressOf s op x y z)) r t → Whole (stepOf w s op x y z) r t w
   unfolding refusalOf planOf
   step-get-address k q = told-step w s a u op x y z r t (control (getAddress (directionOf op))) k refl _ refl q
 
   -- the two calls, of a target n
-  pub step-push-go : (v : Windows) (n : ℕ) → armOf op ≡ (stack (pushGo (lastOf op))) → n ≡ sumOf s (lastOf op) y z → Whole (callTo w s x n) r t v → Whole (stepOf w s op x y z) r t v
+  pub step-push-go : (v : Windows) (n : ℕ) → armOf op ≡ stack (pushGo (lastOf op)) → n ≡ sumOf s (lastOf op) y z → Whole (callTo w s x n) r t v → Whole (stepOf w s op x y z) r t v
   unfolding refusalOf planOf
   step-push-go v n k e q = stack-step w s a u op x y z r t (stack (pushGo (lastOf op))) k refl (placed s) (admissible-placed s a) _ v refl (rw e at q)
 
-  pub step-push-jump : (v : Windows) (n : ℕ) → armOf op ≡ (stack (pushJump (directionOf op))) → n ≡ near s (directionOf op) y z → Whole (callTo w s x n) r t v → Whole (stepOf w s op x y z) r t v
+  pub step-push-jump : (v : Windows) (n : ℕ) → armOf op ≡ stack (pushJump (directionOf op)) → n ≡ near s (directionOf op) y z → Whole (callTo w s x n) r t v → Whole (stepOf w s op x y z) r t v
   unfolding refusalOf planOf
   step-push-jump v n k e q = stack-step w s a u op x y z r t (stack (pushJump (directionOf op))) k refl (placed s) (admissible-placed s a) _ v refl (rw e at q)
 
-  pub step-pop : (v : Windows) → armOf op ≡ (stack pop) → Whole (returnOf w s x y z) r t v → Whole (stepOf w s op x y z) r t v
+  pub step-pop : (v : Windows) → armOf op ≡ stack pop → Whole (returnOf w s x y z) r t v → Whole (stepOf w s op x y z) r t v
   unfolding refusalOf planOf
   step-pop v k q = stack-step w s a u op x y z r t (stack pop) k refl (placed s) (admissible-placed s a) _ v refl q

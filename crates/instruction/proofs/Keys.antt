@@ -30,7 +30,7 @@ module _ (op : ℕ) where
       go true e = sym (ap (among a b) (eqb-true op k e) ∙ i) ∙ f
       go false e = refl
 
-  pub put-arm : among opPUT opPUTI op ≡ true → armOf op ≡ (system (put (lastOf op)))
+  pub put-arm : among opPUT opPUTI op ≡ true → armOf op ≡ system (put (lastOf op))
   unfolding armOf
   put-arm h =
       let l : opPUT ≤ op = leb-true opPUT op (and-left (leb opPUT op) _ h) in

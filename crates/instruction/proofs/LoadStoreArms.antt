@@ -86,11 +86,11 @@ module _ (w : Windows) (s : State) (op x y z a : ℕ) (h : a ≡ sumOf s (lastOf
 -- ---- the step
 
 module _ (w : Windows) (s : State) (a : admissible s ≡ true) (u : unruledBy (shapesOf w) ≡ 0) (op x y z : ℕ) (r : Reply) (t : State) where
-  step-load : (v : Windows) → armOf op ≡ (memory (load (widthOf op) (signOf op) (lastOf op))) → Whole (loadOf w s op x y z) r t v → Whole (stepOf w s op x y z) r t v
+  step-load : (v : Windows) → armOf op ≡ memory (load (widthOf op) (signOf op) (lastOf op)) → Whole (loadOf w s op x y z) r t v → Whole (stepOf w s op x y z) r t v
   unfolding refusalOf planOf
   step-load v e h = rw (step-open w s op x y z a u (rw e), e) h
 
-  step-store : (v : Windows) → armOf op ≡ (memory (store (widthOf op) (signOf op) (lastOf op))) → Whole (storeOf w s op x y z) r t v → Whole (stepOf w s op x y z) r t v
+  step-store : (v : Windows) → armOf op ≡ memory (store (widthOf op) (signOf op) (lastOf op)) → Whole (storeOf w s op x y z) r t v → Whole (stepOf w s op x y z) r t v
   unfolding refusalOf planOf
   step-store v e h = rw (step-open w s op x y z a u (rw e), e) h
 
@@ -99,7 +99,7 @@ module _ (w : Windows) (s : State) (a : admissible s ≡ true) (u : unruledBy (s
   unfolding refusalOf planOf
   step-arithmetic v e h = rw (step-told w s a u op x y z (arithmeticOf s op x y z) (rw e) (rw e)) h
 
-  step-put : (v : Windows) → armOf op ≡ (system (put (lastOf op))) → Whole (telling w (putOf s op x z)) r t v → Whole (stepOf w s op x y z) r t v
+  step-put : (v : Windows) → armOf op ≡ system (put (lastOf op)) → Whole (telling w (putOf s op x z)) r t v → Whole (stepOf w s op x y z) r t v
   unfolding refusalOf planOf
   step-put v e h = rw (step-told w s a u op x y z (putOf s op x z) (rw e) (rw e)) h
 

@@ -64,7 +64,7 @@ raisedIn s f p q x y z = withAdded (withResults s x (resultsIn s f (operandOf s 
 
 -- 19 of TRIP leaves the windows
 pub record TripCallLeaves (l : List ℕ) (w : Windows) (op x y z : ℕ) (m : List ℕ) (v : Windows) : Type 0 where
-  pub arm-is : armOf op ≡ (system trip)
+  pub arm-is : armOf op ≡ system trip
   pub image-is : m ≡ replaced l (tripOctas (stateOf l) (wordOf op x y z) (reg (stateOf l) y) (reg (stateOf l) z))
   pub window-is : v ≡ w
 
@@ -72,7 +72,7 @@ pub record TripCallLeaves (l : List ℕ) (w : Windows) (op x y z : ℕ) (m : Lis
 pub record StoreCallLeaves (l : List ℕ) (w : Windows) (op x y z : ℕ) (m : List ℕ) (v : Windows) : Type 0 where
   pub width : Width
   pub last : Operand
-  pub arm-is : armOf op ≡ (memory (store width signed last))
+  pub arm-is : armOf op ≡ memory (store width signed last)
   pub image-is : m ≡ replaced l ((atSpecial rA, sp (withAdded (stateOf l) flagV) rA) ∷ tripOctas (stateOf l) (wordOf op x y z) (sumOf (stateOf l) last y z) (reg (stateOf l) x))
   pub window-is : v ≡ putOcta w (sumOf (stateOf l) last y z) (merged width (sumOf (stateOf l) last y z) (look both w (sumOf (stateOf l) last y z)) (reg (stateOf l) x))
 

@@ -16,7 +16,7 @@ use Rattle.model.specs.Registers.{rG, rL, rA, sp, reg, hides, admissible
 use Rattle.model.specs.Memory.{Windows, Shapes, shapesOf, ruled, shares, inside, both}
 use Rattle.model.specs.Plan.{Plan, answer, read, Outcome, perform, worst, clear, looks, puts, named}
 use Rattle.model.specs.Opcodes.{Width, Sign, signed, unsigned, Arm, Direction, forward, backward, Operand, register, immediate, trip, trap, store, arithmetic, armOf, memory, system}
-use Rattle.model.specs.Row.{Refusal, passes, noArm, namedTrap, noSpecial, numberOf, Row, quiet, touching, refusalIn}
+use Rattle.model.specs.Row.{Refusal, begins, noArm, namedTrap, noSpecial, refusalNumber, Row, quiet, touching, refusalIn}
 use Rattle.model.specs.Rows.{rowOf}
 use Rattle.model.specs.NoMemory.{say, Said, tell}
 use Rattle.model.specs.Control.{targetOf, sumOf, operandOf}
@@ -68,9 +68,9 @@ pub record MeetsRaise (s : State) (W : ℕ → Type 0) (R : ℕ → State → Ty
 
 -- of an instruction op x y z of arm a: TRIP, TRAP, a store that raises V, an operation that raises V or D
 pub record MeetsInterrupt (s : State) (W : ℕ → Type 0) (R : ℕ → State → List ℕ → Type 0) (a : Arm) (op x y z : ℕ) : Type 0 where
-  pub trips : a ≡ (system trip) → MeetsTrip s W (λ r t. R r t []) (wordOf op x y z) (reg s y) (reg s z)
-  pub traps : a ≡ (system trap) → R 20 (halted (trapped s (wordOf op x y z) (reg s y) (reg s z))) []
-  pub stores : (d : Width) (o : Operand) → a ≡ (memory (store d signed o)) → (v : ℕ) → MeetsRaise s W (λ r t. R r t (v ∷ [])) flagV (wordOf op x y z) (sumOf s o y z) (reg s x)
+  pub trips : a ≡ system trip → MeetsTrip s W (λ r t. R r t []) (wordOf op x y z) (reg s y) (reg s z)
+  pub traps : a ≡ system trap → R 20 (halted (trapped s (wordOf op x y z) (reg s y) (reg s z))) []
+  pub stores : (d : Width) (o : Operand) → a ≡ memory (store d signed o) → (v : ℕ) → MeetsRaise s W (λ r t. R r t (v ∷ [])) flagV (wordOf op x y z) (sumOf s o y z) (reg s x)
   pub computes : (f : Operation) (p q : Operand) → a ≡ arithmetic f p q
       → MeetsRaise (withResults s x (resultsIn s f (operandOf s p y) (operandOf s q z))) W (λ r t. R r t []) (resultsIn s f (operandOf s p y) (operandOf s q z) .flags)
       (wordOf op x y z) (operandOf s p y) (operandOf s q z)
@@ -239,8 +239,8 @@ module _ (s : State) (W : ℕ → Type 0) (Read : List ℕ → Type 0) (R : ℕ 
 
 -- ---- 3 to 5
 
-number-most : (r : Refusal) → numberOf r ≤ 5
-number-most passes = omega arith
+number-most : (r : Refusal) → refusalNumber r ≤ 5
+number-most begins = omega arith
 number-most noArm = omega arith
 number-most namedTrap = omega arith
 number-most noSpecial = omega arith

@@ -25,7 +25,8 @@ use Rattle.model.proofs.RowLaws.{Alike, RaisesLaws, Laws}
 use Rattle.model.proofs.ControlLaws.{control-laws}
 use Rattle.model.proofs.StackLaws.{stack-laws}
 use Rattle.model.proofs.SystemLaws.{system-laws, no-laws}
-use Rattle.model.proofs.OperandLaws.{memory-laws, arithmetic-laws}
+use Rattle.model.proofs.MemoryLaws.{memory-laws}
+use Rattle.model.proofs.ArithmeticLaws.{arithmetic-laws}
 
 pub laws-of : (a : Arm) → Laws a (rowOf a)
 laws-of (control c) = control-laws c

@@ -6,7 +6,7 @@ use native.Mathlib.Omega.{arith}
 use lib.Dec.{eqb}
 use borrow.Author.Tests.{eqb-false}
 use Rattle.model.specs.Opcodes.{Arm, trap, system}
-use Rattle.model.specs.Row.{Refusal, passes, noArm, namedTrap, noSpecial, numberOf, Row, quiet, touching, refusalIn}
+use Rattle.model.specs.Row.{Refusal, begins, noArm, namedTrap, noSpecial, refusalNumber, Row, quiet, touching, refusalIn}
 use Rattle.model.specs.Rows.{rowOf}
 use Rattle.model.specs.NoMemory.{tell}
 use Rattle.model.specs.Step.{refusalOf, planOf, fromThree}
@@ -16,8 +16,8 @@ use Rattle.model.proofs.Bools.{on}
 use Rattle.model.proofs.ArmAnswers.{Answers, MeetsTrip, MeetsRaise, refusal-most}
 use Rattle.model.proofs.ArmLaws.{plan-meets}
 
-number-least : (r : Refusal) → numberOf r ≢ 0 → 3 ≤ numberOf r
-number-least passes n = absurd (n refl)
+number-least : (r : Refusal) → refusalNumber r ≢ 0 → 3 ≤ refusalNumber r
+number-least begins n = absurd (n refl)
 number-least noArm n = omega arith
 number-least namedTrap n = omega arith
 number-least noSpecial n = omega arith
@@ -31,7 +31,7 @@ refusal-least a x y z = least (rowOf a)
     least (touching t) n = absurd (n refl)
 
 pub plan-replies : (Q : ℕ → Type 0) → Q 0 → Q 3 → ((n : ℕ) → Halting n → Q n) → Q 19
-    → (s : State) (a : Arm) (op x y z : ℕ) → (a ≡ (system trap) → Q 20) → Answers (λ vs. Unit {0}) (λ r t vs. Q r) (planOf s a op x y z)
+    → (s : State) (a : Arm) (op x y z : ℕ) → (a ≡ system trap → Q 20) → Answers (λ vs. Unit {0}) (λ r t vs. Q r) (planOf s a op x y z)
 plan-replies Q done three halts nineteen s a op x y z twenty =
     plan-meets s (λ n. Unit {0}) (λ vs. Unit {0}) (λ r t vs. Q r) (record {
       word = λ n b. tt;
@@ -61,7 +61,7 @@ plan-replies Q done three halts nineteen s a op x y z twenty =
 
 -- from 3 on
 pub three-replies : (Q : ℕ → Type 0) → Q 0 → ((n : ℕ) → 3 ≤ n → n ≤ 5 → Q n) → ((n : ℕ) → Halting n → Q n) → Q 19
-    → (s : State) (a : Arm) (op x y z : ℕ) → (a ≡ (system trap) → Q 20) → Answers (λ vs. Unit {0}) (λ r t vs. Q r) (fromThree s a op x y z)
+    → (s : State) (a : Arm) (op x y z : ℕ) → (a ≡ system trap → Q 20) → Answers (λ vs. Unit {0}) (λ r t vs. Q r) (fromThree s a op x y z)
 unfolding fromThree
 three-replies Q done three halts nineteen s a op x y z twenty =
     on (Answers (λ vs. Unit {0}) (λ r t vs. Q r)) (eqb (refusalOf a x y z) 0)

@@ -4,7 +4,7 @@ use mathlib.Core.List.{[]}
 use Prim.Native.Nat.{_+_}
 use Rattle.model.specs.Plan.{All, mapPlan}
 use Rattle.model.specs.Registers.{reg, following, setRegister}
-use Rattle.model.specs.Opcodes.{Control, branch, jump, getAddress, go, control}
+use Rattle.model.specs.Opcodes.{ControlArm, branch, jump, getAddress, go, control}
 use Rattle.model.specs.NoMemory.{tell}
 use Rattle.model.specs.Control.{branchFields, jumpFields, targetOf, near, far, yzOf, xyzOf, sumOf, operandOf, holds}
 use Rattle.model.specs.ControlRows.{controlRow}
@@ -19,7 +19,7 @@ use Rattle.model.proofs.SeenArms.{by-test, done, sum-same}
 use Rattle.model.proofs.ArmRules.{by-plans, sum-read}
 use Rattle.model.proofs.RowLaws.{Laws}
 
-pub control-laws : (c : Control) → Laws (control c) (controlRow c)
+pub control-laws : (c : ControlArm) → Laws (control c) (controlRow c)
 unfolding ruleOf planOf refusalOf fromThree mapPlan settled tell ReadsAlike All
 control-laws (branch c d) = record {
   meets = λ s W Read R m op x y z wy wz mi. on (λ (t : State). R 0 t []) (holds c (reg s x))

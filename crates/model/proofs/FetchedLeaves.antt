@@ -37,7 +37,7 @@ claims-no-trap : each 256 (λ op. not (claims op && eqb (refusalOf (armOf op) 0 
 unfolding each claims refusalOf armOf operationOf firstOf widthOf signOf conditionOf
 claims-no-trap = refl
 
-pub no-trap : (op : ℕ) → op < 256 → claims op ≡ true → armOf op ≡ (system trap) → ⊥
+pub no-trap : (op : ℕ) → op < 256 → claims op ≡ true → armOf op ≡ system trap → ⊥
 no-trap op l c e = differ (at-each 256 (λ k. not (claims k && eqb (refusalOf (armOf k) 0 0 0) 4)) claims-no-trap op l)
   where
     four : refusalOf (armOf op) 0 0 0 ≡ 4

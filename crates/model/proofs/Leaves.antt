@@ -87,7 +87,7 @@ traps s word u v n = interrupts s rBB rWW rXX rYY rZZ word u v n (omega arith) (
 record IsStore (m : Arm) : Type 0 where
   width : Width
   last : Operand
-  is-it : m ≡ (memory (store width signed last))
+  is-it : m ≡ memory (store width signed last)
 
 -- an operation that has raised its flag
 record Computed (s : State) (op x y z : ℕ) (t : State) (vs : List ℕ) : Type 0 where
@@ -103,7 +103,7 @@ record Computed (s : State) (op x y z : ℕ) (t : State) (vs : List ℕ) : Type 
 -- TRIP, a store, an operation
 abbrev Nineteen : State → ℕ → ℕ → ℕ → ℕ → State → List ℕ → Type 0
 Nineteen s op x y z t vs =
-    ((armOf op ≡ (system trip)) × Tripped s t (wordOf op x y z) (reg s y) (reg s z) × (vs ≡ [])) ⊎ (IsStore (armOf op) ⊎ Computed s op x y z t vs)
+    ((armOf op ≡ system trip) × Tripped s t (wordOf op x y z) (reg s y) (reg s z) × (vs ≡ [])) ⊎ (IsStore (armOf op) ⊎ Computed s op x y z t vs)
 
 record Answered (s : State) (op x y z : ℕ) (r : ℕ) (t : State) (vs : List ℕ) : Type 0 where
   most : (r ≤ 20) ⊎ ((r ≡ 22) ⊎ ((r ≡ 29) ⊎ (r ≡ 31)))

@@ -26,7 +26,8 @@ pub mod RowLaws
 pub mod ControlLaws
 pub mod StackLaws
 pub mod SystemLaws
-pub mod OperandLaws
+pub mod MemoryLaws
+pub mod ArithmeticLaws
 pub mod ArmLaws
 pub mod ArmReplies
 pub mod ItemInvariant

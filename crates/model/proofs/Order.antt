@@ -70,7 +70,7 @@ get-thirty-one : (w : Windows) (s : State) (x y z : ℕ) → Passes w s → hide
 get-thirty-one w s x y z h e = step-told w s (h .admitted) (passing w s h) 0xFE x y z (refuse 31 s)
     (unfold refusalOf armOf in (rw (le-ltb 31 z (hidden-special (s .mask) z e)))) (unfold planOf armOf getSpecial unlessHidden in (rw e))
 
-put-thirty-one : (w : Windows) (s : State) (op x y z : ℕ) (o : Operand) → armOf op ≡ (system (put o)) → Passes w s → hides (s .mask) x ≡ true → stepOf w s op x y z ≡ haltedBy 31 w s
+put-thirty-one : (w : Windows) (s : State) (op x y z : ℕ) (o : Operand) → armOf op ≡ system (put o) → Passes w s → hides (s .mask) x ≡ true → stepOf w s op x y z ≡ haltedBy 31 w s
 put-thirty-one w s op x y z o a h e = step-told w s (h .admitted) (passing w s h) op x y z (refuse 31 s) (unfold refusalOf in (rw a)) (unfold planOf putSpecial unlessHidden in (rw (a, e)))
 
 -- ---- SAVE

@@ -122,7 +122,7 @@ module _ (s : State) (to : ℕ) (d : Direction) (f : ℕ) (a : s .pc < 2 ^ 64) (
           let q : (f < branchFields) × (targetOf (s .pc) d branchFields f ≡ to) = found branchFields (s .pc) to (omega arith) a b d f p in
           ap (targetOf (s .pc) d branchFields) {x = yzOf (yIn f) (zIn f)} {y = f} (omega arith) ∙ q .1
 
-      branches : (w : Windows) (op x : ℕ) (c : Condition) → Passes w s → armOf op ≡ (control (branch c d)) → holds c (reg s x) ≡ true
+      branches : (w : Windows) (op x : ℕ) (c : Condition) → Passes w s → armOf op ≡ control (branch c d) → holds c (reg s x) ≡ true
           → stepOf w s op x (yIn f) (zIn f) ≡ refusedBy 0 w (goes s to)
       branches w op x c h e t = step-told w s (h .admitted) (passing w s h) op x (yIn f) (zIn f) (say 0 (goes s to)) (unfold refusalOf in rw e) (unfold planOf in rw (e, t, target))
 
@@ -134,7 +134,7 @@ module _ (s : State) (to : ℕ) (d : Direction) (f : ℕ) (a : s .pc < 2 ^ 64) (
           let q : (f < jumpFields) × (targetOf (s .pc) d jumpFields f ≡ to) = found jumpFields (s .pc) to (omega arith) a b d f p in
           ap (targetOf (s .pc) d jumpFields) {x = xyzOf (xIn f) (yIn f) (zIn f)} {y = f} (omega arith) ∙ q .1
 
-      jumps : (w : Windows) (op : ℕ) → Passes w s → armOf op ≡ (control (jump d)) → stepOf w s op (xIn f) (yIn f) (zIn f) ≡ refusedBy 0 w (goes s to)
+      jumps : (w : Windows) (op : ℕ) → Passes w s → armOf op ≡ control (jump d) → stepOf w s op (xIn f) (yIn f) (zIn f) ≡ refusedBy 0 w (goes s to)
       jumps w op h e = step-told w s (h .admitted) (passing w s h) op (xIn f) (yIn f) (zIn f) (say 0 (goes s to)) (unfold refusalOf in rw e) (unfold planOf in rw (e, target))
 
 pub field-theorem : FieldTheorem

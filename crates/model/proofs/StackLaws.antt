@@ -5,7 +5,7 @@ use Prim.Native.Nat.{_+_, _*_, _%_, _^_}
 use native.Mathlib.Omega.{arith}
 use Rattle.model.specs.Plan.{All, mapPlan}
 use Rattle.model.specs.Registers.{rJ, sp, reg, halted}
-use Rattle.model.specs.Opcodes.{Stack, pushJump, pushGo, pop, save, unsave, stack}
+use Rattle.model.specs.Opcodes.{StackArm, pushJump, pushGo, pop, save, unsave, stack}
 use Rattle.model.specs.NoMemory.{tell}
 use Rattle.model.specs.Control.{branchFields, targetOf, near, yzOf, sumOf, operandOf}
 use Rattle.model.specs.Frames.{hole, pushFrame}
@@ -23,7 +23,7 @@ use Rattle.model.proofs.ArmRules.{by-plans, sum-read, frame-read, all-l
 use Rattle.model.proofs.Rules.{pop-plans, push-plans}
 use Rattle.model.proofs.RowLaws.{Laws}
 
-pub stack-laws : (c : Stack) → Laws (stack c) (stackRow c)
+pub stack-laws : (c : StackArm) → Laws (stack c) (stackRow c)
 unfolding ruleOf planOf refusalOf fromThree mapPlan settled tell ReadsAlike All Answers pushFrame unsaveContext
 stack-laws (pushJump d) = record {
   meets = λ s W Read R m op x y z wy wz mi. m .pushes x (near s d y z) (m .word _ (target-small (s .pc) d branchFields (yzOf y z)));

@@ -5,7 +5,7 @@ use native.Mathlib.Omega.{arith}
 use borrow.Author.Tests.{leb-true, le-ltb}
 use Rattle.model.specs.Plan.{All, mapPlan}
 use Rattle.model.specs.Registers.{reg, following}
-use Rattle.model.specs.Opcodes.{System, put, get, sync, swym, trip, trap, system, none}
+use Rattle.model.specs.Opcodes.{SystemArm, put, get, sync, swym, trip, trap, system, none}
 use Rattle.model.specs.NoMemory.{tell}
 use Rattle.model.specs.Control.{xyzOf, operandOf}
 use Rattle.model.specs.Trips.{wordOf, trapOf}
@@ -21,7 +21,7 @@ use Rattle.model.proofs.RaisedRule.{trip-same}
 use Rattle.model.proofs.Rules.{got-same}
 use Rattle.model.proofs.RowLaws.{Laws}
 
-pub system-laws : (c : System) → Laws (system c) (systemRow c)
+pub system-laws : (c : SystemArm) → Laws (system c) (systemRow c)
 unfolding ruleOf planOf refusalOf fromThree mapPlan settled tell ReadsAlike All trapOf
 system-laws (put o) = record {
   meets = λ s W Read R m op x y z wy wz mi. put-meets s W Read R m x (operandOf s o z) (operand-is s W Read R m o z wz);

@@ -61,35 +61,35 @@ pub record Outside (w : Windows) (s : State) (a : Arm) (x y z : ℕ) : Type 0 wh
   -- no marginal register that is not zero is read
   pub reads : ReadsAlike s a x y z
   -- bytes that Knuth wants to be zero are zero
-  pub put-y : (o : Operand) → a ≡ (system (put o)) → y ≡ 0
-  pub get-y : a ≡ (system get) → y ≡ 0
-  pub save-yz : a ≡ (stack save) → (y ≡ 0) × (z ≡ 0)
-  pub unsave-xy : a ≡ (stack unsave) → (x ≡ 0) × (y ≡ 0)
+  pub put-y : (o : Operand) → a ≡ system (put o) → y ≡ 0
+  pub get-y : a ≡ system get → y ≡ 0
+  pub save-yz : a ≡ stack save → (y ≡ 0) × (z ≡ 0)
+  pub unsave-xy : a ≡ stack unsave → (x ≡ 0) × (y ≡ 0)
   -- nothing that a number refuses here and an interrupt there: 7 to 11, 5, 13, 17 and 18
-  pub put-legal : (o : Operand) → a ≡ (system (put o)) → putRefusal s x (operandOf s o z) ≡ 0
-  pub get-known : a ≡ (system get) → leb z 31 ≡ true
-  pub save-global : a ≡ (stack save) → leb (sp s rG) x ≡ true
-  pub sync-legal : a ≡ (system sync) → leb (xyzOf x y z) 3 ≡ true
+  pub put-legal : (o : Operand) → a ≡ system (put o) → putRefusal s x (operandOf s o z) ≡ 0
+  pub get-known : a ≡ system get → leb z 31 ≡ true
+  pub save-global : a ≡ stack save → leb (sp s rG) x ≡ true
+  pub sync-legal : a ≡ system sync → leb (xyzOf x y z) 3 ≡ true
   -- no hidden register is named: 31
-  pub put-seen : (o : Operand) → a ≡ (system (put o)) → hides (s .mask) x ≡ false
-  pub get-seen : a ≡ (system get) → hides (s .mask) z ≡ false
+  pub put-seen : (o : Operand) → a ≡ system (put o) → hides (s .mask) x ≡ false
+  pub get-seen : a ≡ system get → hides (s .mask) z ≡ false
   -- GET does not read rL into a marginal register
-  pub get-local : a ≡ (system get) → (eqb z rL && isMarginal s x) ≡ false
+  pub get-local : a ≡ system get → (eqb z rL && isMarginal s x) ≡ false
   -- POP has a frame, at a place for one
-  pub pop-frame : a ≡ (stack pop) → noFrame s ≡ false
-  pub pop-placed : a ≡ (stack pop) → misplaced s ≡ false
+  pub pop-frame : a ≡ stack pop → noFrame s ≡ false
+  pub pop-placed : a ≡ stack pop → misplaced s ≡ false
   -- UNSAVE's address has no low bits, and its context is taken
-  pub unsave-low : a ≡ (stack unsave) → octa (reg s z) ≡ reg s z
-  pub unsave-taken : a ≡ (stack unsave) → contextTaken w (reg s z) ≡ true
+  pub unsave-low : a ≡ stack unsave → octa (reg s z) ≡ reg s z
+  pub unsave-taken : a ≡ stack unsave → contextTaken w (reg s z) ≡ true
   -- TRIP's vector is loaded
-  pub trip-loaded : a ≡ (system trip) → isLoaded s 0 ≡ true
+  pub trip-loaded : a ≡ system trip → isLoaded s 0 ≡ true
   -- no TRAP
   pub no-trap : a ≢ (system trap)
   -- a load's or a store's address is not the kernel's
-  pub load-low : (d : Width) (g : Sign) (o : Operand) → a ≡ (memory (load d g o)) → isNegative (sumOf s o y z) ≡ false
-  pub store-low : (d : Width) (g : Sign) (o : Operand) → a ≡ (memory (store d g o)) → isNegative (sumOf s o y z) ≡ false
+  pub load-low : (d : Width) (g : Sign) (o : Operand) → a ≡ memory (load d g o) → isNegative (sumOf s o y z) ≡ false
+  pub store-low : (d : Width) (g : Sign) (o : Operand) → a ≡ memory (store d g o) → isNegative (sumOf s o y z) ≡ false
   -- the vector of a store that raises V, where that is enabled, is loaded
-  pub store-loaded : (d : Width) (g : Sign) (o : Operand) → a ≡ (memory (store d g o)) → fits d g (reg s x) ≡ false → eqb (enabled s flagV) 0 ≡ false
+  pub store-loaded : (d : Width) (g : Sign) (o : Operand) → a ≡ memory (store d g o) → fits d g (reg s x) ≡ false → eqb (enabled s flagV) 0 ≡ false
       → isLoaded s (leadingZeros 8 (enabled s flagV) + 1) ≡ true
   -- and so is that of an operation that raises D or V
   pub arithmetic-loaded : (f : Operation) (p q : Operand) → a ≡ arithmetic f p q

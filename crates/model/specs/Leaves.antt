@@ -45,7 +45,7 @@ Trapped s t word u v = Interrupted s t rBB rWW rXX rYY rZZ word u v
 
 -- 19 of TRIP leaves the window
 pub record TripLeaves (w : Windows) (s : State) (op x y z : ℕ) (o : Outcome State Windows) : Type 0 where
-  pub arm-is : armOf op ≡ (system trip)
+  pub arm-is : armOf op ≡ system trip
   pub registers : Tripped s (o .state) (wordOf op x y z) (reg s y) (reg s z)
   pub window : o .memory ≡ w
 
@@ -53,7 +53,7 @@ pub record TripLeaves (w : Windows) (s : State) (op x y z : ℕ) (o : Outcome St
 pub record StoreLeaves (w : Windows) (s : State) (op x y z : ℕ) (o : Outcome State Windows) : Type 0 where
   pub width : Width
   pub last : Operand
-  pub arm-is : armOf op ≡ (memory (store width signed last))
+  pub arm-is : armOf op ≡ memory (store width signed last)
   pub registers : Tripped (withAdded s flagV) (o .state) (wordOf op x y z) (sumOf s last y z) (reg s x)
   pub window : o .memory ≡ putOcta w (sumOf s last y z) (merged width (sumOf s last y z) (look both w (sumOf s last y z)) (reg s x))
 

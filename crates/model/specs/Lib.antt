@@ -23,7 +23,8 @@ pub mod Row
 pub mod ControlRows
 pub mod StackRows
 pub mod SystemRows
-pub mod OperandRows
+pub mod MemoryRows
+pub mod ArithmeticRows
 pub mod Rows
 pub mod Lists
 pub mod Step

@@ -41,39 +41,39 @@ pub data Sign : Type 0 where
 -- ---- the arms, by families
 
 -- branches, JMP, GETA, GO: ControlRows
-pub data Control : Type 0 where
-  branch : Condition → Direction → Control
-  jump : Direction → Control
-  getAddress : Direction → Control
-  go : Operand → Control
+pub data ControlArm : Type 0 where
+  branch : Condition → Direction → ControlArm
+  jump : Direction → ControlArm
+  getAddress : Direction → ControlArm
+  go : Operand → ControlArm
 
 -- PUSHJ, PUSHGO, POP, SAVE, UNSAVE: StackRows
-pub data Stack : Type 0 where
-  pushJump : Direction → Stack
-  pushGo : Operand → Stack
-  pop : Stack
-  save : Stack
-  unsave : Stack
+pub data StackArm : Type 0 where
+  pushJump : Direction → StackArm
+  pushGo : Operand → StackArm
+  pop : StackArm
+  save : StackArm
+  unsave : StackArm
 
 -- PUT, GET, SYNC, SWYM, TRIP, TRAP: SystemRows
-pub data System : Type 0 where
-  put : Operand → System
-  get : System
-  sync : System
-  swym : System
-  trip : System
-  trap : System
+pub data SystemArm : Type 0 where
+  put : Operand → SystemArm
+  get : SystemArm
+  sync : SystemArm
+  swym : SystemArm
+  trip : SystemArm
+  trap : SystemArm
 
 -- loads and stores: MemoryRows
-pub data Memory : Type 0 where
-  load : Width → Sign → Operand → Memory
-  store : Width → Sign → Operand → Memory
+pub data MemoryArm : Type 0 where
+  load : Width → Sign → Operand → MemoryArm
+  store : Width → Sign → Operand → MemoryArm
 
 pub data Arm : Type 0 where
-  control : Control → Arm
-  stack : Stack → Arm
-  system : System → Arm
-  memory : Memory → Arm
+  control : ControlArm → Arm
+  stack : StackArm → Arm
+  system : SystemArm → Arm
+  memory : MemoryArm → Arm
   arithmetic : Operation → Operand → Operand → Arm
   none : Arm
 

@@ -56,7 +56,7 @@ pub record StepsInOrder : Type 0 where
       → stepOf w s op x y z ≡ refusedBy (refusalOf (armOf op) x y z) w s
   -- GET and PUT: 31, and PUT's whatever its value is
   pub get-thirty-one : (w : Windows) (s : State) (x y z : ℕ) → Passes w s → hides (s .mask) z ≡ true → stepOf w s opGET x y z ≡ haltedBy 31 w s
-  pub put-thirty-one : (w : Windows) (s : State) (op x y z : ℕ) (o : Operand) → armOf op ≡ (system (put o)) → Passes w s → hides (s .mask) x ≡ true
+  pub put-thirty-one : (w : Windows) (s : State) (op x y z : ℕ) (o : Operand) → armOf op ≡ system (put o) → Passes w s → hides (s .mask) x ≡ true
       → stepOf w s op x y z ≡ haltedBy 31 w s
   -- SAVE: 13, whatever lies in the window; then 6
   pub save-thirteen : (w : Windows) (s : State) (x y z : ℕ) → Passes w s → x < sp s rG → stepOf w s opSAVE x y z ≡ haltedBy 13 w s

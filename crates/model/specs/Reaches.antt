@@ -29,12 +29,12 @@ OnePair size from = (u v : Direction) (f g : ℕ) → f < size → g < size → 
 pub record YzGoes (s : State) (to : ℕ) (d : Direction) (f : ℕ) : Type 0 where
   -- a branch, PUSHJ, GETA
   pub target : near s d (yIn f) (zIn f) ≡ to
-  pub branches : (w : Windows) (op x : ℕ) (c : Condition) → Passes w s → armOf op ≡ (control (branch c d)) → holds c (reg s x) ≡ true
+  pub branches : (w : Windows) (op x : ℕ) (c : Condition) → Passes w s → armOf op ≡ control (branch c d) → holds c (reg s x) ≡ true
       → stepOf w s op x (yIn f) (zIn f) ≡ refusedBy 0 w (goes s to)
 
 pub record XyzGoes (s : State) (to : ℕ) (d : Direction) (f : ℕ) : Type 0 where
   pub target : far s d (xIn f) (yIn f) (zIn f) ≡ to
-  pub jumps : (w : Windows) (op : ℕ) → Passes w s → armOf op ≡ (control (jump d)) → stepOf w s op (xIn f) (yIn f) (zIn f) ≡ refusedBy 0 w (goes s to)
+  pub jumps : (w : Windows) (op : ℕ) → Passes w s → armOf op ≡ control (jump d) → stepOf w s op (xIn f) (yIn f) (zIn f) ≡ refusedBy 0 w (goes s to)
 
 pub record FieldTheorem : Type 0 where
   pub reaches : (size from to : ℕ) → size ≤ 2 ^ 61 → from < 2 ^ 64 → to < 2 ^ 64 → FieldReaches size from to

@@ -1,30 +1,29 @@
 -- What an arm is: a row. Of one that touches no memory, what it says; of one that does, its plan and what it needs; of each, what refuses it before it
 -- is begun, Knuth's rule, the registers that it reads, the flags that it raises. Rows has the row of each arm, the families' files the rows.
 use Prim.Native.Nat.{ℕ}
-use mathlib.Core.Bool.{Bool, true, false}
+use mathlib.Core.Bool.{Bool, true, false, cond}
 use mathlib.Core.List.{List, [], _∷_}
+use lib.Dec.{eqb}
 use Rattle.model.specs.Memory.{Windows}
 use Rattle.model.specs.Plan.{Plan}
+use Rattle.model.specs.Registers.{next}
 use Rattle.model.specs.Opcodes.{Operand, register, immediate}
-use Rattle.model.specs.NoMemory.{Said, tell}
+use Rattle.model.specs.NoMemory.{Said, say, tell}
 use Rattle.model.specs.Rules.{After}
 use Rattle.model.specs.declared.State.{State}
 
--- what refuses an instruction before it is begun
+-- whether an instruction is begun, or what refuses it before
 pub data Refusal : Type 0 where
-  passes : Refusal
-  -- 3: "opcode with no arm in the two dispatch files, or RESUME (0xF9)", and none of the requests'
+  begins : Refusal
   noArm : Refusal
-  -- 4: "TRAP with X = 0 and a Y that `from_u8` names"
   namedTrap : Refusal
-  -- 5: "GET with Z above 31"
   noSpecial : Refusal
 
-abbrev pub numberOf : Refusal → ℕ
-numberOf passes = 0
-numberOf noArm = 3
-numberOf namedTrap = 4
-numberOf noSpecial = 5
+abbrev pub refusalNumber : Refusal → ℕ
+refusalNumber begins = 0
+refusalNumber noArm = 3
+refusalNumber namedTrap = 4
+refusalNumber noSpecial = 5
 
 -- an exception step: state, flags, word, two operands
 abbrev pub Raise : Type 0
@@ -70,7 +69,7 @@ isQuiet (quiet q) = true
 isQuiet (touching t) = false
 
 abbrev pub refusalIn : Row → ℕ → ℕ → ℕ → ℕ
-refusalIn (quiet q) x y z = numberOf (q .refusal x y z)
+refusalIn (quiet q) x y z = refusalNumber (q .refusal x y z)
 refusalIn (touching t) x y z = 0
 
 abbrev pub planIn : Row → Of (Plan State)
@@ -99,14 +98,7 @@ spillsIn (touching t) = t .spills
 
 -- ---- words that rows share
 
--- not refused before it is begun
-abbrev pub begun : ℕ → ℕ → ℕ → Refusal
-begun x y z = passes
-
--- registers read: none; $Z, or none; $Y and $Z, or $Y
-abbrev pub readsNone : State → ℕ → ℕ → ℕ → List ℕ
-readsNone s x y z = []
-
+-- registers read: $Z, or none; $Y and $Z, or $Y
 abbrev pub operandRead : Operand → ℕ → List ℕ
 operandRead register z = z ∷ []
 operandRead immediate z = []
@@ -114,11 +106,22 @@ operandRead immediate z = []
 abbrev pub sumRead : Operand → ℕ → ℕ → List ℕ
 sumRead o y z = y ∷ operandRead o z
 
--- an arm that touches no memory, is begun in any case, raises no flag
+-- an exception step e of some flags; where there is none, the next instruction
+abbrev pub raisedIf : Raise → State → ℕ → ℕ → ℕ → ℕ → Said
+raisedIf e s f word u v = cond (eqb f 0) (say 0 (next s)) (e s f word u v)
+
+-- not refused before it is begun
+abbrev pub begun : ℕ → ℕ → ℕ → Refusal
+begun x y z = begins
+
+-- an arm that touches no memory and raises no flag: one that may be refused before it is begun, and one that is not
 pub record Plain : Type 0 where
   pub says : Of Said
   pub rule : Of (Plan After)
   pub reads : State → ℕ → ℕ → ℕ → List ℕ
 
+abbrev pub refusable : (ℕ → ℕ → ℕ → Refusal) → Plain → Row
+refusable r p = quiet (record { refusal = r; says = p .says; rule = p .rule; reads = p .reads; flags = never })
+
 abbrev pub plain : Plain → Row
-plain p = quiet (record { refusal = begun; says = p .says; rule = p .rule; reads = p .reads; flags = never })
+plain p = refusable begun p

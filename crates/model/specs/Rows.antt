@@ -4,7 +4,8 @@ use Rattle.model.specs.Row.{Row}
 use Rattle.model.specs.ControlRows.{controlRow}
 use Rattle.model.specs.StackRows.{stackRow}
 use Rattle.model.specs.SystemRows.{systemRow, noRow}
-use Rattle.model.specs.OperandRows.{memoryRow, arithmeticRow}
+use Rattle.model.specs.MemoryRows.{memoryRow}
+use Rattle.model.specs.ArithmeticRows.{arithmeticRow}
 
 abbrev pub rowOf : Arm → Row
 rowOf (control c) = controlRow c
