@@ -25,7 +25,7 @@ use Rattle.decode.proofs.Groups.{branch-arm}
 use Rattle.exceptions.specs.Told.{Told}
 use Rattle.instruction.specs.StepAnswer.{Whole, Numbered}
 use Rattle.instruction.specs.Arms.{branchOf}
-use Rattle.instruction.proofs.ControlArms.{step-branch}
+use Rattle.instruction.proofs.ArmSteps.{quiet-step}
 
 pub refused-step : (w : Windows) (s : State) (op x y z n : ℕ) → n ≡ refusalOn w s → (n ≡ 0 → ⊥) → Numbered (stepOf w s op x y z) n s w
 refused-step w s op x y z n e f = rw refused (record { reply-is = refl; state-is = refl; window-is = refl })
@@ -55,8 +55,8 @@ numbered w s op x y z r t v n h e =
 -- a branch is done
 pub done-numbered : (w : Windows) (s : State) (op x y z : ℕ) (r : Reply) (t : State) → admissible s ≡ true → unruledBy (shapesOf w) ≡ 0 → among firstBranch lastBranch op ≡ true
     → Told (say 0 (branchOf s op x y z)) r t → Numbered (stepOf w s op x y z) 0 t w
-unfolding numberOf replyOf
+unfolding numberOf replyOf branchOf
 done-numbered w s op x y z r t a u b h =
-    let k = step-branch w s a u op x y z r t (branch-arm op b) h in
+    let k = quiet-step w s a u op x y z r t _ (branch-arm op b) _ refl refl h in
     let e : 0 ≡ numberOf r = sym (ap numberOf (h .reply-is)) in
     numbered w s op x y z r t w 0 k e

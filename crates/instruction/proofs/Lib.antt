@@ -5,7 +5,7 @@ pub mod Keys
 pub mod ArmSteps
 pub mod ControlArms
 pub mod SaveUnsaveSent
-pub mod SystemArms
+pub mod RefusableArms
 pub mod ArithmeticArms
 pub mod LoadStoreArms
 pub mod EarlyRefusals

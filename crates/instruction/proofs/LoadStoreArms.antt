@@ -29,6 +29,7 @@ use Rattle.exceptions.proofs.PcAndHalt.{next-is}
 use Rattle.instruction.specs.NoMemoryArms.{arithmeticOf, putOf}
 use Rattle.instruction.specs.StepAnswer.{Whole}
 use Rattle.instruction.specs.Arms.{NoCall, carriedOut, loadOf, storeOf, telling, rangedOf}
+use Rattle.instruction.proofs.ArmSteps.{said-step, touching-step}
 use Rattle.instruction.proofs.Keys.{keys, put-arm, no-arm}
 
 -- ---- one octabyte, read first
@@ -86,23 +87,6 @@ module _ (w : Windows) (s : State) (op x y z a : ℕ) (h : a ≡ sumOf s (lastOf
 -- ---- the step
 
 module _ (w : Windows) (s : State) (a : admissible s ≡ true) (u : unruledBy (shapesOf w) ≡ 0) (op x y z : ℕ) (r : Reply) (t : State) where
-  step-load : (v : Windows) → armOf op ≡ memory (load (widthOf op) (signOf op) (lastOf op)) → Whole (loadOf w s op x y z) r t v → Whole (stepOf w s op x y z) r t v
-  unfolding refusalOf planOf
-  step-load v e h = rw (step-open w s op x y z a u (rw e), e) h
-
-  step-store : (v : Windows) → armOf op ≡ memory (store (widthOf op) (signOf op) (lastOf op)) → Whole (storeOf w s op x y z) r t v → Whole (stepOf w s op x y z) r t v
-  unfolding refusalOf planOf
-  step-store v e h = rw (step-open w s op x y z a u (rw e), e) h
-
-  step-arithmetic : (v : Windows) → armOf op ≡ arithmetic (operationOf op) (firstOf op) (lastOf op)
-      → Whole (telling w (arithmeticOf s op x y z)) r t v → Whole (stepOf w s op x y z) r t v
-  unfolding refusalOf planOf
-  step-arithmetic v e h = rw (step-told w s a u op x y z (arithmeticOf s op x y z) (rw e) (rw e)) h
-
-  step-put : (v : Windows) → armOf op ≡ system (put (lastOf op)) → Whole (telling w (putOf s op x z)) r t v → Whole (stepOf w s op x y z) r t v
-  unfolding refusalOf planOf
-  step-put v e h = rw (step-told w s a u op x y z (putOf s op x z) (rw e) (rw e)) h
-
   -- an opcode that is no branch, no call and no key of the choice
   pub ranged-step : (v : Windows) → among firstBranch lastBranch op ≡ false → NoCall op → Missed keys op → Whole (rangedOf w s op x y z) r t v → Whole (stepOf w s op x y z) r t v
   unfolding rangedOf
@@ -112,8 +96,8 @@ module _ (w : Windows) (s : State) (a : admissible s ≡ true) (u : unruledBy (s
           → Whole (cond p (loadOf w s op x y z) (cond q (storeOf w s op x y z)
           (cond k (telling w (arithmeticOf s op x y z)) (cond o (telling w (putOf s op x z)) (record { reply = 3; state = s; memory = w }))))) r t v
           → Whole (stepOf w s op x y z) r t v
-      go true q k o e f g d h = step-load v (load-arm op e) h
-      go false true k o e f g d h = step-store v (store-arm op f) h
-      go false false true o e f g d h = step-arithmetic v (arithmetic-arm op g) h
-      go false false false true e f g d h = step-put v (put-arm op d) h
+      go true q k o e f g d h = touching-step w s a u op x y z r t _ (load-arm op e) _ refl v h
+      go false true k o e f g d h = touching-step w s a u op x y z r t _ (store-arm op f) _ refl v h
+      go false false true o e f g d h = said-step w s a u op x y z r t _ (arithmetic-arm op g) _ refl refl v h
+      go false false false true e f g d h = said-step w s a u op x y z r t _ (put-arm op d) _ refl refl v h
       go false false false false e f g d h = rw (step-refused w s a u op x y z 3 (unfold refusalOf in (rw (no-arm op b e f g d n m))) (omega arith)) h

@@ -11,7 +11,6 @@ use Rattle.model.proofs.Bools.{and-left, and-right}
 use Rattle.stack.proofs.Judged.{refused-none}
 use Rattle.decode.proofs.Groups.{branch-arm}
 use Rattle.instruction.specs.StepAnswer.{judged}
-use Rattle.instruction.proofs.ControlArms.{step-branch}
 use Rattle.instruction.proofs.ClaimTakenBack.{tetra-claims, tetra-plain, tetra-branch}
 use Rattle.instruction.proofs.EarlyRefusals.{done-numbered}
 use borrow.Author.Needs.{needs}

@@ -1,9 +1,13 @@
 -- `by_key` meets its contract: the key that matched names the arm, and what the arm ensures is the step; no key, then a range's arm or none.
+use mathlib.Core.Path.{refl}
 use borrow.Author.Needs.{needs}
-use Rattle.model.specs.Opcodes.{armOf}
+use Rattle.model.specs.Opcodes.{control, go, jump, getAddress, stack, pop, save, unsave, system, sync, swym, trip, directionOf, lastOf, armOf}
 use Rattle.model.specs.Parts.{made}
-use Rattle.instruction.proofs.ControlArms.{step-go, step-jump, step-get-address, step-pop}
-use Rattle.instruction.proofs.SystemArms.{trap-step, save-step, unsave-step, sync-step, swym-step, get-step, trip-step}
+use Rattle.stack.specs.SaveUnsave.{saveIn, unsaveIn}
+use Rattle.stack.proofs.PushPopAnswers.{admissible-placed}
+use Rattle.exceptions.specs.Interrupts.{tripOf}
+use Rattle.instruction.proofs.ArmSteps.{quiet-step, touching-step, only-step}
+use Rattle.instruction.proofs.RefusableArms.{get-step, trap-step}
 use Rattle.instruction.proofs.LoadStoreArms.{ranged-step}
 use Rattle.instruction.proofs.step.by_key.Statement.{statement}
 use Rattle.instruction.proofs.step.by_key.Tie as tie
@@ -20,77 +24,77 @@ unfolding armOf
 returns-2 c =
     let key = c .before .before .before .before in
     let start = key .before .before .before in
-    step-go _ _ (start .pre .0) (start .pre .1) _ _ _ _ _ (made _ _ _ _ _ _) (rw (key .match .keys2)) (c .go-by .ensures _ _ _)
+    quiet-step _ _ (start .pre .0) (start .pre .1) _ _ _ _ _ (made _ _ _ _ _ _) (control (go (lastOf (start .args .op)))) (rw (key .match .keys2)) _ refl refl (c .go-by .ensures _ _ _)
 
 returns-3 : tie.Need-returns-3
 unfolding armOf
 returns-3 c =
     let key = c .before .before .before .before in
     let start = key .before .before .before in
-    step-go _ _ (start .pre .0) (start .pre .1) _ _ _ _ _ (made _ _ _ _ _ _) (rw (key .match .keys3)) (c .go-by2 .ensures _ _ _)
+    quiet-step _ _ (start .pre .0) (start .pre .1) _ _ _ _ _ (made _ _ _ _ _ _) (control (go (lastOf (start .args .op)))) (rw (key .match .keys3)) _ refl refl (c .go-by2 .ensures _ _ _)
 
 returns-4 : tie.Need-returns-4
 unfolding armOf
 returns-4 c =
     let key = c .before .before in
     let start = key .before .before .before in
-    step-jump _ _ (start .pre .0) (start .pre .1) _ _ _ _ _ (made _ _ _ _ _ _) (rw (key .match .keys4)) (c .jump .ensures _ _ _ _ _)
+    quiet-step _ _ (start .pre .0) (start .pre .1) _ _ _ _ _ (made _ _ _ _ _ _) (control (jump (directionOf (start .args .op)))) (rw (key .match .keys4)) _ refl refl (c .jump .ensures _ _ _ _ _)
 
 returns-5 : tie.Need-returns-5
 unfolding armOf
 returns-5 c =
     let key = c .before .before in
     let start = key .before .before .before in
-    step-jump _ _ (start .pre .0) (start .pre .1) _ _ _ _ _ (made _ _ _ _ _ _) (rw (key .match .keys5)) (c .jump2 .ensures _ _ _ _ _)
+    quiet-step _ _ (start .pre .0) (start .pre .1) _ _ _ _ _ (made _ _ _ _ _ _) (control (jump (directionOf (start .args .op)))) (rw (key .match .keys5)) _ refl refl (c .jump2 .ensures _ _ _ _ _)
 
 returns-6 : tie.Need-returns-6
 unfolding armOf
 returns-6 c =
     let key = c .before .before .before .before in
     let start = key .before .before .before in
-    step-get-address _ _ (start .pre .0) (start .pre .1) _ _ _ _ _ (made _ _ _ _ _ _) (rw (key .match .keys6)) (c .get-address .ensures _ _ _)
+    quiet-step _ _ (start .pre .0) (start .pre .1) _ _ _ _ _ (made _ _ _ _ _ _) (control (getAddress (directionOf (start .args .op)))) (rw (key .match .keys6)) _ refl refl (c .get-address .ensures _ _ _)
 
 returns-7 : tie.Need-returns-7
 unfolding armOf
 returns-7 c =
     let key = c .before .before .before .before in
     let start = key .before .before .before in
-    step-get-address _ _ (start .pre .0) (start .pre .1) _ _ _ _ _ (made _ _ _ _ _ _) (rw (key .match .keys7)) (c .get-address2 .ensures _ _ _)
+    quiet-step _ _ (start .pre .0) (start .pre .1) _ _ _ _ _ (made _ _ _ _ _ _) (control (getAddress (directionOf (start .args .op)))) (rw (key .match .keys7)) _ refl refl (c .get-address2 .ensures _ _ _)
 
 returns-8 : tie.Need-returns-8
 unfolding armOf
 returns-8 c =
     let key = c .before .before .before .before .before .before .before in
     let start = key .before .before .before in
-    step-pop _ _ (start .pre .0) (start .pre .1) _ _ _ _ _ (made _ _ _ _ _ _) _ (rw (key .match .keys8)) (c .pop-to-judged .ensures _ _)
+    only-step _ _ (start .pre .0) (start .pre .1) _ _ _ _ _ (made _ _ _ _ _ _) (stack pop) (rw (key .match .keys8)) _ refl _ _ (admissible-placed _ (start .pre .0)) _ refl (c .pop-to-judged .ensures _ _)
 
 returns-9 : tie.Need-returns-9
-unfolding armOf
+unfolding armOf saveIn
 returns-9 c =
     let key = c .before .before .before .before .before .before .before .before .before .before .before in
     let start = key .before .before .before in
-    save-step _ _ (start .pre .0) (start .pre .1) _ _ _ _ _ (made _ _ _ _ _ _) _ (rw (key .match .keys9)) (c .before .before .before .before .save-to-judged .ensures)
+    only-step _ _ (start .pre .0) (start .pre .1) _ _ _ _ _ (made _ _ _ _ _ _) (stack save) (rw (key .match .keys9)) _ refl _ _ (start .pre .0) _ refl (c .before .before .before .before .save-to-judged .ensures)
 
 returns-10 : tie.Need-returns-10
-unfolding armOf
+unfolding armOf unsaveIn
 returns-10 c =
     let key = c .before .before .before .before .before .before .before in
     let start = key .before .before .before in
-    unsave-step _ _ (start .pre .0) (start .pre .1) _ _ _ _ _ (made _ _ _ _ _ _) (rw (key .match .keys10)) (c .unsave-register .ensures _ _)
+    touching-step _ _ (start .pre .0) (start .pre .1) _ _ _ _ _ (made _ _ _ _ _ _) (stack unsave) (rw (key .match .keys10)) _ refl _ (c .unsave-register .ensures _ _)
 
 returns-11 : tie.Need-returns-11
 unfolding armOf
 returns-11 c =
     let key = c .before .before .before in
     let start = key .before .before .before in
-    sync-step _ _ (start .pre .0) (start .pre .1) _ _ _ _ _ (made _ _ _ _ _ _) (rw (key .match .keys11)) (c .synchronize .ensures _ _ _ _)
+    quiet-step _ _ (start .pre .0) (start .pre .1) _ _ _ _ _ (made _ _ _ _ _ _) (system sync) (rw (key .match .keys11)) _ refl refl (c .synchronize .ensures _ _ _ _)
 
 returns-12 : tie.Need-returns-12
 unfolding armOf
 returns-12 c =
     let key = c .before .before in
     let start = key .before .before .before in
-    swym-step _ _ (start .pre .0) (start .pre .1) _ _ _ _ _ (made _ _ _ _ _ _) (rw (key .match .keys12)) (c .skip .ensures _ _ _ _ _)
+    quiet-step _ _ (start .pre .0) (start .pre .1) _ _ _ _ _ (made _ _ _ _ _ _) (system swym) (rw (key .match .keys12)) _ refl refl (c .skip .ensures _ _ _ _ _)
 
 returns-13 : tie.Need-returns-13
 unfolding armOf
@@ -100,11 +104,11 @@ returns-13 c =
     get-step _ _ (start .pre .0) (start .pre .1) _ _ _ _ _ (made _ _ _ _ _ _) (rw (key .match .keys13)) (c .get-special .ensures _)
 
 returns-14 : tie.Need-returns-14
-unfolding armOf
+unfolding armOf tripOf
 returns-14 c =
     let key = c .before .before .before .before .before in
     let start = key .before .before .before in
-    trip-step _ _ (start .pre .0) (start .pre .1) _ _ _ _ _ (made _ _ _ _ _ _) (rw (key .match .keys14)) (c .trip-arm .ensures _)
+    quiet-step _ _ (start .pre .0) (start .pre .1) _ _ _ _ _ (made _ _ _ _ _ _) (system trip) (rw (key .match .keys14)) _ refl refl (c .trip-arm .ensures _)
 
 returns-15 : tie.Need-returns-15
 returns-15 c =

@@ -1,19 +1,23 @@
 -- `dispatch` meets its contract: the branches' question or the key of a call names the arm, and what the arm ensures is the step; the rest is `by_key`'s.
-use mathlib.Core.Path.{sym, _∙_}
+use mathlib.Core.Path.{refl, sym, ap, _∙_}
 use mathlib.Core.Logic.{⊎-elim}
 use borrow.Author.Needs.{needs}
-use Rattle.model.specs.Opcodes.{armOf}
+use Rattle.model.specs.Opcodes.{stack, pushJump, pushGo, directionOf, lastOf, armOf}
+use Rattle.model.specs.Frames.{hole, pushFrame}
 use Rattle.model.specs.Parts.{made, lent}
 use Rattle.decode.proofs.Groups.{branch-arm}
-use Rattle.instruction.proofs.ControlArms.{step-branch, step-push-go, step-push-jump}
+use Rattle.stack.proofs.PushPopAnswers.{admissible-placed}
+use Rattle.instruction.specs.Arms.{branchOf}
+use Rattle.instruction.proofs.ArmSteps.{quiet-step, only-step}
 use Rattle.instruction.proofs.step.dispatch.Statement.{statement}
 use Rattle.instruction.proofs.step.dispatch.Tie as tie
 
 returns : tie.Need-returns
+unfolding branchOf
 returns c =
     let then = c .before .before .before in
     let start = then .before .before .before .before in
-    step-branch _ _ (start .pre .0) (start .pre .1) _ _ _ _ _ (made _ _ _ _ _ _) (branch-arm _ (sym (then .before .is-among .ensures) ∙ then .if1 .taken)) (c .branch .ensures _ _ _ _)
+    quiet-step _ _ (start .pre .0) (start .pre .1) _ _ _ _ _ (made _ _ _ _ _ _) _ (branch-arm _ (sym (then .before .is-among .ensures) ∙ then .if1 .taken)) _ refl refl (c .branch .ensures _ _ _ _)
 
 by-key-requires : tie.Need-by-key-requires
 by-key-requires c κs =
@@ -34,12 +38,12 @@ returns-3 c =
     let s = made (a .general .now) (a .special .now) (a .pc .now) (a .halt .now) (a .marks) (a .mask) in
     let called = pushed .push-to-judged .ensures (a .halt .now) (a .marks) (a .mask) in
     ⊎-elim
-    (λ k. step-push-go w s (start .pre .0) (start .pre .1) _ _ _ _ _ (made _ _ _ _ _ _) _ _ (rw (k .0 .keys1)) (k .3 ∙ k .2 .ensures _ _ _ _ _) called)
+    (λ k. only-step w s (start .pre .0) (start .pre .1) _ _ _ _ _ (made _ _ _ _ _ _) (stack (pushGo (lastOf (a .op)))) (rw (k .0 .keys1)) _ refl _ _ (admissible-placed s (start .pre .0)) _ (ap (pushFrame s (hole s _)) (sym (k .3 ∙ k .2 .ensures _ _ _ _ _))) called)
     (λ o. ⊎-elim
-    (λ k. step-push-go w s (start .pre .0) (start .pre .1) _ _ _ _ _ (made _ _ _ _ _ _) _ _ (rw (k .0 .keys2)) (k .3 ∙ k .2 .ensures _ _ _ _ _) called)
+    (λ k. only-step w s (start .pre .0) (start .pre .1) _ _ _ _ _ (made _ _ _ _ _ _) (stack (pushGo (lastOf (a .op)))) (rw (k .0 .keys2)) _ refl _ _ (admissible-placed s (start .pre .0)) _ (ap (pushFrame s (hole s _)) (sym (k .3 ∙ k .2 .ensures _ _ _ _ _))) called)
     (λ p. ⊎-elim
-    (λ k. step-push-jump w s (start .pre .0) (start .pre .1) _ _ _ _ _ (made _ _ _ _ _ _) _ _ (rw (k .0 .keys3)) (k .3 ∙ k .2 .ensures) called)
-    (λ k. step-push-jump w s (start .pre .0) (start .pre .1) _ _ _ _ _ (made _ _ _ _ _ _) _ _ (rw (k .0 .keys4)) (k .3 ∙ k .2 .ensures) called)
+    (λ k. only-step w s (start .pre .0) (start .pre .1) _ _ _ _ _ (made _ _ _ _ _ _) (stack (pushJump (directionOf (a .op)))) (rw (k .0 .keys3)) _ refl _ _ (admissible-placed s (start .pre .0)) _ (ap (pushFrame s (hole s _)) (sym (k .3 ∙ k .2 .ensures))) called)
+    (λ k. only-step w s (start .pre .0) (start .pre .1) _ _ _ _ _ (made _ _ _ _ _ _) (stack (pushJump (directionOf (a .op)))) (rw (k .0 .keys4)) _ refl _ _ (admissible-placed s (start .pre .0)) _ (ap (pushFrame s (hole s _)) (sym (k .3 ∙ k .2 .ensures))) called)
     p) o)
     (met .match .came)
 
