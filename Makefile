@@ -151,7 +151,11 @@ LISTING = examples/grading/grading.mms
 $(HOSTS): build/%: examples/%.c build/libmmix.a $(HEADERS)
 	@gcc -O2 -std=c99 $(WARNINGS) -Ibuild -o $@ $(filter %.c,$^) build/libmmix.a
 
-build/header_test: $(addprefix examples/header_,inline.c start.c text.c disassemble.c assemble.c points.c numbers.h test.h assemble.h)
+build/header_test: $(addprefix examples/header_,inline.c start.c text.c disassemble.c assemble.c points.c numbers.h test.h assemble.h) build/header_opcodes.h
+
+build/header_opcodes.h: examples/header_opcodes crates/model/specs/Opcodes.antt crates/decode/src/opcode.rt include/mmix.h include/mmix_disassemble.h
+	@mkdir -p build
+	@$< > $@.new && mv $@.new $@
 
 host: need-gcc build/relay_host build/grading
 	@build/relay_host

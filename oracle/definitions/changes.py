@@ -57,6 +57,10 @@ class Change:
         """Which change it is, wherever its line has moved to."""
         return f"{self.whole()}: {self.shown}" + (f" #{self.order}" if self.order else "")
 
+    def anywhere(self):
+        """The same without its file: which change it is where its definition has moved to another file of the crate."""
+        return f"{self.crate} {self.name}: {self.shown}" + (f" #{self.order}" if self.order else "")
+
     def applied(self, source):
         lines = source.split("\n")
         text = lines[self.line - 1]

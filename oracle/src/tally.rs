@@ -19,7 +19,6 @@ fn replies(op: u8) -> &'static [usize] {
         BN..=PBEVB | GO | GOI | JMP | JMPB | GETA | GETAB | SWYM => &[0],
         PUSHGO | PUSHGOI | PUSHJ | PUSHJB => &[0, 6],
         MUL..=SRUI if raises(op) => &[0, 19],
-        MUL..=SRUI => &[0],
         STB..=STOUI if raises(op) => &[0, 6, 19],
         LDB..=LDOUI | STB..=STOUI => &[0, 6],
         TRAP => &[4, 20],
@@ -31,6 +30,7 @@ fn replies(op: u8) -> &'static [usize] {
         SYNC => &[0, 17, 18],
         GET => &[0, 5],
         TRIP => &[0, 19],
+        _ if is_added(op) => &[0],
         _ => &[3],
     }
 }

@@ -10,7 +10,7 @@ use borrow.Author.Tests.{eq-eqb, ne-eqb}
 use Rattle.model.specs.Memory.{Windows, shapesOf, putOcta, both}
 use Rattle.model.specs.Plan.{Plan, answer, read, perform, worst, named, look, looks, puts}
 use Rattle.model.specs.Registers.{withParts, reg, admissible, setRegister}
-use Rattle.model.specs.Opcodes.{firstBranch, lastBranch, firstLoad, lastLoad, firstStore, lastStore, firstArithmetic, lastArithmetic, opPUT, opPUTI, operationOf, firstOf, among, widthOf, signOf, lastOf, load, store, arithmetic, put, armOf, memory, system}
+use Rattle.model.specs.Opcodes.{firstLoad, lastLoad, firstStore, lastStore, firstArithmetic, lastArithmetic, opPUT, opPUTI, operationOf, firstOf, among, widthOf, signOf, lastOf, Arm, none, armOf}
 use Rattle.model.specs.Control.{sumOf}
 use Rattle.model.specs.Trips.{wordOf, raised}
 use Rattle.model.specs.LoadStore.{operandIn, merged, extended, fits, loadFrom, flagV, storeSays, storeTo}
@@ -23,14 +23,14 @@ use Rattle.model.specs.declared.Reply.the-variants.{Done, Missing}
 use Rattle.model.proofs.ArmAnswers.{worst-six}
 use Rattle.model.proofs.Entry.{step-open}
 use Rattle.model.proofs.StepByArm.{step-told, step-refused}
-use Rattle.decode.proofs.Groups.{Missed, load-arm, store-arm, arithmetic-arm}
+use Rattle.decode.proofs.Groups.{load-arm, store-arm, arithmetic-arm}
 use Rattle.exceptions.specs.Told.{Told}
 use Rattle.exceptions.proofs.PcAndHalt.{next-is}
 use Rattle.instruction.specs.NoMemoryArms.{arithmeticOf, putOf}
 use Rattle.instruction.specs.StepAnswer.{Whole}
-use Rattle.instruction.specs.Arms.{NoCall, carriedOut, loadOf, storeOf, telling, rangedOf}
+use Rattle.instruction.specs.Arms.{carriedOut, loadOf, storeOf, telling, rangedOf}
 use Rattle.instruction.proofs.ArmSteps.{said-step, touching-step}
-use Rattle.instruction.proofs.Keys.{keys, put-arm, no-arm}
+use Rattle.instruction.proofs.Keys.{put-arm}
 
 -- ---- one octabyte, read first
 
@@ -86,11 +86,18 @@ module _ (w : Windows) (s : State) (op x y z a : ℕ) (h : a ≡ sumOf s (lastOf
 
 -- ---- the step
 
+-- an opcode of none of the ranges, the branches apart
+pub record OutOfRange (op : ℕ) : Type 0 where
+  pub no-load : among firstLoad lastLoad op ≡ false
+  pub no-store : among firstStore lastStore op ≡ false
+  pub no-arithmetic : among firstArithmetic lastArithmetic op ≡ false
+  pub no-put : among opPUT opPUTI op ≡ false
+
 module _ (w : Windows) (s : State) (a : admissible s ≡ true) (u : unruledBy (shapesOf w) ≡ 0) (op x y z : ℕ) (r : Reply) (t : State) where
-  -- an opcode that is no branch, no call and no key of the choice
-  pub ranged-step : (v : Windows) → among firstBranch lastBranch op ≡ false → NoCall op → Missed keys op → Whole (rangedOf w s op x y z) r t v → Whole (stepOf w s op x y z) r t v
+  -- an opcode that has no arm outside the ranges
+  pub ranged-step : (v : Windows) → (OutOfRange op → armOf op ≡ none) → Whole (rangedOf w s op x y z) r t v → Whole (stepOf w s op x y z) r t v
   unfolding rangedOf
-  ranged-step v b n m = go (among firstLoad lastLoad op) (among firstStore lastStore op) (among firstArithmetic lastArithmetic op) (among opPUT opPUTI op) refl refl refl refl
+  ranged-step v n = go (among firstLoad lastLoad op) (among firstStore lastStore op) (among firstArithmetic lastArithmetic op) (among opPUT opPUTI op) refl refl refl refl
     where
       go : (p q k o : Bool) → among firstLoad lastLoad op ≡ p → among firstStore lastStore op ≡ q → among firstArithmetic lastArithmetic op ≡ k → among opPUT opPUTI op ≡ o
           → Whole (cond p (loadOf w s op x y z) (cond q (storeOf w s op x y z)
@@ -100,4 +107,6 @@ module _ (w : Windows) (s : State) (a : admissible s ≡ true) (u : unruledBy (s
       go false true k o e f g d h = touching-step w s a u op x y z r t _ (store-arm op f) _ refl v h
       go false false true o e f g d h = said-step w s a u op x y z r t _ (arithmetic-arm op g) _ refl refl v h
       go false false false true e f g d h = said-step w s a u op x y z r t _ (put-arm op d) _ refl refl v h
-      go false false false false e f g d h = rw (step-refused w s a u op x y z 3 (unfold refusalOf in (rw (no-arm op b e f g d n m))) (omega arith)) h
+      go false false false false e f g d h =
+          rw (step-refused w s a u op x y z 3
+          (ap (λ (i : Arm). refusalOf i x y z) (n (record { no-load = e; no-store = f; no-arithmetic = g; no-put = d })) ∙ (unfold refusalOf in refl)) (omega arith)) h

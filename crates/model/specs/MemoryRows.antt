@@ -15,7 +15,7 @@ use Rattle.model.specs.Rules.{After, readRule, sumRule, loadRule, storeR
 use Rattle.model.specs.Row.{Of, Row, touching, Raise, Raises, never, raises, raisedIf, sumRead}
 use Rattle.model.specs.declared.State.{State}
 
--- "A is ($Y + $Z or Z) modulo 2^64"
+-- the address is $Y + $Z, or $Y + Z, modulo 2^64
 abbrev pub memoryPlan : MemoryArm → Of (Plan State)
 memoryPlan (load d g o) s op x y z = loadFrom s d g x (sumOf s o y z)
 memoryPlan (store d g o) s op x y z = storeTo s d g x (sumOf s o y z) (wordOf op x y z)

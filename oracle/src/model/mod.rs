@@ -119,6 +119,11 @@ fn judged(memory: &Memory) -> Option<u64> {
     memory.shares().then_some(22)
 }
 
+/// Whether the opcode has an arm: whether a step of it, in the fresh state and with nothing lent, is anything but 3.
+pub fn has_arm(op: u8) -> bool {
+    step(Bases { a: 0, b: 0 }, Instruction { op, x: 0, y: 0, z: 0 }, &fresh(), &[], &[]).reply != 3
+}
+
 /// Judge 1, 2 and 22, then do the step.
 fn step(at: Bases, i: Instruction, state: &State, a: &[u8], b: &[u8]) -> Outcome {
     let memory = Memory::of(at, a, b);

@@ -1,6 +1,12 @@
 -- `by_key` meets its contract: the key that matched names the arm, and what the arm ensures is the step; no key, then a range's arm or none.
-use mathlib.Core.Path.{refl}
+use mathlib.Core.Path.{_≡_, refl}
+use mathlib.Core.Bool.{false}
+use mathlib.Core.List.{List, [], _∷_}
+use Prim.Native.Nat.{ℕ}
+use borrow.Author.Tests.{ne-eqb}
 use borrow.Author.Needs.{needs}
+use Rattle.model.specs.Opcodes.{opTRAP, opGO, opGOI, opPUSHGO, opPUSHGOI, opJMP, opJMPB, opPUSHJ, opPUSHJB, opGETA, opGETAB, opPUT, opPUTI}
+use Rattle.model.specs.Opcodes.{opPOP, opSAVE, opUNSAVE, opSYNC, opSWYM, opGET, opTRIP, firstBranch, lastBranch, among, none}
 use Rattle.model.specs.Opcodes.{control, go, jump, getAddress, stack, pop, save, unsave, system, sync, swym, trip, directionOf, lastOf, armOf}
 use Rattle.model.specs.Parts.{made}
 use Rattle.stack.specs.SaveUnsave.{saveIn, unsaveIn}
@@ -8,9 +14,34 @@ use Rattle.stack.proofs.PushPopAnswers.{admissible-placed}
 use Rattle.exceptions.specs.Interrupts.{tripOf}
 use Rattle.instruction.proofs.ArmSteps.{quiet-step, touching-step, only-step}
 use Rattle.instruction.proofs.RefusableArms.{get-step, trap-step}
-use Rattle.instruction.proofs.LoadStoreArms.{ranged-step}
+use Rattle.decode.proofs.Groups.{Missed, missed}
+use Rattle.instruction.specs.Arms.{NoCall}
+use Rattle.instruction.proofs.Keys.{outside}
+use Rattle.instruction.proofs.LoadStoreArms.{OutOfRange, ranged-step}
 use Rattle.instruction.proofs.step.by_key.Statement.{statement}
 use Rattle.instruction.proofs.step.by_key.Tie as tie
+
+-- the keys in their order: what is none of them, no branch, no call and in no range has no arm
+abbrev keys : List ℕ
+keys = opTRAP ∷ opGO ∷ opGOI ∷ opJMP ∷ opJMPB ∷ opGETA ∷ opGETAB
+    ∷ opPOP ∷ opSAVE ∷ opUNSAVE ∷ opSYNC ∷ opSWYM ∷ opGET ∷ opTRIP ∷ []
+
+no-arm : (op : ℕ) → among firstBranch lastBranch op ≡ false → NoCall op → Missed keys op → OutOfRange op → armOf op ≡ none
+unfolding armOf
+no-arm op b n m r =
+    simp (
+      b,
+      r .no-load,
+      r .no-store,
+      r .no-arithmetic,
+      outside op opPUT opPUTI opPUT refl (r .no-put),
+      outside op opPUT opPUTI opPUTI refl (r .no-put),
+      ne-eqb op opPUSHGO (n .0),
+      ne-eqb op opPUSHGOI (n .1),
+      ne-eqb op opPUSHJ (n .2),
+      ne-eqb op opPUSHJB (n .3),
+      missed keys op m,
+    )
 
 returns : tie.Need-returns
 unfolding armOf
@@ -115,7 +146,7 @@ returns-15 c =
     let call = c .before .before .before .before in
     let rest = call .before .before .before .before .before .before .before in
     let start = rest .before .before .before in
-    ranged-step _ _ (start .pre .0) (start .pre .1) _ _ _ _ _ (made _ _ _ _ _ _) _ (start .pre .2) (start .pre .3) (rest .match .rest) (call .by-range .ensures)
+    ranged-step _ _ (start .pre .0) (start .pre .1) _ _ _ _ _ (made _ _ _ _ _ _) _ (no-arm _ (start .pre .2) (start .pre .3) (rest .match .rest)) (call .by-range .ensures)
 
 pub by-key-spec : {M : Type 1} → statement M
 by-key-spec = tie.close (tie.spec (λ c κs. search needs) (λ c κs. search needs) (λ c κs. search needs) (λ c κs. search needs) (λ c κs. search needs) (λ c κs. search needs) (λ c κs. search needs) (λ c κs. search needs) (λ c κs. search needs) (λ c κs. search needs) (λ c κs. search needs) (λ c κs. search needs) (λ c κs. search needs) (λ c κs. search needs) (λ c κs. search needs) returns returns-2 returns-3 returns-4 returns-5 returns-6 returns-7 (λ c. search needs) (λ c. search needs) returns-8 (λ c. search needs) (λ c. search needs) returns-9 (λ c. search needs) (λ c. search needs) returns-10 returns-11 returns-12 returns-13 returns-14 (λ c. search needs) (λ c. search needs) returns-15)
