@@ -63,11 +63,6 @@ pub data Row : Type 0 where
 
 -- ---- what a row says
 
--- it touches no memory
-abbrev pub isQuiet : Row → Bool
-isQuiet (quiet q) = true
-isQuiet (touching t) = false
-
 abbrev pub refusalIn : Row → ℕ → ℕ → ℕ → ℕ
 refusalIn (quiet q) x y z = refusalNumber (q .refusal x y z)
 refusalIn (touching t) x y z = 0

@@ -11,7 +11,7 @@ use Rattle.model.specs.Memory.{Windows, shapesOf, holder, inside}
 use Rattle.model.specs.Plan.{ups}
 use Rattle.model.specs.Registers.{rO, rG, rL, sp, reg, admissible, withSpecial, cleared, isMarginal, claimLocal}
 use Rattle.model.specs.Opcodes.{tetra, Arm, armOf}
-use Rattle.model.specs.Row.{Row, quiet, touching, isQuiet, refusalIn, needsIn}
+use Rattle.model.specs.Row.{Row, quiet, touching, refusalIn, needsIn}
 use Rattle.model.specs.Rows.{rowOf}
 use Rattle.model.specs.Opcodes.{firstLoad, lastLoad, firstStore, lastStore, opPUSHGO, opPUSHGOI, opPUSHJ, opPUSHJB, opPOP, opSAVE, opUNSAVE, among, lastOf}
 use Rattle.model.specs.Control.{sumOf}
@@ -33,6 +33,10 @@ use Rattle.studies.proofs.AnyForeign.{or-none, any-one}
 use Rattle.turns.proofs.Asks.{differ, asks-last}
 
 -- ---- arms that need nothing
+
+abbrev isQuiet : Row → Bool
+isQuiet (quiet q) = true
+isQuiet (touching t) = false
 
 unfoldable silent : Arm → Bool
 silent a = isQuiet (rowOf a)
