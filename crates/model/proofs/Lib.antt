@@ -73,3 +73,5 @@ pub mod SeenArms
 pub mod Unseen
 pub mod Instance
 pub mod DepartureInstance
+pub mod WasSame
+pub mod WasRead
