@@ -73,5 +73,3 @@ pub mod SeenArms
 pub mod Unseen
 pub mod Instance
 pub mod DepartureInstance
-pub mod WasSame
-pub mod WasRead
