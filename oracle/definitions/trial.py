@@ -1,4 +1,5 @@
 """Changes tried: a copy of a crate with a change in it, checked."""
+import glob
 import os
 import re
 import shutil
@@ -51,8 +52,8 @@ def computed(crate):
     names = {name for text in stated for name in text.split(" × ")}
     found = []
     for name in sorted(names):
-        for file in sorted(os.listdir(os.path.join(crate, "specs"))):
-            body = re.search(rf"^{name} = (.*)$", read(os.path.join(crate, "specs", file)), re.M)
+        for file in sorted(glob.glob(os.path.join(crate, "specs", "**", "*.antt"), recursive=True)):
+            body = re.search(rf"^{name} = (.*)$", read(file), re.M)
             for part in body.group(1).split(" × ") if body else ():
                 match = re.fullmatch(r"\(?(\w+(?: \w+)?) ≡ true\)?", part)
                 if not match:

@@ -1,2 +1,3 @@
 pub mod Image
-pub mod ImagePoints
+-- computed examples
+pub mod points

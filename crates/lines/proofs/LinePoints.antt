@@ -14,7 +14,7 @@ use Rattle.text.specs.Text.{glyph, numeral, filled, badLine, badText}
 use Rattle.lines.specs.Line.{fitsByte, fits, head, bases, middle, close, pointForm, digitsAt, hexAt, octasA, octasB, isForm, stateDigits, oldStateDigits, octasMax, oldOctasMax, isNew, isOld, isShort, isShortOld, isPoint, widthsOf, padded, widened, renewed}
 use Rattle.lines.specs.PointLine.{hexOf, digitsOf, inForm, pointDigits}
 use Rattle.lines.specs.Stream.{printedLines}
-use Rattle.lines.specs.LinePoints.{formMet, LinePointsMet, LengthLimits}
+use Rattle.lines.specs.points.LinePoints.{formMet, LinePointsMet, LengthLimits}
 
 pub line-points-met : LinePointsMet
 unfolding formMet inForm pointDigits hexOf digitsOf pointForm head bases middle close codes glyph numeral filled badLine badText widthsOf isNew isOld isShort isShortOld isForm octasA octasB hexAt digitsAt digitOf numberOf within fits fitsByte renewed widened padded printedLines pieces lineLength isPoint

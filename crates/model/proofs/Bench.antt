@@ -25,15 +25,15 @@ use Rattle.model.specs.Field.{fieldAt, fieldOf, answerOf}
 use Rattle.model.specs.Rules.{readRule, pushRule, belowTop, poppedRule, popHoleRule, popAnyRule, unsavedGeneralRule, unsavedSpecialRule, unsavedRule, unsaveRestRule, unsaveCountRule, unsaveRule, loadRule, storeState, storeRule, withAddedRule, raisedRule, exceptionRule, counted, arithmeticRule}
 use Rattle.model.specs.StepRule.{ruleOf, stepRule}
 use Rattle.model.specs.Bench.{start, shows, met, allMet, points, PointsMet}
-use Rattle.model.specs.Points.{ruledShapes, numbered, freshIs, freshAtIs, readerPoints, morePoints, MorePointsMet}
-use Rattle.model.specs.LoadStorePoints.{loadStorePoints, LoadStorePointsMet}
-use Rattle.model.specs.WindowPoints.{windowReads, windowPoints, WindowPointsMet}
-use Rattle.model.specs.FieldPoints.{fieldPoints, allFound, FieldPointsMet}
-use Rattle.model.specs.ExceptionExamples.{shownException, allShownExceptions, exceptionExamples}
-use Rattle.model.specs.DepartureExamples.{shown, allShown, examples, cutExamples, countExample, ExamplesShown}
+use Rattle.model.specs.points.StepPoints.{ruledShapes, numbered, freshIs, freshAtIs, readerPoints, morePoints, MorePointsMet}
+use Rattle.model.specs.points.LoadStorePoints.{loadStorePoints, LoadStorePointsMet}
+use Rattle.model.specs.points.WindowPoints.{windowReads, windowPoints, WindowPointsMet}
+use Rattle.model.specs.points.FieldPoints.{fieldPoints, allFound, FieldPointsMet}
+use Rattle.model.specs.points.ExceptionExamples.{shownException, allShownExceptions, exceptionExamples}
+use Rattle.model.specs.points.DepartureExamples.{shown, allShown, examples, cutExamples, countExample, ExamplesShown}
 use Rattle.model.specs.ArithmeticStep.{withResults, arithmeticSays}
-use Rattle.model.specs.ArithmeticStepPoints.{arithmeticStepPoints, ArithmeticStepPointsMet}
-use Rattle.model.specs.ArithmeticPoints.{allSame, arithmeticPoints, ArithmeticPointsMet}
+use Rattle.model.specs.points.ArithmeticStepPoints.{arithmeticStepPoints, ArithmeticStepPointsMet}
+use Rattle.model.specs.points.ArithmeticPoints.{allSame, arithmeticPoints, ArithmeticPointsMet}
 
 computed : PointsMet × MorePointsMet × ExamplesShown × LoadStorePointsMet × FieldPointsMet × ArithmeticPointsMet × ArithmeticStepPointsMet × WindowPointsMet
 unfolding leadingZeros over indexed within tab octa part written valueOf bytesOf hideable hides admissible fresh goes halted withSpecial freshAt cleared claimLocal stored setRegister putLocals putGlobals spilled shapeOf ruledOne offset has octaBytes writeOcta shapesOf holder inside octaAt putOcta both ruled shares worst named look looks puts perform conditionOf armOf tell targetOf holds hole framed slid slide pushedRule pushed pushFrame countOf lastOutput restored unslide popped popTo popRule noFrame misplaced popFrame savedSpecial saved savedUnspilled savedState saveContext unsavedGeneral unsavedSpecial unsavedUnspilled unsaved contextRest contextCount contextAt unsaveContext putRefusal putState unlessHidden putSpecial got getSpecial syncOf interrupted tripRule tripTo trapOf added withAdded raised stepOn runs refusalOf unruledBy judged refusing planOf guarded fromThree stepPlan exceptionOf itemPlan mmix start shows met allMet points framedRule gotRule trapRule leftmost exactUnderflow addedRule mapPlan stepOf readRule pushRule belowTop poppedRule popHoleRule popAnyRule unsavedGeneralRule unsavedSpecialRule unsavedRule unsaveRestRule unsaveCountRule unsaveRule ruleOf stepRule withAddedRule raisedRule exceptionRule ruledShapes numbered freshIs freshAtIs readerPoints spanOf heldBy across partAt handed readContext morePoints shown allShown shownException allShownExceptions examples exceptionExamples cutExamples countExample counted widthOf signOf bytesIn unitAt operandIn merged extended fits loadFrom storeSays storeTo loadRule storeState storeRule loadStorePoints numberOf fieldAt fieldOf answerOf fieldPoints allFound signedOf octaOf isSigned productHigh productLow floorBy floorQuotient floorRemainder compared powerOf divided dividedWide resultsOf allSame arithmeticPoints operationOf firstOf withResults arithmeticSays arithmeticRule arithmeticStepPoints windowReads windowPoints

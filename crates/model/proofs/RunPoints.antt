@@ -21,8 +21,8 @@ use Rattle.model.specs.Lists.{stepOn, runs}
 use Rattle.model.specs.Step.{refusalOf, unruledBy, refusing, planOf, guarded, fromThree, stepPlan, claims, tetraAt, keepsClaim, settledBy, takenBack, instructionPlan, tetraPlan, fetchedPlan, exceptionOf, itemPlan, mmix}
 use Rattle.model.specs.Run.{runFor, runOf}
 use Rattle.model.specs.Bench.{start, shows, met, allMet}
-use Rattle.model.specs.RunPoints.{stops, allStop, runPoints, unclaimedPoints, claimEnds, RunPointsMet}
-use Rattle.model.specs.HiddenPoints.{masksTaken, hiddenPoints, hiddenRuns, HiddenPointsMet}
+use Rattle.model.specs.points.RunPoints.{stops, allStop, runPoints, unclaimedPoints, claimEnds, RunPointsMet}
+use Rattle.model.specs.points.HiddenPoints.{masksTaken, hiddenPoints, hiddenRuns, HiddenPointsMet}
 
 computed : RunPointsMet × HiddenPointsMet
 unfolding leadingZeros over indexed within tab octa part written valueOf bytesOf hideable hides admissible fresh goes halted withSpecial cleared claimLocal stored setRegister putLocals putGlobals spilled shapeOf ruledOne offset has octaBytes writeOcta shapesOf inside octaAt putOcta both ruled shares worst named look looks puts perform operationOf firstOf widthOf signOf conditionOf armOf tell targetOf holds hole framed slid slide pushedRule pushed pushFrame countOf lastOutput restored unslide popped popTo popRule noFrame misplaced popFrame saveContext got getSpecial interrupted tripRule tripTo trapOf leftmost added withAdded raised bytesIn unitAt operandIn extended loadFrom signedOf octaOf isSigned floorBy floorQuotient floorRemainder divided resultsOf withResults arithmeticSays stepOn runs refusalOf unruledBy refusing planOf guarded fromThree stepPlan claims tetraAt keepsClaim settledBy takenBack instructionPlan tetraPlan fetchedPlan itemPlan mmix runFor runOf start shows met allMet stops allStop runPoints unclaimedPoints claimEnds putRefusal putState unlessHidden putSpecial exceptionOf masksTaken hiddenPoints hiddenRuns

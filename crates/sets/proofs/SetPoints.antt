@@ -7,7 +7,7 @@ use Rattle.model.specs.System.{putRefusal, putState}
 use Rattle.model.specs.Bench.{start}
 use Rattle.machine.specs.Octabytes.{octas}
 use Rattle.sets.specs.Sets.{putPairs, allOrNone, putSetOf, pairsOf, pairsIn}
-use Rattle.sets.specs.SetPoints.{gives, allGive, setPoints, SetPointsMet}
+use Rattle.sets.specs.points.SetPoints.{gives, allGive, setPoints, SetPointsMet}
 
 pub set-points-met : SetPointsMet
 unfolding over indexed within part valueOf bytesOf admissible fresh halted withSpecial cleared stored putLocals putGlobals putRefusal putState start octas putPairs allOrNone putSetOf pairsOf pairsIn gives allGive setPoints

@@ -1,4 +1,5 @@
 pub mod Sets
 pub mod SetMeant
 pub mod Judged
-pub mod SetPoints
+-- computed examples
+pub mod points

@@ -16,12 +16,12 @@ use Rattle.model.specs.Lists.{stepOn}
 use Rattle.model.specs.Step.{refusalOf, unruledBy, refusing, planOf, guarded, fromThree, claims, tetraAt, keepsClaim, settledBy, takenBack, instructionPlan, tetraPlan, fetchedPlan, itemPlan, mmix}
 use Rattle.model.specs.Run.{runFor, runOf}
 use Rattle.model.specs.Bench.{start}
-use Rattle.model.specs.RunPoints.{stops, allStop}
+use Rattle.model.specs.points.RunPoints.{stops, allStop}
 use Rattle.studies.specs.Tasks.{owns, foreign, refusingIn, turnJudge, turnPlan, studies}
 use Rattle.studies.specs.Schedule.{countBy, refusalBy, anyRuns, turnOf, turnsFrom, rounds, callBy}
 use Rattle.studies.specs.Call.{eachBelow, partRuled, overlaps, partClear, tasksRuled, allAdmissible, callRefusal, turnRun, callOf, tasksOf}
-use Rattle.studies.specs.TaskPoints.{works, allWork}
-use Rattle.studies.specs.ParkedPoints.{parkedPoints, unparkedRuns, ParkedPointsMet}
+use Rattle.studies.specs.points.TaskPoints.{works, allWork}
+use Rattle.studies.specs.points.ParkedPoints.{parkedPoints, unparkedRuns, ParkedPointsMet}
 
 pub parked-points-met : ParkedPointsMet
 unfolding over indexed within tab octa part written valueOf bytesOf hideable hides admissible fresh goes halted withSpecial cleared claimLocal stored setRegister putLocals putGlobals spilled shapeOf ruledOne offset has octaBytes writeOcta shapesOf inside octaAt putOcta both ruled shares mapPlan worst named look looks puts perform armOf tell targetOf hole framed slid slide pushedRule pushed pushFrame savedSpecial saved savedUnspilled savedState saveContext unsavedGeneral unsavedSpecial unsavedUnspilled unsaved contextRest contextCount contextAt unsaveContext putRefusal putState unlessHidden putSpecial bytesIn unitAt operandIn stepOn refusalOf unruledBy refusing planOf guarded fromThree claims tetraAt keepsClaim settledBy takenBack instructionPlan tetraPlan fetchedPlan itemPlan mmix runFor runOf start stops allStop owns foreign refusingIn turnJudge turnPlan studies countBy refusalBy anyRuns turnOf turnsFrom rounds callBy eachBelow partRuled overlaps partClear tasksRuled allAdmissible callRefusal turnRun callOf tasksOf works allWork parkedPoints unparkedRuns

@@ -17,7 +17,7 @@ use Rattle.model.specs.Bench.{start}
 use Rattle.studies.specs.Tasks.{owns, foreign, refusingIn, turnJudge, turnPlan, studies}
 use Rattle.studies.specs.Schedule.{countBy, refusalBy, anyRuns, turnOf, turnsFrom, rounds, callBy}
 use Rattle.studies.specs.Call.{eachBelow, partRuled, overlaps, partClear, tasksRuled, allAdmissible, callRefusal, turnRun, callOf, tasksOf}
-use Rattle.studies.specs.TaskPoints.{works, allWork, taskPoints, TaskPointsMet}
+use Rattle.studies.specs.points.TaskPoints.{works, allWork, taskPoints, TaskPointsMet}
 
 pub task-points-met : TaskPointsMet
 unfolding over indexed within tab octa part written valueOf bytesOf hideable hides admissible fresh goes halted withSpecial cleared claimLocal stored setRegister spilled shapeOf ruledOne offset has octaBytes writeOcta shapesOf inside octaAt putOcta both ruled shares mapPlan worst named look looks puts perform armOf tell targetOf hole framed slid slide pushedRule pushed pushFrame bytesIn unitAt operandIn stepOn refusalOf unruledBy refusing planOf guarded fromThree claims tetraAt keepsClaim settledBy takenBack instructionPlan tetraPlan fetchedPlan itemPlan runFor start owns foreign refusingIn turnJudge turnPlan studies countBy refusalBy anyRuns turnOf turnsFrom rounds callBy eachBelow partRuled overlaps partClear tasksRuled allAdmissible callRefusal turnRun callOf tasksOf works allWork taskPoints

@@ -9,5 +9,5 @@ pub mod Anywhere
 pub mod ParkedAnywhere
 pub mod Lent
 pub mod CallApart
-pub mod TaskPoints
-pub mod ParkedPoints
+-- computed examples
+pub mod points

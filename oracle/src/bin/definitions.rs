@@ -150,7 +150,8 @@ fn definitions(folder: &str) -> std::io::Result<Vec<(String, String)>> {
 
 /// The names that a definition's file has for antt to open.
 fn opened(text: &str) -> Vec<&str> {
-    text.lines().filter_map(|line| line.trim().strip_prefix("unfoldable pub ")?.split(" : ").next()).collect()
+    let names = text.lines().filter_map(|line| line.trim().strip_prefix("unfoldable pub ")?.split(" : ").next());
+    names.filter(|name| !name.starts_with("use ")).collect()
 }
 
 /// The proofs of one part: every definition is opened, and antt computes.

@@ -9,7 +9,7 @@ use Rattle.model.specs.Memory.{Windows}
 use Rattle.model.specs.Registers.{rB, rD, rE, rH, rJ, rM, rR, rBB, rC, rN, rO, rS, rI, rT, rTT, rK, rQ, rU, rV, rG, rL, rA, rF, rP, rW, rX, rY, rZ, rWW, rXX, rYY, rZZ, stackStart, sp, admissible, masked, goes, halted, withSpecial, stored}
 use Rattle.model.specs.Step.{Item, step, exception, fetched}
 use Rattle.model.specs.Bench.{Point, allMet, start}
-use Rattle.model.specs.RunPoints.{RunPoint, allStop, alls}
+use Rattle.model.specs.points.RunPoints.{RunPoint, allStop, alls}
 use Rattle.model.specs.declared.State.{State}
 
 -- ---- masks of one bit

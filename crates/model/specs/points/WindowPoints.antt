@@ -10,8 +10,8 @@ use Rattle.model.specs.Memory.{Windows}
 use Rattle.model.specs.Registers.{rJ, rO, rS, rG, rL, rZ, stackStart, goes, withSpecial, stored}
 use Rattle.model.specs.Step.{Item, step}
 use Rattle.model.specs.Bench.{Point, allMet, start}
-use Rattle.model.specs.Points.{reads}
-use Rattle.model.specs.LoadStorePoints.{minus}
+use Rattle.model.specs.points.StepPoints.{reads}
+use Rattle.model.specs.points.LoadStorePoints.{minus}
 use Rattle.model.specs.declared.State.{State}
 
 -- the bytes of some octabytes

@@ -8,7 +8,7 @@ use Rattle.model.specs.Memory.{Windows}
 use Rattle.model.specs.Registers.{rB, rD, rH, rJ, rR, rL, rA, rW, rX, rY, rZ, stackStart, goes, halted, withSpecial, stored}
 use Rattle.model.specs.Step.{step}
 use Rattle.model.specs.Bench.{Point, allMet, start, stackAlone}
-use Rattle.model.specs.LoadStorePoints.{minus}
+use Rattle.model.specs.points.LoadStorePoints.{minus}
 use Rattle.model.specs.declared.State.{State}
 
 abbrev nowhere : Windows

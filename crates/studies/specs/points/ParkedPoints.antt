@@ -8,10 +8,10 @@ use lib.ListN.{replicate}
 use Rattle.model.specs.Octa.{bytesOf}
 use Rattle.model.specs.Memory.{Windows}
 use Rattle.model.specs.Registers.{rJ, rO, rS, rG, rL, rZ, stackStart, goes, withSpecial, stored}
-use Rattle.model.specs.RunPoints.{RunPoint, allStop}
+use Rattle.model.specs.points.RunPoints.{RunPoint, allStop}
 use Rattle.model.specs.Bench.{start}
 use Rattle.model.specs.declared.State.{State}
-use Rattle.studies.specs.TaskPoints.{TaskPoint, allWork}
+use Rattle.studies.specs.points.TaskPoints.{TaskPoint, allWork}
 
 abbrev octas : List ℕ → List ℕ
 octas [] = []
