@@ -264,30 +264,24 @@ numbered = sameList
     ∷ rQ ∷ rU ∷ rV ∷ rG ∷ rL ∷ rA ∷ rF ∷ rP ∷ rW ∷ rX ∷ rY ∷ rZ ∷ rWW ∷ rXX ∷ rYY ∷ rZZ ∷ [])
     (tab 0 32 (λ k. k))
 
-unfoldable pub freshIs : Bool
-freshIs = sameState fresh (record {
+-- number by number, with the stack at a; elsewhere rO and rS alone are others
+abbrev freshWritten : ℕ → State
+freshWritten a = record {
   general = replicate 256 0;
-  special = 0 ∷ 0 ∷ 0 ∷ 0 ∷ 0 ∷ 0 ∷ 0 ∷ 0 ∷ 0 ∷ 2009 ∷ 0x6000000000000000 ∷ 0x6000000000000000 ∷ 0
+  special = 0 ∷ 0 ∷ 0 ∷ 0 ∷ 0 ∷ 0 ∷ 0 ∷ 0 ∷ 0 ∷ 2009 ∷ a ∷ a ∷ 0
       ∷ 0x8000000500000000 ∷ 0x8000000600000000 ∷ 0xFFFFFFFFFFFFFFFF ∷ 0 ∷ 0 ∷ 0x369C200400000000 ∷ 32
       ∷ 0 ∷ 0 ∷ 0 ∷ 0 ∷ 0 ∷ 0 ∷ 0 ∷ 0 ∷ 0 ∷ 0 ∷ 0 ∷ 0 ∷ [];
   pc = 0;
   halt = 0;
   marks = 0;
   mask = 0;
-})
+}
 
--- with the stack elsewhere rO and rS alone are others
+unfoldable pub freshIs : Bool
+freshIs = sameState fresh (freshWritten 0x6000000000000000)
+
 unfoldable pub freshAtIs : Bool
-freshAtIs = sameState (freshAt stackStart) fresh && sameState (freshAt 0xFEDCBA9876543210) (record {
-  general = replicate 256 0;
-  special = 0 ∷ 0 ∷ 0 ∷ 0 ∷ 0 ∷ 0 ∷ 0 ∷ 0 ∷ 0 ∷ 2009 ∷ 0xFEDCBA9876543210 ∷ 0xFEDCBA9876543210 ∷ 0
-      ∷ 0x8000000500000000 ∷ 0x8000000600000000 ∷ 0xFFFFFFFFFFFFFFFF ∷ 0 ∷ 0 ∷ 0x369C200400000000 ∷ 32
-      ∷ 0 ∷ 0 ∷ 0 ∷ 0 ∷ 0 ∷ 0 ∷ 0 ∷ 0 ∷ 0 ∷ 0 ∷ 0 ∷ 0 ∷ [];
-  pc = 0;
-  halt = 0;
-  marks = 0;
-  mask = 0;
-})
+freshAtIs = sameState (freshAt stackStart) fresh && sameState (freshAt 0xFEDCBA9876543210) (freshWritten 0xFEDCBA9876543210)
 
 -- ---- the reader: a context of 15 octabytes, rG 255, in a window of 17; none in an empty window, and in one that breaks its rule
 
