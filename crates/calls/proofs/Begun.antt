@@ -16,7 +16,7 @@ use Rattle.model.specs.Run.{Stopped, runFor, tried, grantMost, runOf}
 use Rattle.model.specs.declared.State.{State}
 use Rattle.model.proofs.Bools.{on-both}
 use Rattle.model.proofs.SeenArms.{by-test}
-use Rattle.model.proofs.Leaves.{replies-leave}
+use Rattle.model.proofs.RepliesLeft.{replies-leave}
 use Rattle.model.proofs.Invariants.{items-keep}
 use Rattle.model.proofs.RunLaws.{run-by}
 use Rattle.model.proofs.RunMeant.{fetched-on}

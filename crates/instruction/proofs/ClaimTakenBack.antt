@@ -24,10 +24,10 @@ use Rattle.model.proofs.Bools.{on, each, at-each, or-left, or-right}
 use Rattle.model.proofs.Fill.{length-over, over-in, over-below, over-above, lt-or-le}
 use Rattle.model.proofs.Numbers.{unhalting}
 use Rattle.model.proofs.ItemInvariant.{Any}
-use Rattle.model.proofs.ArmAnswers.{perform-meets}
+use Rattle.model.proofs.StepAnswers.{perform-meets}
 use Rattle.model.proofs.ArmReplies.{three-replies}
 use Rattle.model.proofs.AdmissibleKept.{adm, claim-good}
-use Rattle.model.proofs.Leaves.{replies-leave}
+use Rattle.model.proofs.RepliesLeft.{replies-leave}
 use Rattle.model.proofs.FetchedLeaves.{no-trap}
 use Rattle.model.proofs.Fetched.{step-three, claim-admissible, instruction-claims, instruction-free}
 use Rattle.instruction.specs.StepAnswer.{Numbered}

@@ -17,7 +17,7 @@ use Rattle.model.specs.declared.State.{State}
 use Rattle.model.specs.declared.Reply.{Reply}
 use Rattle.model.proofs.Numbers.{numbered as numbers}
 use Rattle.model.proofs.ItemInvariant.{Any}
-use Rattle.model.proofs.ArmAnswers.{perform-meets, step-meets}
+use Rattle.model.proofs.StepAnswers.{perform-meets, step-meets}
 use Rattle.model.proofs.ArmReplies.{plan-replies}
 use Rattle.stack.specs.GivenBack.{guardedOn, refusalOn}
 use Rattle.stack.proofs.Judged.{refused-guarded}

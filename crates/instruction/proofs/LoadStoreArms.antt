@@ -20,7 +20,7 @@ use Rattle.model.specs.Parts.{made}
 use Rattle.model.specs.declared.State.{State}
 use Rattle.model.specs.declared.Reply.{Reply}
 use Rattle.model.specs.declared.Reply.the-variants.{Done, Missing}
-use Rattle.model.proofs.ArmAnswers.{worst-six}
+use Rattle.model.proofs.StepAnswers.{worst-six}
 use Rattle.model.proofs.Entry.{step-open}
 use Rattle.model.proofs.StepByArm.{step-told, step-refused}
 use Rattle.decode.proofs.Groups.{load-arm, store-arm, arithmetic-arm}

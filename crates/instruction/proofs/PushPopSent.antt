@@ -22,7 +22,8 @@ use Rattle.model.proofs.Reply.{the-type}
 use Rattle.model.proofs.Bools.{on}
 use Rattle.model.proofs.Entry.{performOn}
 use Rattle.model.proofs.ItemInvariant.{Any}
-use Rattle.model.proofs.ArmAnswers.{Answers, perform-meets}
+use Rattle.model.proofs.ArmAnswers.{Answers}
+use Rattle.model.proofs.StepAnswers.{perform-meets}
 use Rattle.model.proofs.StepByArm.{sent, push-sent, pop-sent}
 use Rattle.stack.specs.GivenBack.{onlyIf, placed, Gives}
 use Rattle.stack.specs.PushPop.{pushIn, popIn, returnTo, popNumber, popAnswer, PopGives}

@@ -21,7 +21,8 @@ use Rattle.model.specs.declared.Reply.{Reply}
 use Rattle.model.proofs.Reply.{the-type}
 use Rattle.model.proofs.Bools.{on}
 use Rattle.model.proofs.Entry.{performOn}
-use Rattle.model.proofs.ArmAnswers.{Answers, context-meets, perform-meets}
+use Rattle.model.proofs.ArmAnswers.{Answers, context-meets}
+use Rattle.model.proofs.StepAnswers.{perform-meets}
 use Rattle.model.proofs.ItemInvariant.{Any}
 use Rattle.model.proofs.StepByArm.{sent, backTo, save-sent, unsave-sent}
 use Rattle.stack.specs.GivenBack.{onlyIf, Gives}

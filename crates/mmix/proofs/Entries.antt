@@ -16,7 +16,7 @@ use Rattle.model.specs.declared.Reply.{Reply}
 use Rattle.model.specs.declared.Reach.{Reach}
 use Rattle.model.proofs.Numbers.{numbered}
 use Rattle.model.proofs.ItemInvariant.{Any}
-use Rattle.model.proofs.ArmAnswers.{exception-meets}
+use Rattle.model.proofs.StepAnswers.{exception-meets}
 use Rattle.exceptions.specs.Told.{Told}
 use Rattle.instruction.specs.StepAnswer.{Numbered, RunNumbered}
 use Rattle.image.specs.Image.{isImage, imageAs, storedIn, stateOf, Encoded}

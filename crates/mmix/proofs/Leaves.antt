@@ -17,7 +17,7 @@ use Rattle.model.specs.Field.{fieldOf, answerOf}
 use Rattle.model.specs.Reader.{Part, readContext}
 use Rattle.model.specs.Numbers.{Early, Halting}
 use Rattle.model.specs.Leaves.{StepLeaves, ExceptionLeaves, ReaderLeaves, FieldLeaves}
-use Rattle.model.proofs.Leaves.{replies-leave}
+use Rattle.model.proofs.RepliesLeft.{replies-leave}
 use Rattle.model.proofs.Invariants.{items-keep}
 use Rattle.model.proofs.Numbers.{unhalting}
 use Rattle.model.specs.declared.State.{State}

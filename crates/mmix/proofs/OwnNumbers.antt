@@ -12,7 +12,7 @@ use Rattle.model.specs.Step.{unruledBy, fromThree, stepPlan, stepOf, claims, op
 use Rattle.model.specs.Order.{Passes}
 use Rattle.model.specs.declared.State.{State}
 use Rattle.model.proofs.ItemInvariant.{Any}
-use Rattle.model.proofs.ArmAnswers.{perform-meets}
+use Rattle.model.proofs.StepAnswers.{perform-meets}
 use Rattle.model.proofs.ArmReplies.{three-replies}
 use Rattle.model.proofs.Numbers.{unhalting}
 use Rattle.model.proofs.Entry.{performOn, guarded-open}

@@ -23,7 +23,7 @@ use Rattle.model.proofs.Entry.{unruled-is}
 use Rattle.model.proofs.AdmissibleKept.{adm, claim-good}
 use Rattle.model.proofs.WordsKept.{claim-words}
 use Rattle.model.proofs.RunMeant.{Ready, run-open, run-ready, run-is-meant, call-by}
-use Rattle.model.proofs.Leaves.{replies-leave}
+use Rattle.model.proofs.RepliesLeft.{replies-leave}
 use Rattle.image.specs.Image.{isImage, hasRoom, imageAs, stateOf}
 use Rattle.mmix.specs.Entries.{RanImage, RanState}
 use Rattle.mmix.specs.Leaves.{NotLoadedLeaves, tetraIn, TetraCallLeaves, LastCallLeaves, OfCall, RunCallLeaves}

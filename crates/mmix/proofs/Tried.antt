@@ -22,7 +22,7 @@ use Rattle.model.specs.declared.State.{State}
 use Rattle.model.proofs.Bools.{on}
 use Rattle.model.proofs.Entry.{unruled-is}
 use Rattle.model.proofs.Fetched.{fetched-inadmissible, fetched-unruled}
-use Rattle.model.proofs.Leaves.{replies-leave}
+use Rattle.model.proofs.RepliesLeft.{replies-leave}
 use Rattle.model.proofs.Invariants.{items-keep}
 use Rattle.model.proofs.RunLaws.{run-done, run-refused, run-by}
 use Rattle.model.proofs.RunMeant.{fetched-on, run-open, run-unruled, call-by, run-is-meant, runs-in-order}

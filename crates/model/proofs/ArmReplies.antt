@@ -13,7 +13,8 @@ use Rattle.model.specs.Step.{refusalOf, planOf, fromThree}
 use Rattle.model.specs.Numbers.{Halting}
 use Rattle.model.specs.declared.State.{State}
 use Rattle.model.proofs.Bools.{on}
-use Rattle.model.proofs.ArmAnswers.{Answers, MeetsTrip, MeetsRaise, refusal-most}
+use Rattle.model.proofs.ArmAnswers.{Answers, MeetsTrip, MeetsRaise}
+use Rattle.model.proofs.StepAnswers.{refusal-most}
 use Rattle.model.proofs.ArmLaws.{plan-meets}
 
 number-least : (r : Refusal) → refusalNumber r ≢ 0 → 3 ≤ refusalNumber r

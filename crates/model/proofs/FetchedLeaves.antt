@@ -22,7 +22,7 @@ use Rattle.model.specs.declared.State.{State}
 use Rattle.model.proofs.Bools.{on, each, at-each}
 use Rattle.model.proofs.AdmissibleKept.{adm, claim-good}
 use Rattle.model.proofs.ItemInvariant.{Any}
-use Rattle.model.proofs.ArmAnswers.{perform-meets}
+use Rattle.model.proofs.StepAnswers.{perform-meets}
 use Rattle.model.proofs.ArmReplies.{three-replies}
 use Rattle.model.proofs.Numbers.{unhalting, step-fetched}
 use Rattle.model.proofs.Entry.{unruled-none, unruled-is, shared-only}

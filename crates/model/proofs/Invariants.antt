@@ -14,7 +14,7 @@ use Rattle.model.specs.declared.State.{State}
 use Rattle.model.proofs.Bools.{on}
 use Rattle.model.proofs.ItemInvariant.{Keeps, item-keeps, item-always}
 use Rattle.model.proofs.MarginalKept.{Calm, calm-keeps}
-use Rattle.model.proofs.WordsKept.{item-words, item-bytes}
+use Rattle.model.proofs.ItemWords.{item-words, item-bytes}
 use Rattle.model.proofs.AdmissibleKept.{Good, adm, adm-of, goes-good, halted-good, claim-good, back-good, set-good, putLocals-good, putGlobals-good, withStatus-good, withSpecial-good, pushed-good, popped-good, saved-good, unsaved-good, tripped-good, trapped-good, added-good}
 
 pub good-keeps : Keeps Good

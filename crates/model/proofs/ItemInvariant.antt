@@ -24,7 +24,8 @@ use Rattle.model.proofs.Bools.{on}
 use Rattle.model.proofs.Memory.{both-lawful}
 use Rattle.model.proofs.Plan.{Always, Always-map, perform-always}
 use Rattle.model.proofs.ArmLaws.{plan-meets}
-use Rattle.model.proofs.ArmAnswers.{Answers, Meets, MeetsTrip, MeetsRaise, MeetsInterrupt, step-meets, exception-meets}
+use Rattle.model.proofs.ArmAnswers.{Answers, Meets, MeetsTrip, MeetsRaise, MeetsInterrupt}
+use Rattle.model.proofs.StepAnswers.{step-meets, exception-meets}
 
 pub record Keeps (P : State → Type 0) : Type 0 where
   pub at-pc : (s : State) (a : ℕ) → P s → P (goes s a)

@@ -1,45 +1,32 @@
--- Theorem 1: which replies there are, and what each leaves.
-use mathlib.Core.Path.{_≡_, refl, sym, _∙_}
-use mathlib.Core.Logic.{_⊎_, inl, inr, ⊎-elim, _≢_}
+-- What a step's answer leaves, reply by reply: the trip and trap registers, the halt code, what was written. The theorem: RepliesLeft.
+use mathlib.Core.Path.{_≡_, refl, _∙_}
+use mathlib.Core.Logic.{_⊎_, inl, inr, ⊎-elim}
 use mathlib.Core.Bool.{true}
 use mathlib.Core.List.{List, []}
 use Prim.Native.Nat.{ℕ, _+_, _≤_, _<_}
 use native.Mathlib.Omega.{arith}
-use lib.Dec.{eqb}
 use lib.ListN.{length, set, length-set}
 use lib.Seq.{getD-set-same, getD-set-other}
 use Rattle.model.specs.Registers.{rB, rH, rJ, rR, rL, rBB, rA, rW, rX, rY, rZ, rWW, rXX, rYY, rZZ, sp, reg, following, Sized, admissible, goes, halted, withSpecial, cleared, claimLocal, stored, setRegister, putLocals, putGlobals, isMarginal, spilled}
-use Rattle.model.specs.Memory.{Windows, shapesOf, putOcta, both}
-use Rattle.model.specs.Plan.{Plan, Outcome, perform, worst, clear, named, look, looks, puts}
-use Rattle.model.specs.Opcodes.{Width, Sign, signed, Operand, Arm, trip, store, arithmetic, armOf, memory, system}
+use Rattle.model.specs.Memory.{Windows, shapesOf, both}
+use Rattle.model.specs.Plan.{Outcome, puts}
+use Rattle.model.specs.Opcodes.{Width, signed, Operand, Arm, trip, store, arithmetic, armOf, memory, system}
 use Rattle.model.specs.Frames.{slide, pushedRule, pushed, unslide, popped}
 use Rattle.model.specs.Contexts.{savedUnspilled, savedState, unsavedUnspilled, unsaved}
-use Rattle.model.specs.NoMemory.{Said, tell}
-use Rattle.model.specs.Control.{operandOf, sumOf}
+use Rattle.model.specs.Control.{operandOf}
 use Rattle.model.specs.Trips.{interrupted, tripped, trapped, wordOf, withAdded}
-use Rattle.model.specs.LoadStore.{merged, fits, flagV, storeSays, storeTo}
 use Rattle.model.specs.ArithmeticStep.{resultsIn, withResults}
-use Rattle.model.specs.Step.{unruledBy, judged, refusing, planOf, guarded, fromThree, stepPlan, stepOf, exceptionOf}
-use Rattle.model.specs.Leaves.{Interrupted, Tripped, Trapped, StoreLeaves, Sharing, StepLeaves, ExceptionLeaves, FieldLeaves, RepliesLeave}
-use Rattle.model.specs.Numbers.{Early, Lost, Halting, numberOf}
-use Rattle.model.specs.Field.{answerOf, fieldOf}
+use Rattle.model.specs.Leaves.{Interrupted, Tripped, Trapped, StoreLeaves, Sharing, StepLeaves}
+use Rattle.model.specs.Numbers.{Early, Lost, Halting}
 use Rattle.model.specs.declared.State.{State}
-use Rattle.model.specs.declared.Reach.{Reach}
-use Rattle.model.specs.declared.Reach.the-variants.{Forward, Backward, Neither}
 use Rattle.model.specs.declared.Operation.{Operation}
 use Rattle.model.specs.declared.Results.{Results}
 use Rattle.model.specs.Fill.{over}
 use Rattle.model.proofs.Bools.{on}
 use Rattle.model.proofs.Fill.{length-over}
 use Rattle.model.proofs.ItemInvariant.{Any}
-use Rattle.model.proofs.ArmLaws.{plan-meets}
-use Rattle.model.proofs.ArmAnswers.{Answers, Meets, MeetsInterrupt, judged-early, step-judged, step-meets, raised-meets, exception-meets, worst-six, perform-meets}
-use Rattle.model.proofs.ArmReplies.{three-replies}
+use Rattle.model.proofs.ArmAnswers.{Meets, MeetsInterrupt}
 use Rattle.model.proofs.Numbers.{unhalting}
-use Rattle.model.proofs.Entry.{performOn, said-reply, shared-only}
-use Rattle.model.proofs.LoadStore.{store-made}
-use Rattle.model.proofs.ReaderLeaves.{reader-leaves}
-use Rattle.model.proofs.FetchedLeaves.{fetched-leaves, run-leaves}
 
 -- ---- the trip and trap registers
 
@@ -75,7 +62,7 @@ interrupts s b w x y z word u v n bw wx xy yz zl =
       mask-same = refl;
     }
 
-trips : (s : State) (word u v : ℕ) → Sized s → Tripped s (halted (tripped s word u v)) word u v
+pub trips : (s : State) (word u v : ℕ) → Sized s → Tripped s (halted (tripped s word u v)) word u v
 trips s word u v n = interrupts s rB rW rX rY rZ word u v n (omega arith) (omega arith) (omega arith) (omega arith) (omega arith)
 
 traps : (s : State) (word u v : ℕ) → Sized s → Trapped s (halted (trapped s word u v)) word u v
@@ -84,38 +71,38 @@ traps s word u v n = interrupts s rBB rWW rXX rYY rZZ word u v n (omega arith) (
 -- ---- a step: the same of an answer
 
 -- a signed store
-record IsStore (m : Arm) : Type 0 where
-  width : Width
-  last : Operand
-  is-it : m ≡ memory (store width signed last)
+pub record IsStore (m : Arm) : Type 0 where
+  pub width : Width
+  pub last : Operand
+  pub is-it : m ≡ memory (store width signed last)
 
 -- an operation that has raised its flag
-record Computed (s : State) (op x y z : ℕ) (t : State) (vs : List ℕ) : Type 0 where
+pub record Computed (s : State) (op x y z : ℕ) (t : State) (vs : List ℕ) : Type 0 where
   operation : Operation
   first : Operand
   last : Operand
   is-it : armOf op ≡ arithmetic operation first last
-  registers : Tripped
+  pub registers : Tripped
       (withAdded (withResults s x (resultsIn s operation (operandOf s first y) (operandOf s last z))) (resultsIn s operation (operandOf s first y) (operandOf s last z) .flags))
       t (wordOf op x y z) (operandOf s first y) (operandOf s last z)
   none : vs ≡ []
 
 -- TRIP, a store, an operation
-abbrev Nineteen : State → ℕ → ℕ → ℕ → ℕ → State → List ℕ → Type 0
+abbrev pub Nineteen : State → ℕ → ℕ → ℕ → ℕ → State → List ℕ → Type 0
 Nineteen s op x y z t vs =
     ((armOf op ≡ system trip) × Tripped s t (wordOf op x y z) (reg s y) (reg s z) × (vs ≡ [])) ⊎ (IsStore (armOf op) ⊎ Computed s op x y z t vs)
 
-record Answered (s : State) (op x y z : ℕ) (r : ℕ) (t : State) (vs : List ℕ) : Type 0 where
-  most : (r ≤ 20) ⊎ ((r ≡ 22) ⊎ ((r ≡ 29) ⊎ (r ≡ 31)))
-  early : Early r → (t ≡ s) × (vs ≡ [])
-  lost : Lost r → (t ≡ s) × (vs ≡ [])
-  halting : Halting r → (t ≡ halted s) × (vs ≡ [])
-  nineteen : r ≡ 19 → Nineteen s op x y z t vs
-  twenty : r ≡ 20 → Trapped s t (wordOf op x y z) (reg s y) (reg s z) × (vs ≡ [])
+pub record Answered (s : State) (op x y z : ℕ) (r : ℕ) (t : State) (vs : List ℕ) : Type 0 where
+  pub most : (r ≤ 20) ⊎ ((r ≡ 22) ⊎ ((r ≡ 29) ⊎ (r ≡ 31)))
+  pub early : Early r → (t ≡ s) × (vs ≡ [])
+  pub lost : Lost r → (t ≡ s) × (vs ≡ [])
+  pub halting : Halting r → (t ≡ halted s) × (vs ≡ [])
+  pub nineteen : r ≡ 19 → Nineteen s op x y z t vs
+  pub twenty : r ≡ 20 → Trapped s t (wordOf op x y z) (reg s y) (reg s z) × (vs ≡ [])
   done : r ≡ 0 → t .halt ≡ s .halt
 
 -- 0 and 6 to 20 are not given early
-late : (n : ℕ) → (n ≡ 0) ⊎ ((6 ≤ n) × (n ≤ 20)) → Early n → ⊥
+pub late : (n : ℕ) → (n ≡ 0) ⊎ ((6 ≤ n) × (n ≤ 20)) → Early n → ⊥
 late n (inl e) (inl l) = omega arith
 late n (inl e) (inr f) = omega arith
 late n (inr k) (inl l) = omega arith
@@ -140,7 +127,7 @@ module _ (s : State) (op x y z : ℕ) where
     done = λ p. e;
   }
 
-  as-refused : (n : ℕ) → Early n → Answered s op x y z n s []
+  pub as-refused : (n : ℕ) → Early n → Answered s op x y z n s []
   as-refused n a = record {
     most = ⊎-elim (λ l. inl (omega arith)) (λ e. inr (inl e)) a;
     early = λ p. (refl, refl);
@@ -205,7 +192,7 @@ results-sized s x r n =
     (λ e. record { generals = length-set (over (λ k. 0) (sp s rL) (x + 1) (s .general)) x (r .x) ∙ length-over (λ k. 0) (sp s rL) (x + 1) (s .general) ∙ n .generals; specials = simp length-set (n .specials) })
     (λ e. record { generals = length-set (s .general) x (r .x) ∙ n .generals; specials = simp length-set (n .specials) })
 
-answered : (s : State) (op x y z : ℕ) → Meets s Any Any (Answered s op x y z)
+pub answered : (s : State) (op x y z : ℕ) → Meets s Any Any (Answered s op x y z)
 unfolding goes pushed pushedRule slide popped unslide savedState savedUnspilled stored unsaved unsavedUnspilled spilled withSpecial putLocals putGlobals cleared
 answered s op x y z = record {
   word = λ n b. tt;
@@ -227,7 +214,7 @@ answered s op x y z = record {
   computes = λ f k u v a wu wv w. as-done s op x y z _ [] (results-halt s k (resultsIn s f u v));
 }
 
-answered-interrupt : (s : State) (op x y z : ℕ) → Sized s → MeetsInterrupt s Any (Answered s op x y z) (armOf op) op x y z
+pub answered-interrupt : (s : State) (op x y z : ℕ) → Sized s → MeetsInterrupt s Any (Answered s op x y z) (armOf op) op x y z
 unfolding goes interrupted withAdded withSpecial
 answered-interrupt s op x y z n = record {
   trips = λ e. record {
@@ -262,11 +249,11 @@ stored-none : (w : Windows) (a : ℕ) (vs : List ℕ) → vs ≡ [] → puts bot
 stored-none w a vs e = rw e (unfold puts in refl)
 
 -- 19 of a store, and 22, are left to be shown
-Leaves : (w : Windows) (s : State) (op x y z : ℕ) (o : Outcome State Windows) → Type 0
+unfoldable pub Leaves : (w : Windows) (s : State) (op x y z : ℕ) (o : Outcome State Windows) → Type 0
 Leaves w s op x y z o =
     (IsStore (armOf op) → o .reply ≡ 19 → StoreLeaves w s op x y z o) → (o .reply ≡ 22 → (admissible s ≡ true) × Sharing (shapesOf w)) → StepLeaves w s op x y z o
 
-leaves-of : (w : Windows) (s : State) (op x y z : ℕ) (r : ℕ) (t : State) (a : ℕ) (vs : List ℕ) → Answered s op x y z r t vs
+pub leaves-of : (w : Windows) (s : State) (op x y z : ℕ) (r : ℕ) (t : State) (a : ℕ) (vs : List ℕ) → Answered s op x y z r t vs
     → Leaves w s op x y z (record { reply = r; state = t; memory = puts both w a vs })
 unfolding Leaves
 leaves-of w s op x y z r t a vs h st sh = record {
@@ -279,140 +266,4 @@ leaves-of w s op x y z r t a vs h st sh = record {
   twenty = λ p. (h .twenty p .0, stored-none w a vs (h .twenty p .1));
   shared = sh;
   done = h .done;
-}
-
--- ---- 19 of a store
-
-module _ (w : Windows) (s : State) (d : Width) (g : Sign) (x a n : ℕ) where
-  abbrev left : State
-  left = halted (tripped (withAdded s flagV) n a (reg s x))
-
-  says-nineteen : storeSays s d g x a n .reply ≡ 19 → storeSays s d g x a n .state ≡ left
-  unfolding storeSays
-  says-nineteen =
-      on {A = Said} (λ q. q .reply ≡ 19 → q .state ≡ left) (fits d g (reg s x)) (λ e p. absurd (omega arith))
-      (λ e. raised-meets s Any (λ r t. r ≡ 19 → t ≡ left) (λ k b. tt) flagV n a (reg s x)
-      (record { adds = λ b k p. absurd (omega arith); takes = record { trips = λ b k p. absurd (omega arith); trips-not = λ p. refl } }))
-
-  Made : Outcome State Windows → Type 0
-  Made o = o .reply ≡ 19 → (o .state ≡ left) × (o .memory ≡ putOcta w a (merged d a (look both w a) (reg s x)))
-
-  six : (r : ℕ) → Lost r → Made (record { reply = r; state = s; memory = w })
-  unfolding Made
-  six r e p = absurd (omega arith)
-
-  store-nineteen : Made (perform both (refusing (shapesOf w)) s (storeTo s d g x a n) w)
-  unfolding Made perform storeTo looks puts named both
-  store-nineteen =
-      on Made (clear (refusing (shapesOf w)) a 1)
-      (λ e. on Made (clear (refusing (shapesOf w)) a 1) (λ f p. (says-nineteen p, refl)) (λ f. six _ (worst-six (shapesOf w) 1 a f)))
-      (λ e. rw (worst-six (shapesOf w) 1 a e) (six 6 refl))
-
-store-leaves : (w : Windows) (s : State) (op x y z : ℕ) → Sized s → (k : IsStore (armOf op)) → stepOf w s op x y z .reply ≡ 19 → StoreLeaves w s op x y z (stepOf w s op x y z)
-store-leaves w s op x y z n k p =
-    let h : (stepOf w s op x y z .state ≡ left w s d signed x a (wordOf op x y z)) × (stepOf w s op x y z .memory ≡ putOcta w a (merged d a (look both w a) (reg s x))) = unfold Made in made p in
-    record {
-      width = d;
-      last = k .last;
-      arm-is = k .is-it;
-      registers = rw (h .0) (trips (withAdded s flagV) (wordOf op x y z) a (reg s x) (added-sized s flagV n));
-      window = h .1;
-    }
-  where
-    d : Width
-    d = k .width
-
-    a : ℕ
-    a = sumOf s (k .last) y z
-
-    made : Made w s d signed x a (wordOf op x y z) (stepOf w s op x y z)
-    made = unfold stepOf in (rw (step-judged s (shapesOf w) op x y z)
-        (on (λ (q : Plan State). Made w s d signed x a (wordOf op x y z) (perform both (refusing (shapesOf w)) s q w)) (eqb (judged s (shapesOf w) (armOf op) x y z) 0)
-        (λ e. rw (k .is-it) (unfold planOf in store-nineteen w s d signed x a (wordOf op x y z)))
-        (λ e. unfold Made tell perform worst in (λ q. absurd (late _ (inr (omega arith, omega arith)) (judged-early s (shapesOf w) (armOf op) x y z e))))))
-
--- ---- 22
-
-three-unshared : (s : State) (op x y z : ℕ) → Answers Any (λ r t vs. r ≢ 22) (fromThree s (armOf op) op x y z)
-three-unshared s op x y z = three-replies (λ r. r ≢ 22) (λ e. omega arith) (λ n a b e. omega arith) (λ n a e. unhalting n (inr (omega arith, omega arith)) a) (λ e. omega arith) s (armOf op) op x y z (λ m e. omega arith)
-
-step-shared : (w : Windows) (s : State) (op x y z : ℕ) → stepOf w s op x y z .reply ≡ 22 → (admissible s ≡ true) × Sharing (shapesOf w)
-unfolding stepOf stepPlan guarded
-step-shared w s op x y z =
-    on (λ (p : Plan State). performOn w s p .reply ≡ 22 → (admissible s ≡ true) × Sharing (shapesOf w)) (admissible s)
-    (λ a. on (λ (p : Plan State). performOn w s p .reply ≡ 22 → (admissible s ≡ true) × Sharing (shapesOf w)) (eqb (unruledBy (shapesOf w)) 0)
-    (λ e h. absurd (perform-meets w s Any (λ r t vs. r ≢ 22) (λ o. o .reply ≢ 22) (λ q. omega arith) (λ r t b vs k. k) (λ b n. tt) (fromThree s (armOf op) op x y z) (three-unshared s op x y z) h))
-    (λ e h. (a, shared-only (shapesOf w) (sym (said-reply w s s (unruledBy (shapesOf w))) ∙ h))))
-    (λ a h. absurd (omega (arith, said-reply w s s 1, h)))
-
-step-leaves : (w : Windows) (s : State) (op x y z : ℕ) → Sized s → StepLeaves w s op x y z (stepOf w s op x y z)
-step-leaves w s op x y z n = unfold Leaves in (leaves (store-leaves w s op x y z n) (step-shared w s op x y z))
-  where
-    leaves : Leaves w s op x y z (stepOf w s op x y z)
-    leaves = unfold stepOf in (
-        perform-meets w s Any (Answered s op x y z) (Leaves w s op x y z)
-        (unfold Leaves in (λ st sh. record {
-          most = inl (omega arith);
-          early = λ p. (refl, refl);
-          lost = λ p. (refl, refl);
-          halting = λ p. absurd (unhalting 6 (inl (omega arith)) p);
-          nineteen = λ p. absurd (omega arith);
-          twenty = λ p. absurd (omega arith);
-          shared = sh;
-          done = λ p. absurd (omega arith);
-        }))
-        (leaves-of w s op x y z) (λ a k. tt) (stepPlan s (shapesOf w) op x y z)
-        (step-meets s (shapesOf w) Any (Answered s op x y z) (as-refused s op x y z) op x y z
-        (λ e. plan-meets s Any Any (Answered s op x y z) (answered s op x y z) (armOf op) op x y z tt tt (answered-interrupt s op x y z n))))
-
--- ---- an exception
-
-record Raised (s : State) (f n u v : ℕ) (r : ℕ) (t : State) : Type 0 where
-  among : (r ≡ 0) ⊎ ((r ≡ 1) ⊎ (r ≡ 19))
-  inadmissible : r ≡ 1 → t ≡ s
-  not-loaded : r ≡ 19 → Tripped (withAdded s f) t n u v
-  done : r ≡ 0 → t .halt ≡ s .halt
-
-exception-leaves : (s : State) (f op x y z u v : ℕ) → Sized s → ExceptionLeaves s f op x y z u v (exceptionOf s f op x y z u v)
-exception-leaves s f op x y z u v n =
-    let h : Raised s f (wordOf op x y z) u v (exceptionOf s f op x y z u v .reply) (exceptionOf s f op x y z u v .state) = met in
-    record { among = h .among; inadmissible = h .inadmissible; not-loaded = h .not-loaded; done = h .done }
-  where
-    as-zero : (t : State) → t .halt ≡ s .halt → Raised s f (wordOf op x y z) u v 0 t
-    as-zero t e = record { among = inl refl; inadmissible = λ p. absurd (omega arith); not-loaded = λ p. absurd (omega arith); done = λ p. e }
-
-    met : Raised s f (wordOf op x y z) u v (exceptionOf s f op x y z u v .reply) (exceptionOf s f op x y z u v .state)
-    met = unfold goes withAdded withSpecial in (
-        exception-meets s Any (Raised s f (wordOf op x y z) u v) f op x y z u v (λ k b. tt)
-        (record { among = inr (inl refl); inadmissible = λ p. refl; not-loaded = λ p. absurd (omega arith); done = λ p. absurd (omega arith) })
-        (λ e. record {
-          adds = λ a w. as-zero _ refl;
-          takes = record {
-            trips = λ a w. as-zero _ (unfold interrupted goes withAdded withSpecial in refl);
-            trips-not = record {
-              among = inr (inr refl);
-              inadmissible = λ p. absurd (omega arith);
-              not-loaded = λ p. trips (withAdded s f) (wordOf op x y z) u v (added-sized s f n);
-              done = λ p. absurd (omega arith);
-            };
-          };
-        }))
-
--- ---- the search for a field
-
-field-leaves : (r : Reach) → FieldLeaves (answerOf r)
-unfolding answerOf numberOf
-field-leaves (Forward f) = record { among = inl refl; refused = λ e. absurd (omega arith); done = λ e. omega arith }
-field-leaves (Backward f) = record { among = inl refl; refused = λ e. absurd (omega arith); done = λ e. omega arith }
-field-leaves Neither = record { among = inr refl; refused = λ e. (refl, refl); done = λ e. omega arith }
-
-pub replies-leave : RepliesLeave
-replies-leave = record {
-  by-step = step-leaves;
-  by-fetched = fetched-leaves step-leaves;
-  by-run = run-leaves (fetched-leaves step-leaves);
-  by-exception = exception-leaves;
-  by-reader = reader-leaves;
-  by-field = λ size from to. field-leaves (fieldOf size from to);
-  by-store = store-made;
 }

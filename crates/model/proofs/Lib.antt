@@ -20,6 +20,7 @@ pub mod Whole
 pub mod Arithmetic
 pub mod ArithmeticWords
 pub mod ArmAnswers
+pub mod StepAnswers
 pub mod ArmNeeds
 pub mod ArmRules
 pub mod RowLaws
@@ -35,6 +36,7 @@ pub mod Entry
 pub mod Fetched
 pub mod MarginalKept
 pub mod WordsKept
+pub mod ItemWords
 pub mod Invariants
 pub mod RunMeant
 pub mod RunTurns
@@ -47,6 +49,7 @@ pub mod DemandFetched
 pub mod ReaderLeaves
 pub mod FetchedLeaves
 pub mod Leaves
+pub mod RepliesLeft
 pub mod StepNeeds
 pub mod Locality
 pub mod Computed

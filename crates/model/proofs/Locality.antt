@@ -23,7 +23,8 @@ use Rattle.model.proofs.Bools.{and-left, and-right, on, on-both}
 use Rattle.model.proofs.ItemInvariant.{Any}
 use Rattle.model.proofs.Memory.{raw-octa, both-lawful}
 use Rattle.model.proofs.Plan.{All-map, Same, worst-head, worst-tail, touches, touches-off, perform-agree, needs-agree, perform-kept, perform-shape}
-use Rattle.model.proofs.ArmAnswers.{Answers, worst-six, step-meets, perform-meets}
+use Rattle.model.proofs.ArmAnswers.{Answers}
+use Rattle.model.proofs.StepAnswers.{worst-six, step-meets, perform-meets}
 use Rattle.model.proofs.ArmReplies.{plan-replies, three-replies}
 use Rattle.model.proofs.Numbers.{unhalting}
 use Rattle.model.proofs.Entry.{performOn, sound-at, judged-inside, inside-judged, unruled-is}

@@ -23,7 +23,7 @@ use Rattle.model.specs.Step.{refusalOf, unruledBy, refusing, planOf, ste
 use Rattle.model.specs.Order.{refusedBy, haltedBy, Passes, Packed, Counted, StepsInOrder}
 use Rattle.model.specs.declared.State.{State}
 use Rattle.model.proofs.Runs.{length-tab}
-use Rattle.model.proofs.ArmAnswers.{worst-six}
+use Rattle.model.proofs.StepAnswers.{worst-six}
 use Rattle.model.proofs.Entry.{performOn, said, step-open, unruled-two, unruled-shared}
 use Rattle.model.proofs.StepByArm.{passing, step-told, step-refused, step-inadmissible, step-unruled}
 use Rattle.model.proofs.Rules.{has-clear}

@@ -28,7 +28,8 @@ use Rattle.model.proofs.Held.{holder-has, holder-most, held-at, whole-h
 use Rattle.model.proofs.Apart.{Ruled, ruled-a, ruled-b}
 use Rattle.model.proofs.StepByArm.{step-unruled}
 use Rattle.model.proofs.ItemInvariant.{Any}
-use Rattle.model.proofs.ArmAnswers.{context-meets, perform-meets}
+use Rattle.model.proofs.ArmAnswers.{context-meets}
+use Rattle.model.proofs.StepAnswers.{perform-meets}
 
 -- ---- the reader judges as UNSAVE does
 

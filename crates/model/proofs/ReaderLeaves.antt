@@ -13,7 +13,8 @@ use Rattle.model.specs.Reader.{Span, nowhere, octabytes, spanOf, across,
 use Rattle.model.specs.Leaves.{ReaderLeaves}
 use Rattle.model.proofs.Bools.{on}
 use Rattle.model.proofs.ItemInvariant.{Any}
-use Rattle.model.proofs.ArmAnswers.{context-meets, perform-meets}
+use Rattle.model.proofs.ArmAnswers.{context-meets}
+use Rattle.model.proofs.StepAnswers.{perform-meets}
 use Rattle.model.proofs.Entry.{shared-only, unruled-is}
 
 -- the numbers of UNSAVE's own checks, and the reader's

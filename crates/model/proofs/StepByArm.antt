@@ -23,7 +23,8 @@ use Rattle.model.specs.Order.{Passes}
 use Rattle.model.specs.declared.State.{State}
 use Rattle.model.proofs.Bools.{on, on-both}
 use Rattle.model.proofs.Entry.{guarded-one, guarded-unruled, guarded-open, performOn, said, step-open, none-unruled}
-use Rattle.model.proofs.ArmAnswers.{Answers, worst-six, context-meets, perform-meets}
+use Rattle.model.proofs.ArmAnswers.{Answers, context-meets}
+use Rattle.model.proofs.StepAnswers.{worst-six, perform-meets}
 use Rattle.model.proofs.ItemInvariant.{Any}
 
 -- a plan that only says something

@@ -21,7 +21,7 @@ use Rattle.model.specs.StepNeeds.{armNeeds, tetraNeeds, NeedsAre, BytesU
 use Rattle.model.specs.declared.State.{State}
 use Rattle.model.proofs.Bools.{on, on-both}
 use Rattle.model.proofs.Runs.{length-tab}
-use Rattle.model.proofs.ArmAnswers.{step-judged, worst-six}
+use Rattle.model.proofs.StepAnswers.{step-judged, worst-six}
 use Rattle.model.proofs.Entry.{step-open, step-done}
 use Rattle.model.proofs.ArmNeeds.{by, tell-none, by-cond, run-one}
 use Rattle.model.proofs.ArmLaws.{arm-needs}

@@ -1,7 +1,7 @@
--- Words stay words, and bytes bytes: each state builder keeps a state's numbers below 2^64 where what it writes is below 2^64.
-use mathlib.Core.Path.{_≡_, refl, sym, ap, _∙_, subst}
+-- Registers stay octabytes and windows stay bytes: laws of each state builder and of what is stored. Of items: ItemWords.
+use mathlib.Core.Path.{_≡_, sym, ap, _∙_, subst}
 use mathlib.Core.Logic.{_⊎_, inl, inr}
-use mathlib.Core.Bool.{Bool, true, false, _&&_}
+use mathlib.Core.Bool.{_&&_}
 use mathlib.Core.List.{List, [], _∷_}
 use Prim.Native.Nat.{ℕ, zero, suc, _+_, _-_, _*_, _%_, _^_, _≤_, _<_, min, max}
 use native.Mathlib.Omega.{arith}
@@ -14,31 +14,17 @@ use lib.Bits.{bitOr, or-lt}
 use borrow.Author.Tests.{ltb-true}
 use Rattle.model.specs.Fill.{over}
 use Rattle.model.specs.Octa.{part, written, valueOf, bytesOf}
-use Rattle.model.specs.Registers.{rB, rD, rH, rJ, rBB, rO, rS, rG, rL, rA, rR, rP, rW, rX, rY, rZ, rWW, rXX, rYY, rZZ, sp, reg, following, Words, goes, halted, withSpecial, cleared, claimLocal, isMarginal, stored, setRegister, putLocals, putGlobals, spilled}
-use Rattle.model.specs.Memory.{shapeOf, offset, has, octaBytes, writeOcta, Windows, shapesOf, octaAt, putOcta, both}
+use Rattle.model.specs.Registers.{rJ, rO, rS, rG, rL, rA, rR, rP, rZ, sp, reg, following, Words, goes, halted, withSpecial, cleared, claimLocal, isMarginal, stored, setRegister, putLocals, putGlobals, spilled}
+use Rattle.model.specs.Memory.{shapeOf, offset, has, octaBytes, writeOcta, Windows, octaAt, putOcta, both}
 use Rattle.model.specs.Plan.{Plan, answer, read, Outcome, perform, clear, look, looks, puts}
-use Rattle.model.specs.Opcodes.{Operand, register, immediate, Arm, armOf}
-use Rattle.model.specs.Control.{operandOf, sumOf}
-use Rattle.model.specs.NoMemory.{tell}
-use Rattle.model.specs.Frames.{hole, slid, slide, pushedRule, pushed, countOf, lastOutput, restored, unslide, popped}
+use Rattle.model.specs.Frames.{slid, slide, pushedRule, pushed, countOf, lastOutput, restored, unslide, popped}
 use Rattle.model.specs.Contexts.{extent, contextAddress, savedUnspilled, savedState, unsavedGeneral, unsavedSpecial, unsavedUnspilled, unsaved}
-use Rattle.model.specs.Trips.{wordOf, interrupted, added, withAdded}
-use Rattle.model.specs.LoadStore.{flagV}
-use Rattle.model.specs.ArithmeticStep.{operandsOf, resultsIn, withResults}
-use Rattle.model.specs.Lists.{stepOn}
-use Rattle.model.specs.Step.{refusalOf, planOf, fromThree, stepPlan, exceptionOf, claims, tetraAt, keepsClaim, settledBy, tetraPlan, instructionPlan, fetchedOf, Item, step, exception, fetched, itemPlan, mmix}
-use Rattle.model.specs.Invariants.{InstructionFits, Fits, Bytes}
+use Rattle.model.specs.Trips.{interrupted, added, withAdded}
+use Rattle.model.specs.Invariants.{Bytes}
 use Rattle.model.specs.declared.State.{State}
-use Rattle.model.specs.declared.Operation.{Operation}
-use Rattle.model.specs.declared.Results.{Results}
-use Rattle.model.proofs.ArithmeticWords.{ResultWords, results-words}
 use Rattle.model.proofs.Bools.{on, and-right}
 use Rattle.model.proofs.Fill.{length-over, over-in, over-below, over-above, lt-or-le}
 use Rattle.model.proofs.AdmissibleKept.{added-byte}
-use Rattle.model.proofs.ArmLaws.{plan-meets}
-use Rattle.model.proofs.ArmAnswers.{Answers, Meets, MeetsTrip, MeetsRaise, MeetsInterrupt, step-meets, exception-meets, perform-meets}
-use Rattle.model.proofs.Entry.{performOn, said}
-use Rattle.model.proofs.Fetched.{tetra-fits, instruction-claims, instruction-free, fetched-there, fetched-by}
 
 -- ---- lists of numbers below a bound
 
@@ -77,7 +63,7 @@ tail-below b x xs h = record { at = λ k. h .at (suc k) }
 
 -- ---- builders
 
-abbrev Word : ℕ → Type 0
+abbrev pub Word : ℕ → Type 0
 Word n = n < 2 ^ 64
 
 pub words-by : (t : State) → Below (2 ^ 64) (t .general) → Below (2 ^ 64) (t .special) → Word (t .pc) → Word (t .halt) → Word (t .marks) → Word (t .mask) → Words t
@@ -89,7 +75,7 @@ generals s h = record { at = h .general-word }
 specials : (s : State) → Words s → Below (2 ^ 64) (s .special)
 specials s h = record { at = h .special-word }
 
-goes-words : (s : State) (a : ℕ) → Word a → Words s → Words (goes s a)
+pub goes-words : (s : State) (a : ℕ) → Word a → Words s → Words (goes s a)
 unfolding goes
 goes-words s a b h = words-by (goes s a) (generals s h) (specials s h) b (h .halt-word) (h .marks-word) (h .mask-word)
 
@@ -124,7 +110,7 @@ claim-words s x h =
     special-words (cleared s (sp s rL) (x + 1)) rL (x + 1) (omega arith) (cleared-words s (sp s rL) (x + 1) h))
     (λ e. h)
 
-set-words : (s : State) (x v : ℕ) → Word v → Words s → Words (setRegister s x v)
+pub set-words : (s : State) (x v : ℕ) → Word v → Words s → Words (setRegister s x v)
 unfolding setRegister
 set-words s x v b h = stored-words _ x v b (claim-words s x h)
 
@@ -146,7 +132,7 @@ slide-words s n h = let l : sp s rL < 2 ^ 64 = h .special-word rL in
     (set-below (2 ^ 64) _ rO ((sp s rO + 8 * n) % 2 ^ 64) (set-below (2 ^ 64) (s .special) rL (sp s rL - n) (specials s h) (omega arith)) (omega arith))
     (h .pc-word) (h .halt-word) (h .marks-word) (h .mask-word)
 
-pushed-words : (s : State) (h : ℕ) → Words s → Words (pushed s h)
+pub pushed-words : (s : State) (h : ℕ) → Words s → Words (pushed s h)
 unfolding pushed pushedRule
 pushed-words s h w = spilled-words _ (special-words (slide s _) rJ (following s) (omega arith) (slide-words s _ w))
 
@@ -157,7 +143,7 @@ restored-word s x h ls i b w =
     on Word (eqb i h) (λ e. on Word (ltb (sp s rL) x) (λ e. omega arith) (λ e. on Word (eqb x 0) (λ e. omega arith) (λ e. w .general-word _))) (λ e.
     on Word (ltb i (h + countOf s x)) (λ e. w .general-word _) (λ e. omega arith)))
 
-popped-words : (s : State) (x h : ℕ) (ls : List ℕ) → Below (2 ^ 64) ls → Words s → Words (popped s x h ls)
+pub popped-words : (s : State) (x h : ℕ) (ls : List ℕ) → Below (2 ^ 64) ls → Words s → Words (popped s x h ls)
 unfolding popped
 popped-words s x h ls ws w = spilled-words _ moved
   where
@@ -170,7 +156,7 @@ popped-words s x h ls ws w = spilled-words _ moved
         (set-below (2 ^ 64) _ rO (sp s rO - 8 * (h + 1)) (set-below (2 ^ 64) (s .special) rL (min (h + countOf s x) (sp s rG)) (specials s w) (omega arith)) (omega arith))
         (w .pc-word) (w .halt-word) (w .marks-word) (w .mask-word))
 
-saved-words : (s : State) (x : ℕ) → Words s → Words (savedState s x)
+pub saved-words : (s : State) (x : ℕ) → Words s → Words (savedState s x)
 unfolding savedState savedUnspilled stored
 saved-words s x w = spilled-words _ (words-by _
     (set-below (2 ^ 64) _ x (contextAddress s) (over-bound (2 ^ 64) (λ i. 0) 0 (sp s rG) (s .general) (omega arith) (generals s w) (λ i. omega arith)) (omega arith))
@@ -183,7 +169,7 @@ unsaved-word s o g a l vs k wo b c d ws w =
     on Word (eqb k rG) (λ e. omega arith) (λ e. on Word (eqb k rL) (λ e. omega arith) (λ e. on Word (eqb k rA) (λ e. omega arith) (λ e. on Word (eqb k rO) (λ e. wo) (λ e.
     on Word (leb k rR) (λ e. ws .at _) (λ e. on Word (leb rP k && leb k rZ) (λ e. ws .at _) (λ e. w .special-word k))))))
 
-unsaved-words : (s : State) (o g a l : ℕ) (vs : List ℕ) → Word o → g ≤ 255 → a ≤ 0x3FFFF → l ≤ g → Below (2 ^ 64) vs → Words s → Words (unsaved s o g a l vs)
+pub unsaved-words : (s : State) (o g a l : ℕ) (vs : List ℕ) → Word o → g ≤ 255 → a ≤ 0x3FFFF → l ≤ g → Below (2 ^ 64) vs → Words s → Words (unsaved s o g a l vs)
 unfolding unsaved unsavedUnspilled
 unsaved-words s o g a l vs wo b c d ws w = spilled-words _ (words-by _
     (over-bound (2 ^ 64) (unsavedGeneral g l vs) 0 256 (s .general) (omega arith) (generals s w)
@@ -191,7 +177,7 @@ unsaved-words s o g a l vs wo b c d ws w = spilled-words _ (words-by _
     (over-bound (2 ^ 64) (unsavedSpecial s o g a l vs) 0 32 (s .special) (omega arith) (specials s w) (λ k. unsaved-word s o g a l vs k wo b c d ws w))
     (w .pc-word) (w .halt-word) (w .marks-word) (w .mask-word))
 
-interrupted-words : (s : State) (b w x y z word u v : ℕ) → Word word → Word u → Word v → Words s → Words (interrupted s b w x y z word u v)
+pub interrupted-words : (s : State) (b w x y z word u v : ℕ) → Word word → Word u → Word v → Words s → Words (interrupted s b w x y z word u v)
 unfolding interrupted
 interrupted-words s b w x y z word u v p q r h = words-by _
     (set-below (2 ^ 64) (s .general) 255 (sp s rJ) (generals s h) (h .special-word rJ))
@@ -199,7 +185,7 @@ interrupted-words s b w x y z word u v p q r h = words-by _
     (set-below (2 ^ 64) (s .special) b (reg s 255) (specials s h) (h .general-word 255)) (omega arith)) p) q) r)
     (h .pc-word) (h .halt-word) (h .marks-word) (h .mask-word)
 
-added-words : (s : State) (f : ℕ) → Words s → Words (withAdded s f)
+pub added-words : (s : State) (f : ℕ) → Words s → Words (withAdded s f)
 unfolding withAdded
 added-words s f h =
     let b : added s f ≤ 255 = added-byte s f in
@@ -225,7 +211,7 @@ look-word w a h =
     (λ e. value-small 8 (w .b .bytes) (offset (w .b .base) a) 0 1 (record { at = h .byte-b }) (omega arith))
     (λ e. value-small 8 (w .a .bytes) (offset (w .a .base) a) 0 1 (record { at = h .byte-a }) (omega arith))
 
-looks-words : (n : ℕ) (w : Windows) (a : ℕ) → Bytes w → Below (2 ^ 64) (looks both w a n)
+pub looks-words : (n : ℕ) (w : Windows) (a : ℕ) → Bytes w → Below (2 ^ 64) (looks both w a n)
 unfolding looks
 looks-words zero w a h = record { at = λ k. omega arith }
 looks-words (suc n) w a h = cons-below (2 ^ 64) _ _ (look-word w a h) (looks-words n w (a + 8) h)
@@ -255,117 +241,7 @@ unfolding puts both
 puts-bytes [] w a h = h
 puts-bytes (v ∷ vs) w a h = puts-bytes vs _ (a + 8) (put-bytes w a v h)
 
-perform-bytes : {S : Type 0} (j : ℕ → ℕ) (s : S) (p : Plan S) (w : Windows) → Bytes w → Bytes (perform both j s p w .memory)
+pub perform-bytes : {S : Type 0} (j : ℕ → ℕ) (s : S) (p : Plan S) (w : Windows) → Bytes w → Bytes (perform both j s p w .memory)
 unfolding perform
 perform-bytes {S} j s (answer r t a vs) w h = on {A = Outcome S Windows} (λ o. Bytes (o .memory)) (clear j a (length vs)) (λ e. puts-bytes vs w a h) (λ e. h)
 perform-bytes {S} j s (read q a n k) w h = on {A = Outcome S Windows} (λ o. Bytes (o .memory)) (clear j a n) (λ e. perform-bytes j s (k (looks both w a n)) w h) (λ e. h)
-
--- ---- every step, every exception and every fetched instruction
-
-pub item-bytes : (w : Windows) (s : State) (i : Item) → Bytes w → Bytes (stepOn both mmix s w i .memory)
-unfolding stepOn mmix
-item-bytes w s i h = perform-bytes _ s (itemPlan s (both .shape w) i) w h
-
-word-small : (op x y z : ℕ) → InstructionFits op x y z → Word (wordOf op x y z)
-word-small op x y z f =
-    let a : op < 256 = f .op-byte in let b : x < 256 = f .x-byte in let c : y < 256 = f .y-byte in let d : z < 256 = f .z-byte in omega arith
-
-results-kept-words : (s : State) (x : ℕ) (r : Results) → ResultWords r → Words s → Words (withResults s x r)
-unfolding withResults
-results-kept-words s x r b h = special-words _ rR (r .rr) (b .r-word) (special-words _ rH (r .rh) (b .h-word) (set-words s x (r .x) (b .x-word) h))
-
-computed-words : (s : State) (f : Operation) (x u v : ℕ) → Word u → Word v → Words s → Words (withResults s x (resultsIn s f u v))
-computed-words s f x u v a b h = results-kept-words s x _ (results-words (operandsOf s u v)
-    (record { y-word = a; z-word = b; d-word = h .special-word rD; h-word = h .special-word rH; r-word = h .special-word rR }) f) h
-
-meets-words : (s : State) → Words s → Meets s Word (Below (2 ^ 64)) (λ r t vs. Words t)
-meets-words s h = record {
-  word = λ n b. b;
-  general-is = h .general-word;
-  special-is = h .special-word;
-  refuses = h;
-  halts = λ n a. halted-words s h;
-  moves = λ a w. goes-words s a w h;
-  writes = λ x v a w u. goes-words _ a u (set-words s x v w h);
-  locals = λ v a w u. goes-words _ a u (locals-words s v h);
-  globals = λ v a b c d w. goes-words _ a w (globals-words s v c h);
-  status = λ v a b w. goes-words _ a w (special-words s rA v (omega arith) h);
-  other = λ k v a b c d w u. goes-words _ a u (special-words s k v w h);
-  pushes = λ x t w. goes-words _ t w (pushed-words s (hole s x) h);
-  pops = λ x t i ls w r. goes-words _ t w (popped-words s x i ls r h);
-  saves = λ x t b w. goes-words _ t w (saved-words s x h);
-  unsaves = λ o g a l vs t u w b c d e r. goes-words _ t u (unsaved-words s o g a l vs w c d e r h);
-  stores = λ v a w. goes-words s a w h;
-  computes = λ f x u v a wu wv w. goes-words _ a w (computed-words s f x u v wu wv h);
-}
-
-meets-trip : (s : State) (n u v : ℕ) → Word n → Word u → Word v → Words s → MeetsTrip s Word (λ r t. Words t) n u v
-meets-trip s n u v p q r h = record {
-  trips = λ a w. goes-words _ a w (interrupted-words s rB rW rX rY rZ n u v p q r h);
-  trips-not = halted-words _ (interrupted-words s rB rW rX rY rZ n u v p q r h);
-}
-
-meets-raise : (s : State) (f n u v : ℕ) → Word n → Word u → Word v → Words s → MeetsRaise s Word (λ r t. Words t) f n u v
-meets-raise s f n u v p q r h = record { adds = λ a c. goes-words _ a c (added-words s f h); takes = meets-trip (withAdded s f) n u v p q r (added-words s f h) }
-
-meets-interrupt : (s : State) (m : Arm) (op x y z : ℕ) → InstructionFits op x y z → Words s → MeetsInterrupt s Word (λ r t vs. Words t) m op x y z
-meets-interrupt s m op x y z f h =
-    let n : Word (wordOf op x y z) = word-small op x y z f in
-    record {
-      trips = λ e. meets-trip s (wordOf op x y z) (reg s y) (reg s z) n (h .general-word y) (h .general-word z) h;
-      traps = λ e. halted-words _ (interrupted-words s rBB rWW rXX rYY rZZ (wordOf op x y z) (reg s y) (reg s z) n (h .general-word y) (h .general-word z) h);
-      stores = λ d o e v. meets-raise s flagV (wordOf op x y z) (sumOf s o y z) (reg s x) n (omega arith) (h .general-word x) h;
-      computes = λ k p q e.
-          let a : Word (operandOf s p y) = operand-word p y (f .y-byte) in
-          let b : Word (operandOf s q z) = operand-word q z (f .z-byte) in
-          meets-raise (withResults s x _) _ (wordOf op x y z) (operandOf s p y) (operandOf s q z) n a b (computed-words s k x (operandOf s p y) (operandOf s q z) a b h);
-    }
-  where
-    operand-word : (o : Operand) (k : ℕ) → k < 256 → Word (operandOf s o k)
-    operand-word register k b = h .general-word k
-    operand-word immediate k b = omega arith
-
-three-words : (w : Windows) (s : State) (op x y z : ℕ) → InstructionFits op x y z → Bytes w → Words s → Words (performOn w s (fromThree s (armOf op) op x y z) .state)
-unfolding fromThree
-three-words w s op x y z f b h =
-    on (λ (p : Plan State). Words (performOn w s p .state)) (eqb (refusalOf (armOf op) x y z) 0)
-    (λ e. let y-word : Word y = let c : y < 256 = f .y-byte in omega arith in
-    let z-word : Word z = let c : z < 256 = f .z-byte in omega arith in
-    perform-meets w s (Below (2 ^ 64)) (λ r t vs. Words t) (λ o. Words (o .state)) h (λ r t a vs k. k) (λ a n. looks-words n w a b) (planOf s (armOf op) op x y z)
-    (plan-meets s Word (Below (2 ^ 64)) (λ r t vs. Words t) (meets-words s h) (armOf op) op x y z y-word z-word (meets-interrupt s (armOf op) op x y z f h)))
-    (λ e. unfold tell in (rw (said w s s (refusalOf (armOf op) x y z)) h))
-
-instruction-words : (w : Windows) (s : State) (op x y z : ℕ) → InstructionFits op x y z → Bytes w → Words s → Words (performOn w s (instructionPlan s op x y z) .state)
-instruction-words w s op x y z f b h = go (claims op) refl
-  where
-    back : (r : ℕ) (t : State) → Words t → Words (settledBy s r t)
-    back r t k = unfold settledBy in
-        (on Words (keepsClaim r) (λ e. k)
-        (λ e. record { general-word = h .general-word; special-word = h .special-word; pc-word = k .pc-word; halt-word = k .halt-word; marks-word = k .marks-word; mask-word = k .mask-word }))
-
-    go : (c : Bool) → claims op ≡ c → Words (performOn w s (instructionPlan s op x y z) .state)
-    go true e = rw (instruction-claims w s op x y z e) (back _ _ (three-words w (claimLocal s x) op x y z f b (claim-words s x h)))
-    go false e = rw (instruction-free w s op x y z e) (three-words w s op x y z f b h)
-
-tetra-words : (w : Windows) (s : State) (v : ℕ) → Bytes w → Words s → Words (performOn w s (tetraPlan s (tetraAt s v)) .state)
-unfolding tetraPlan
-tetra-words w s v b h = instruction-words w s _ _ _ _ (tetra-fits s v) b h
-
-fetched-words : (w : Windows) (s : State) → Bytes w → Words s → Words (fetchedOf w s .state)
-fetched-words w s b h =
-    fetched-by (λ o. Words (o .state)) w s (λ a. h) (λ a n. h) (λ a r i. h)
-    (λ a r i. rw (fetched-there w s a r i) (tetra-words w s (look both w (s .pc)) b h))
-
-pub item-words : (w : Windows) (s : State) (i : Item) → Fits i → Bytes w → Words s → Words (stepOn both mmix s w i .state)
-unfolding stepOn mmix itemPlan Fits both
-item-words w s (step op x y z) f b h =
-    perform-meets w s (Below (2 ^ 64)) (λ r t vs. Words t) (λ o. Words (o .state)) h (λ r t a vs k. k) (λ a n. looks-words n w a b) (stepPlan s (shapesOf w) op x y z)
-    (step-meets s (shapesOf w) (Below (2 ^ 64)) (λ r t vs. Words t) (λ n c. h) op x y z
-    (λ e. let y-word : Word y = let c : y < 256 = f .y-byte in omega arith in
-    let z-word : Word z = let c : z < 256 = f .z-byte in omega arith in
-    plan-meets s Word (Below (2 ^ 64)) (λ r t vs. Words t) (meets-words s h) (armOf op) op x y z y-word z-word (meets-interrupt s (armOf op) op x y z f h)))
-item-words w s (exception g op x y z u v) f b h =
-    perform-meets w s (Below (2 ^ 64)) (λ r t vs. Words t) (λ o. Words (o .state)) h (λ r t a vs k. k) (λ a n. looks-words n w a b) (tell (exceptionOf s g op x y z u v))
-    (unfold tell Answers in (exception-meets s Word (λ r t. Words t) g op x y z u v (λ n c. c) h
-    (λ e. meets-raise s g (wordOf op x y z) u v (word-small op x y z (f .0)) (f .1) (f .2) h)))
-item-words w s fetched f b h = unfold fetchedOf in (fetched-words w s b h)

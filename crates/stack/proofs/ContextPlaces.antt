@@ -17,13 +17,13 @@ use Rattle.model.specs.declared.Reply.{Reply}
 use Rattle.model.specs.declared.Reply.the-variants.{Missing, SavedThreshold, SavedStatus, SavedCount}
 use Rattle.model.proofs.Bools.{on}
 use Rattle.model.proofs.Memory.{both-lawful}
-use Rattle.model.proofs.ArmAnswers.{worst-six}
+use Rattle.model.proofs.StepAnswers.{worst-six}
 use Rattle.model.proofs.Runs.{perform-read, worst-of, of-worst}
 use Rattle.model.proofs.SaveUnsave.{refusing-mod, looked, Context, context-found}
 use Rattle.model.proofs.Entry.{performOn, Inside, said, judged-inside, inside-judged}
 use Rattle.machine.specs.Octas.{readOcta}
-use Rattle.machine.proofs.Octas.{read-in, read-mod}
-use Rattle.machine.proofs.RunTest.{run-one}
+use Rattle.machine.proofs.BothOctas.{read-in, read-mod}
+use Rattle.machine.proofs.RunRefused.{run-one}
 use Rattle.stack.specs.SaveUnsave.{layoutAt, countReply, layoutNumber, layoutAnswer, LayoutIs, spot, locatedOf, locatedNumber, locatedAnswer, LocatedIs}
 use Rattle.stack.specs.declared.layout.Layout.{Layout}
 use Rattle.stack.specs.declared.layout.Layout.the-variants.{Excess, Outside}

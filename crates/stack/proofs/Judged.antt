@@ -22,7 +22,7 @@ use Rattle.model.proofs.Bools.{on}
 use Rattle.model.proofs.Runs.{worst-of, of-worst}
 use Rattle.model.proofs.Entry.{performOn, Inside, unruled-is}
 use Rattle.model.proofs.Entry as entry
-use Rattle.model.proofs.ArmAnswers.{worst-six}
+use Rattle.model.proofs.StepAnswers.{worst-six}
 use Rattle.stack.specs.GivenBack.{Refused, Unruled, guardedOn, refusalOn, onlyIf}
 
 abbrev pub ended : {S : Type 0} → ℕ → S → Windows → Outcome S Windows

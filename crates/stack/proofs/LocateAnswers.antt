@@ -17,7 +17,7 @@ use Rattle.model.specs.declared.Reply.{Reply}
 use Rattle.model.specs.declared.Reply.the-variants.{Missing}
 use Rattle.model.proofs.Numbers.{numbered}
 use Rattle.model.proofs.Bools.{on-both, and-right}
-use Rattle.model.proofs.ArmAnswers.{worst-six}
+use Rattle.model.proofs.StepAnswers.{worst-six}
 use Rattle.model.proofs.SaveUnsave.{octasOf}
 use Rattle.model.proofs.Entry.{performOn, Inside}
 use Rattle.stack.specs.SaveUnsave.{spot, locatedOf, locatedAnswer, LocatedIs}

@@ -10,7 +10,7 @@ use Rattle.model.specs.Step.{refusing}
 use Rattle.model.proofs.Plan.{worst-head}
 use Rattle.model.proofs.Entry.{inside-judged}
 use Rattle.machine.specs.Octas.{readOcta, writtenOcta}
-use Rattle.machine.proofs.Octas.{read-in, written-in}
+use Rattle.machine.proofs.BothOctas.{read-in, written-in}
 
 module _ (w : Windows) (a : ℕ) (e : worst (refusing (shapesOf w)) a 1 ≡ 0) where
   pub octa-read : readOcta w a ≡ look both w a

@@ -24,7 +24,7 @@ use Rattle.model.proofs.Runs.{length-tab, getD-looks, perform-read}
 use Rattle.model.proofs.Entry.{performOn, Inside, said}
 use Rattle.model.proofs.PushPop.{called, push-is}
 use Rattle.machine.specs.Octas.{readOcta}
-use Rattle.machine.proofs.Octas.{run-read}
+use Rattle.machine.proofs.BothOctas.{run-read}
 use Rattle.stack.specs.GivenBack.{refusalOn, placed, Gives}
 use Rattle.stack.specs.PushPop.{pushOf, pushIn, popOf, popIn, popNumber, popAnswer, PopGives}
 use Rattle.stack.specs.declared.frame.PopFrame.{PopFrame}

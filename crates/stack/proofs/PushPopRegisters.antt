@@ -27,8 +27,9 @@ use Rattle.model.proofs.Memory.{both-lawful}
 use Rattle.model.proofs.Runs.{getD-looks}
 use Rattle.model.proofs.AdmissibleKept.{spec-other}
 use Rattle.machine.specs.Octas.{writtenRangeBy, readOcta, writtenOcta, writtenRange}
-use Rattle.machine.proofs.Octas.{puts-none, puts-tab, puts-run, run-read}
-use Rattle.machine.proofs.RunTest.{run-one, held-inside, held-outside}
+use Rattle.machine.proofs.BothOctas.{puts-none, puts-tab, puts-run, run-read}
+use Rattle.machine.proofs.RunTest.{held-inside, held-outside}
+use Rattle.machine.proofs.RunRefused.{run-one}
 use Rattle.stack.specs.GivenBack.{placed}
 use Rattle.stack.specs.PushPop.{Held, Placed, bottomOf, betweenBy}
 

@@ -17,7 +17,7 @@ use Rattle.model.specs.declared.State.{State}
 use Rattle.model.proofs.AdmissibleKept.{Adm}
 use Rattle.model.proofs.SaveUnsave.{saved-local, saved-count, saved-global, saved-twelve, saved-packed}
 use Rattle.machine.specs.Octas.{writtenRangeBy, writtenOcta, writtenRun, writtenRange}
-use Rattle.machine.proofs.Octas.{puts-none, puts-tab, puts-run}
+use Rattle.machine.proofs.BothOctas.{puts-none, puts-tab, puts-run}
 use Rattle.stack.specs.ContextWork.{Ranged, StoresContext, leftGeneral, leftSpecial}
 
 -- ---- a run that goes on

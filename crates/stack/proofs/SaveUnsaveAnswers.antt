@@ -19,7 +19,7 @@ use Rattle.model.specs.declared.State.{State}
 use Rattle.model.specs.declared.Reply.{Reply}
 use Rattle.model.specs.declared.Reply.the-variants.{Done, NotAdmissible, Missing, SaveLocal}
 use Rattle.model.proofs.AdmissibleKept.{Adm, adm}
-use Rattle.model.proofs.ArmAnswers.{worst-six}
+use Rattle.model.proofs.StepAnswers.{worst-six}
 use Rattle.model.proofs.Runs.{length-tab}
 use Rattle.model.proofs.Numbers.{numbered}
 use Rattle.model.proofs.Entry.{performOn, Inside, said}

@@ -25,7 +25,7 @@ use Rattle.model.proofs.Memory.{both-lawful}
 use Rattle.model.proofs.Runs.{getD-tab, length-tab, getD-looks}
 use Rattle.model.proofs.SaveUnsave.{further, savedSpecial-low, savedSpecial-high}
 use Rattle.machine.specs.Octas.{readOcta}
-use Rattle.machine.proofs.Octas.{run-read, read-mod}
+use Rattle.machine.proofs.BothOctas.{run-read, read-mod}
 use Rattle.stack.specs.ContextWork.{octasFrom, loaded}
 
 -- ---- octabytes as code reads them

@@ -17,7 +17,7 @@ use Rattle.model.specs.NoMemory.{tell}
 use Rattle.model.specs.declared.State.{State}
 use Rattle.model.proofs.Bools.{on}
 use Rattle.model.proofs.Entry.{said}
-use Rattle.model.proofs.Leaves.{replies-leave}
+use Rattle.model.proofs.RepliesLeft.{replies-leave}
 use Rattle.studies.specs.Tasks.{Own, foreign, refusingIn, anyForeign, mmixIn}
 use Rattle.studies.specs.TasksMeant.{ForeignMeant}
 use Rattle.studies.proofs.Judge.{whole-judge}

@@ -14,7 +14,7 @@ use Rattle.machine.specs.Octas.{readOcta}
 use Rattle.stack.specs.declared.layout.Layout.the-variants as layout
 use Rattle.model.proofs.Memory.{holder-octa}
 use Rattle.model.proofs.Runs.{octa-mod}
-use Rattle.machine.proofs.Octas.{read-mod}
+use Rattle.machine.proofs.BothOctas.{read-mod}
 use Rattle.stack.proofs.PassedOctas.{octa-held}
 use Rattle.studies.specs.Tasks.{anyForeign}
 use Rattle.turns.specs.Ask.{ownOf, wholeOf, isForeign, asks, OwnOnly}

@@ -24,7 +24,7 @@ use Rattle.model.proofs.Memory.{both-lawful}
 use Rattle.model.proofs.Plan.{worst-head, worst-tail}
 use Rattle.model.proofs.Entry.{inside-judged}
 use Rattle.model.proofs.Locality.{fetched-is-local}
-use Rattle.model.proofs.Leaves.{replies-leave}
+use Rattle.model.proofs.RepliesLeft.{replies-leave}
 use Rattle.model.proofs.RunLaws.{run-none, run-done, run-refused}
 use Rattle.model.proofs.RunMeant.{Ready, fetched-on, fetched-shapes, fetched-ready}
 use Rattle.studies.specs.Tasks.{Own, foreign, refusingIn, mmixIn, anyForeign}

@@ -2,7 +2,7 @@
 use mathlib.Core.Path.{sym}
 use mathlib.Core.Bool.{true≢false}
 use native.Mathlib.Omega.{arith}
-use Rattle.machine.proofs.RunTest.{are-apart}
+use Rattle.machine.proofs.RunRefused.{are-apart}
 use borrow.Author.Needs.{needs}
 use Rattle.machine.proofs.memory.are_apart.Statement.{statement}
 use Rattle.machine.proofs.memory.are_apart.Tie as tie

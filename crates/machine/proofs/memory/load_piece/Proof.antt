@@ -2,7 +2,7 @@
 use mathlib.Core.Path.{_∙_}
 use native.Mathlib.Omega.{arith}
 use Rattle.model.specs.Parts.{lent}
-use Rattle.machine.proofs.Octas.{load-a, load-b, load-lost, room-a, room-b}
+use Rattle.machine.proofs.BothOctas.{load-a, load-b, load-lost, room-a, room-b}
 use borrow.Author.Needs.{needs}
 use Rattle.machine.proofs.memory.load_piece.Statement.{statement}
 use Rattle.machine.proofs.memory.load_piece.Tie as tie

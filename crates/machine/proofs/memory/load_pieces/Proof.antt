@@ -6,7 +6,7 @@ use Rattle.model.specs.Fill.{over}
 use Rattle.model.specs.Parts.{lent}
 use Rattle.model.proofs.Fill.{over-none, over-end}
 use Rattle.machine.specs.Octas.{readOcta}
-use Rattle.machine.proofs.Octas.{alike-at}
+use Rattle.machine.proofs.BothOctas.{alike-at}
 use Rattle.machine.proofs.RegisterRanges.{over-joined, over-cut}
 use borrow.Author.Needs.{needs}
 use Rattle.machine.proofs.memory.load_pieces.Statement.{statement}

@@ -2,7 +2,7 @@
 use mathlib.Core.Path.{refl, sym, _∙_}
 use native.Mathlib.Omega.{arith}
 use Rattle.model.specs.Parts.{lent}
-use Rattle.machine.proofs.Octas.{load-b, whole-b}
+use Rattle.machine.proofs.BothOctas.{load-b, whole-b}
 use Rattle.machine.proofs.RunTest.{held-range}
 use borrow.Author.Needs.{needs}
 use Rattle.machine.proofs.memory.load_range.Statement.{statement}

@@ -6,7 +6,7 @@ use Rattle.model.specs.Memory.{shapesOf}
 use Rattle.model.specs.Plan.{worst}
 use Rattle.model.specs.Step.{refusing}
 use Rattle.model.specs.Parts.{lent}
-use Rattle.machine.proofs.RunTest.{lacks, enough, passes}
+use Rattle.machine.proofs.RunRefused.{lacks, enough, passes}
 use borrow.Author.Needs.{needs}
 use Rattle.machine.proofs.memory.pieces_refusal.Statement.{statement}
 use Rattle.machine.proofs.memory.pieces_refusal.Tie as tie

@@ -3,7 +3,7 @@ use native.Mathlib.Omega.{arith}
 use lib.Dec.{ltb}
 use borrow.Author.Tests.{lt-ltb}
 use mathlib.Core.Path.{sym}
-use Rattle.machine.proofs.RunTest.{reached, unreached, and-none}
+use Rattle.machine.proofs.RunRefused.{reached, unreached, and-none}
 use borrow.Author.Needs.{needs}
 use Rattle.machine.proofs.memory.reaches.Statement.{statement}
 use Rattle.machine.proofs.memory.reaches.Tie as tie

@@ -1,7 +1,7 @@
 -- `read_octa` meets its contract: the octabyte of the window that holds it.
 use mathlib.Core.Path.{sym, _∙_}
 use Rattle.model.specs.Parts.{lent}
-use Rattle.machine.proofs.Octas.{in-a, in-b, in-none, read-a, read-b, read-none}
+use Rattle.machine.proofs.BothOctas.{in-a, in-b, in-none, read-a, read-b, read-none}
 use borrow.Author.Needs.{needs}
 use Rattle.machine.proofs.memory.read_octa.Statement.{statement}
 use Rattle.machine.proofs.memory.read_octa.Tie as tie

@@ -2,7 +2,7 @@
 use mathlib.Core.Path.{sym}
 use native.Mathlib.Omega.{arith}
 use Rattle.model.specs.Memory.{shapeOf, shapesOf}
-use Rattle.machine.proofs.RunTest.{within-b}
+use Rattle.machine.proofs.RunRefused.{within-b}
 use borrow.Author.Needs.{needs}
 use Rattle.machine.proofs.memory.run_refusal.Statement.{statement}
 use Rattle.machine.proofs.memory.run_refusal.Tie as tie

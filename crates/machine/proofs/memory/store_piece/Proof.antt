@@ -1,7 +1,7 @@
 -- `store_piece` meets its contract: each octabyte of a piece is the one window's, or neither's.
 use native.Mathlib.Omega.{arith}
 use Rattle.model.specs.Parts.{lent}
-use Rattle.machine.proofs.Octas.{room-a, room-b, store-a, store-b, store-lost}
+use Rattle.machine.proofs.BothOctas.{room-a, room-b, store-a, store-b, store-lost}
 use borrow.Author.Needs.{needs}
 use Rattle.machine.proofs.memory.store_piece.Statement.{statement}
 use Rattle.machine.proofs.memory.store_piece.Tie as tie

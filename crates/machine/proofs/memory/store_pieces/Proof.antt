@@ -6,7 +6,8 @@ use lib.ListN.{length, getD}
 use Rattle.model.specs.Memory.{both}
 use Rattle.model.specs.Parts.{lent}
 use Rattle.machine.specs.Octas.{writtenRun, writtenRangeBy}
-use Rattle.machine.proofs.Octas.{run-none, run-lengths, run-further}
+use Rattle.machine.proofs.Octas.{run-none}
+use Rattle.machine.proofs.BothOctas.{run-lengths, run-further}
 use borrow.Author.Needs.{needs}
 use Rattle.machine.proofs.memory.store_pieces.Statement.{statement}
 use Rattle.machine.proofs.memory.store_pieces.Tie as tie

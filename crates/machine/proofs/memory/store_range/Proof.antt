@@ -5,7 +5,7 @@ use native.Mathlib.Omega.{arith}
 use lib.ListN.{getD}
 use Rattle.model.specs.Parts.{lent}
 use Rattle.machine.specs.Octas.{writtenRun, writtenRangeBy}
-use Rattle.machine.proofs.Octas.{store-b, whole-b}
+use Rattle.machine.proofs.BothOctas.{store-b, whole-b}
 use Rattle.machine.proofs.RunTest.{held-range}
 use borrow.Author.Needs.{needs}
 use Rattle.machine.proofs.memory.store_range.Statement.{statement}

@@ -4,7 +4,7 @@ use Rattle.model.specs.Memory.{shapeOf, shapesOf}
 use Rattle.model.proofs.Bools.{denied, granted}
 use Rattle.model.proofs.Entry.{unruled-two, unruled-shared, none-unruled}
 use Rattle.model.proofs.Apart.{ruled-a, ruled-b}
-use Rattle.machine.proofs.RunTest.{first-unruled, second-unruled, both-ruled, shared-first, shared-second}
+use Rattle.machine.proofs.RunRefused.{first-unruled, second-unruled, both-ruled, shared-first, shared-second}
 use borrow.Author.Needs.{needs}
 use Rattle.machine.proofs.memory.windows_refusal.Statement.{statement}
 use Rattle.machine.proofs.memory.windows_refusal.Tie as tie

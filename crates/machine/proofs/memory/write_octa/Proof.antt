@@ -2,7 +2,8 @@
 use mathlib.Core.Path.{sym, _∙_}
 use native.Mathlib.Omega.{arith}
 use Rattle.model.specs.Parts.{lent}
-use Rattle.machine.proofs.Octas.{has-fits, has-written, in-b, in-none, write-in-a, write-in-b, write-none}
+use Rattle.machine.proofs.Octas.{has-fits, has-written}
+use Rattle.machine.proofs.BothOctas.{in-b, in-none, write-in-a, write-in-b, write-none}
 use borrow.Author.Needs.{needs}
 use Rattle.machine.proofs.memory.write_octa.Statement.{statement}
 use Rattle.machine.proofs.memory.write_octa.Tie as tie

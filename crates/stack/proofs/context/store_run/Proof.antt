@@ -9,7 +9,7 @@ use Rattle.model.specs.Memory.{Window, Windows}
 use Rattle.model.specs.Parts.{lent}
 use Rattle.machine.specs.Octas.{lentOne, writtenRun, writtenRange, writtenRangeBy}
 use Rattle.machine.proofs.RunTest.{held-range}
-use Rattle.machine.proofs.Octas.{store-b, whole-b}
+use Rattle.machine.proofs.BothOctas.{store-b, whole-b}
 use Rattle.stack.proofs.context.store_run.Statement.{statement}
 use Rattle.stack.proofs.context.store_run.Tie as tie
 

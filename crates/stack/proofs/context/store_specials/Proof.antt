@@ -7,7 +7,8 @@ use Rattle.model.specs.Memory.{both}
 use Rattle.model.specs.Contexts.{savedSpecial}
 use Rattle.model.specs.Parts.{lent}
 use Rattle.machine.specs.Octas.{writtenRun}
-use Rattle.machine.proofs.Octas.{written-lengths, run-none, run-more}
+use Rattle.machine.proofs.Octas.{run-none}
+use Rattle.machine.proofs.BothOctas.{written-lengths, run-more}
 use borrow.Author.Needs.{needs}
 use Rattle.stack.proofs.context.store_specials.Statement.{statement}
 use Rattle.stack.proofs.context.store_specials.Tie as tie
