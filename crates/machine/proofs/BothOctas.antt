@@ -23,7 +23,7 @@ use Rattle.machine.specs.Octas.{readBy, writtenBy, writtenRunBy, readOct
 use Rattle.machine.specs.Pieces.{PieceIs}
 use Rattle.machine.proofs.RegisterRanges.{over-alike}
 use Rattle.machine.proofs.RunTest.{room-short, has-b, has-a, has-none, piece-b}
-use Rattle.machine.proofs.Octas.{inside-read, inside-written, written-shape, run-shape, read-at}
+use Rattle.machine.proofs.Octas.{inside-read, inside-written, written-shape, run-shape, read-at, written-at, run-turn, run-joined}
 
 -- ---- two windows, by the one that holds the octabyte
 
