@@ -1,4 +1,5 @@
 //! Whole-number arithmetic: operations on octabytes, with no state. `operation` has the one entry.
+#![tactic(auto)]
 
 pub mod number;
 pub mod operation;

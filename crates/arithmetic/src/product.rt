@@ -6,7 +6,7 @@ ghost use Rattle.model.specs.Arithmetic.{exact, multiplied};
 use super::number;
 use model::{Operands, Results};
 
-#[derive(Drop)]
+#[derive(Clone, Copy)]
 struct Product {
     high: u64,
     low: u64,

@@ -5,7 +5,7 @@ ghost use Rattle.model.specs.Arithmetic.{divided_wide};
 
 use model::{Operands, Results};
 
-#[derive(Drop)]
+#[derive(Clone, Copy)]
 pub struct Quotient {
     pub quotient: u64,
     pub remainder: u64,

@@ -7,6 +7,7 @@
 //! - `registers`: the arms that move nothing but registers
 //! - `calls`: those that work on frames
 //! - `saves`: those that work on saved contexts
+#![tactic(auto)]
 
 pub mod calls;
 pub mod control;

@@ -1,5 +1,6 @@
 //! The bench program: a script on standard input, what it prints on standard output. A read or a write that fails is told on
 //! standard error.
+#![tactic(auto)]
 
 ghost use Rattle.std.specs.Prelude.{◌≡◌, ◌≤◌, length};
 ghost use Rattle.script.specs.Script.{input_length, output_length};
@@ -21,7 +22,7 @@ fn output_buffer() -> [u8; OUTPUT_LEN]
 }
 
 /// What reading came to: how many bytes, or a read that failed.
-#[derive(Drop)]
+#[derive(Clone, Copy)]
 enum Input {
     Read(usize),
     Failed,

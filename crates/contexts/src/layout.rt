@@ -20,14 +20,14 @@ pub const CONTEXT_OCTAS: u64 = 270;
 pub const PACKED_RG: u64 = 0x100000000000000;
 
 /// Below a saved context's packed octabyte: how many locals it has, and the address of the first. (The Rust's other fields serve nobody here.)
-#[derive(Drop)]
+#[derive(Clone, Copy)]
 pub struct SaveContextLayout {
     pub local_count: u64,
     pub locals_base: u64,
 }
 
 /// The layout, or why there is none.
-#[derive(Drop)]
+#[derive(Clone, Copy)]
 pub enum Layout {
     /// The context's parts.
     Found(SaveContextLayout),
@@ -38,7 +38,7 @@ pub enum Layout {
 }
 
 /// A context each octabyte of which is lent, by one window or the other: the address of its first local, its r_g, r_a and local count.
-#[derive(Drop)]
+#[derive(Clone, Copy)]
 pub struct SavedContext {
     pub first: u64,
     pub rg: u64,
@@ -47,7 +47,7 @@ pub struct SavedContext {
 }
 
 /// Where a context is, or the reply that refuses it.
-#[derive(Drop)]
+#[derive(Clone, Copy)]
 pub enum Located {
     /// It is there.
     Found(SavedContext),

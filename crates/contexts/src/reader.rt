@@ -14,7 +14,7 @@ use model::{Bases, Octabyte, Reply};
 
 /// Where a context lies: the reply, which window, as in `Octabyte`, its first byte's index there and its length; all three 0 where it is
 /// refused.
-#[derive(Drop)]
+#[derive(Clone, Copy)]
 pub struct Place {
     pub reply: Reply,
     pub which: u64,

@@ -5,6 +5,7 @@
 //! - `field`: which field reaches an address
 //! - `operand`: sizes, places and signs of what loads and stores move
 //! - `word`: the instruction itself, as a trip keeps it
+#![tactic(auto)]
 
 pub mod field;
 pub mod opcode;

@@ -1,4 +1,5 @@
 //! The state image: 292 octabytes, high byte first; an old one has no mask, and 291.
+#![tactic(auto)]
 
 ghost use Rattle.std.specs.Prelude.{◌≡◌, true, cond, ◌&&◌};
 ghost use Rattle.model.specs.Registers.{admissible};
@@ -17,14 +18,14 @@ pub(crate) const AT_REST: usize = 2304;
 pub(crate) const AT_MASK: usize = OLD_IMAGE_LEN;
 
 /// A reply's number, and the state that it leaves.
-#[derive(Drop)]
+#[derive(Clone, Copy)]
 pub struct Answer {
     pub reply: u64,
     pub state: State,
 }
 
 /// What a state has beside its registers.
-#[derive(Drop)]
+#[derive(Clone, Copy)]
 pub struct Rest {
     pub pc: u64,
     pub halt: u64,

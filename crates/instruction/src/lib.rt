@@ -4,6 +4,7 @@
 //! - `claim`: the claim of $X by an instruction that is fetched
 //! - `run`: one instruction that is fetched at PC, and a run of them
 //! - `value`: one step and one exception on a state that goes in and comes back
+#![tactic(auto)]
 
 pub mod claim;
 pub mod run;

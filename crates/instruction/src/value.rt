@@ -8,14 +8,14 @@ ghost use Rattle.instruction.specs.StepAnswer.{Numbered};
 use model::{Bases, Reply, State};
 
 /// A reply and the state that it leaves.
-#[derive(Drop)]
+#[derive(Clone, Copy)]
 pub struct Outcome {
     pub reply: Reply,
     pub state: State,
 }
 
 /// The number of a step's reply and the state that it leaves.
-#[derive(Drop)]
+#[derive(Clone, Copy)]
 pub struct Stepped {
     pub number: u64,
     pub state: State,

@@ -11,7 +11,7 @@ ghost use Rattle.machine.specs.Pieces.{PieceIs};
 use model::{Bases, Octabyte, replies};
 
 /// Octabytes from an address up that one window holds: which window, as in `Octabyte`, and how many; one octabyte where neither holds it.
-#[derive(Drop)]
+#[derive(Clone, Copy)]
 pub(crate) struct Piece {
     pub(crate) holder: u64,
     pub(crate) octas: u64,

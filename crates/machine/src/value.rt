@@ -7,7 +7,7 @@ ghost use Rattle.machine.specs.Put.{PutGives};
 use model::{Reply, State};
 
 /// What PUT answers, and the state that it leaves.
-#[derive(Drop)]
+#[derive(Clone, Copy)]
 pub struct Put {
     pub reply: Reply,
     pub state: State,

@@ -1,4 +1,5 @@
 //! The C library: what a relay host calls, on numbers and byte slices. 0 is done; 1 to 33 are the refusals. `mmix_version` alone answers another number.
+#![tactic(auto)]
 
 ghost use Rattle.std.specs.Prelude.{◌≡◌};
 ghost use Rattle.model.specs.Control.{branch_fields, jump_fields};

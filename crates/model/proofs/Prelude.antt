@@ -13,7 +13,7 @@ pub use Rattle.model.proofs.Logic.{length-append, length-drop, length-map, lengt
 pub use Rattle.model.proofs.Logic.{get_or_eq_default, replicate, replicate-append-replicate, set, take, take-append-drop, pow-add, pow_mono, pow_pos}
 pub use Rattle.model.proofs.Logic.{shl_lt, shr-shr, split, append_snoc, drop-append-le, drop_at, drop-cons, drop-drop, ext_get_or, get_or-append-add}
 pub use Rattle.model.proofs.Logic.{get_or-drop, get_or-set_other, get_or-set_same, get_or-take, length-take-le, set-append_left, set-get_or, set_out, set-set}
-pub use Rattle.model.proofs.Logic.{split_at, take_all, take-append-le, take_at, take-suc, take-suc-set, take-take, lt_z, mag, non_neg, needs, eq-eqb}
+pub use Rattle.model.proofs.Logic.{split_at, take_all, take-append-le, take_at, take-suc, take-suc-set, take-take, lt_z, mag, non_neg, eq-eqb}
 pub use Rattle.model.proofs.Logic.{eqb-false, eqb-true, le-leb, le-ltb, leb-false, leb-true, lt-leb, lt-ltb, ltb-false, ltb-true, ne_eqb, not-false}
 pub use Rattle.model.proofs.Logic.{not-true, tag_of, w64, has_key, OneOf}
 unfoldable pub use Rattle.model.proofs.Logic.{length}

@@ -1,5 +1,6 @@
 //! What MMIX is: the state of the machine, the reply of a step, the lent windows' bases, which field reaches an address, what a whole-number operation takes and gives.
 //! specs/ defines the rest.
+#![tactic(auto)]
 
 ghost use Rattle.std.specs.Prelude.{◌≡◌};
 ghost use Rattle.model.specs.Registers.{fresh, fresh_at};
@@ -8,7 +9,7 @@ pub mod number;
 pub mod replies;
 
 /// Where the two lent windows lie: the base addresses of A and of B, the stack's.
-#[derive(Drop)]
+#[derive(Clone, Copy)]
 pub struct Bases {
     pub a: u64,
     pub b: u64,
@@ -17,7 +18,7 @@ pub struct Bases {
 /// 256 general registers, 32 special ones, PC, halt code (the Rust's `exit_code`), vector marks and the mask of hidden registers:
 /// bit k of the marks says that all four bytes at 16 × k were loaded, bit k of the mask that special k is hidden from programs.
 #[repr(C)]
-#[derive(Drop)]
+#[derive(Clone, Copy)]
 pub struct State {
     pub general: [u64; 256],
     pub special: [u64; 32],
@@ -28,7 +29,7 @@ pub struct State {
 }
 
 /// The reply of a call: done, or one of the refusals in the order of their numbers.
-#[derive(Drop)]
+#[derive(Clone, Copy)]
 pub enum Reply {
     Done,
     // 1 to 6 leave everything as it was.
@@ -83,7 +84,7 @@ pub enum Reply {
 }
 
 /// An octabyte that was read, and which window holds it: `IN_A`, `IN_B` or `IN_NEITHER`.
-#[derive(Drop)]
+#[derive(Clone, Copy)]
 pub struct Octabyte {
     pub value: u64,
     pub holder: u64,
@@ -106,7 +107,7 @@ pub const IMAGE_LEN: usize = 2336;
 pub const OLD_IMAGE_LEN: usize = 2328;
 
 /// Which field of an instruction reaches an address: its direction and its value.
-#[derive(Drop)]
+#[derive(Clone, Copy)]
 pub enum Reach {
     Forward(u32),
     Backward(u32),
@@ -115,7 +116,7 @@ pub enum Reach {
 }
 
 /// The whole-number operations in the order of their opcodes, 0x18 to 0x3F: each with $Z, then with Z.
-#[derive(Drop)]
+#[derive(Clone, Copy)]
 pub enum Operation {
     Mul,
     Mulu,
@@ -141,7 +142,7 @@ pub enum Operation {
 }
 
 /// What an operation takes: $Y (of NEG and NEGU the constant Y), $Z or Z, and the special registers r_d, r_h and r_r.
-#[derive(Drop)]
+#[derive(Clone, Copy)]
 pub struct Operands {
     pub y: u64,
     pub z: u64,
@@ -151,7 +152,7 @@ pub struct Operands {
 }
 
 /// What it gives: $X, r_h, r_r and the exception flag: D (0x80), V (0x40) or none (0).
-#[derive(Drop)]
+#[derive(Clone, Copy)]
 pub struct Results {
     pub x: u64,
     pub rh: u64,

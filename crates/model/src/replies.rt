@@ -73,6 +73,7 @@ pub const FOREIGN: u64 = 32;
 pub const TASKS_RULE: u64 = 33;
 
 /// The number of a reply.
+#[tactic(auto, unfolding(crate::specs::Numbers::number_of))]
 pub fn number_of(reply: Reply) -> u64
     ensures { result ≡ number_of reply }
 {
@@ -115,6 +116,7 @@ pub fn number_of(reply: Reply) -> u64
 }
 
 /// The reply of a number; of one above 33, which is no reply's, `Done`.
+#[tactic(auto, unfolding(crate::specs::Numbers::reply_of))]
 pub fn reply_of(number: u64) -> Reply
     ensures { result ≡ reply_of number }
 {

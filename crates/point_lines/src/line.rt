@@ -32,7 +32,7 @@ pub const SECOND_AT: usize = 24;
 pub const STATE_AT: usize = 75;
 
 /// How many digits each length of a line has, and its state. None of either: the line is no point's.
-#[derive(Drop)]
+#[derive(Clone, Copy)]
 pub struct Widths {
     pub lengths: usize,
     pub state: usize,
@@ -100,7 +100,7 @@ fn is_form(line: &[u8], w: usize, d: usize, k: u64) -> bool
 }
 
 // A line held against the front of a form.
-#[derive(Drop)]
+#[derive(Clone, Copy)]
 struct Met {
     // The line has met all of it.
     good: bool,

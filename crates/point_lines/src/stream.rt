@@ -12,7 +12,7 @@ pub const HELD_LEN: usize = super::line::LONGEST_LINE + 1;
 const BAD_MOST: usize = 27;
 
 /// What a chunk brings to the line that is held.
-#[derive(Drop)]
+#[derive(Clone, Copy)]
 pub enum Turn {
     /// It has no end yet, and there is room for one: so many bytes are held.
     More(usize),

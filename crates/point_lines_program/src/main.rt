@@ -1,5 +1,6 @@
 //! The program `make points`: lines of points on standard input, each again on standard output, one of an older form in the new; a line that is no
 //! point's is told by `(bad N)`, and ends it. A read or a write that fails is told on standard error.
+#![tactic(auto)]
 
 ghost use Rattle.std.specs.Prelude.{◌≡◌, ◌+◌, ◌≤◌, ◌<◌, ◌^◌, length};
 ghost use Rattle.point_lines.specs.Line.{longest_line};
@@ -9,7 +10,7 @@ use libc::{STDERR_FILENO, STDIN_FILENO, STDOUT_FILENO};
 use point_lines::stream::{HELD_LEN, Turn};
 
 /// Where the program stands: the bytes of the input buffer from `at` to `end` are not looked at yet, and `count` bytes are held of line `number`.
-#[derive(Drop)]
+#[derive(Clone, Copy)]
 struct Place {
     at: usize,
     end: usize,
@@ -18,7 +19,7 @@ struct Place {
 }
 
 /// What a turn leaves: a text to be written, the first so many bytes held, and what comes after it.
-#[derive(Drop)]
+#[derive(Clone, Copy)]
 enum After {
     /// The next turn is made from this place.
     On(usize, Place),

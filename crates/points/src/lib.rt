@@ -1,4 +1,5 @@
 //! Points to return to: sixteen rooms in one lent store, in order of name.
+#![tactic(auto)]
 
 ghost use Rattle.std.specs.Prelude.{◌≡◌};
 ghost use Rattle.model.specs.Kept.{point_in};

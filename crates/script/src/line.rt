@@ -6,13 +6,13 @@ ghost use Rattle.script.specs.Line.{digits_at, is_number, matched, register_form
 ghost use Rattle.script.specs.Reading.{marks, resumed, found, Past};
 
 /// A register's number and what it is set to.
-#[derive(Drop)]
+#[derive(Clone, Copy)]
 pub struct Setting {
     pub index: u8,
     pub value: u64,
 }
 
-#[derive(Drop)]
+#[derive(Clone, Copy)]
 pub struct Instruction {
     pub op: u8,
     pub x: u8,
@@ -21,7 +21,7 @@ pub struct Instruction {
 }
 
 /// What a line says.
-#[derive(Drop)]
+#[derive(Clone, Copy)]
 pub enum Form {
     /// `(set (reg 0) 7)`
     Register(Setting),
@@ -103,7 +103,7 @@ fn step(m: Match) -> Form
 }
 
 // A line held against the front of a pattern.
-#[derive(Drop)]
+#[derive(Clone, Copy)]
 struct Match {
     // The line has met all of it.
     good: bool,

@@ -28,7 +28,7 @@ const WINDOW_SIZE: usize = 2048;
 const ALL_LOADED: u64 = 0x1FF;
 
 /// What a line leaves: whether the script goes on, where its text ends, and the state.
-#[derive(Drop)]
+#[derive(Clone, Copy)]
 struct After {
     going: bool,
     next: usize,

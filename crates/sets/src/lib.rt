@@ -1,4 +1,5 @@
 //! PUT for a whole set of special registers, in place: each pair of a list takes effect, or none does. It is judged first, by r_l alone, and then put.
+#![tactic(auto)]
 
 ghost use Rattle.std.specs.Prelude.{◌≡◌, ℕ};
 ghost use Rattle.model.specs.Registers.{with_parts};
@@ -22,7 +23,7 @@ const READ_MAX: usize = 2 * (PAIRS_MAX + 1);
 const RL: u64 = State::RL as u64;
 
 /// What refuses the first pair that fails, and its place; Done and 0 where none does.
-#[derive(Drop)]
+#[derive(Clone, Copy)]
 struct Verdict {
     reply: Reply,
     place: u64,

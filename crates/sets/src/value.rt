@@ -5,7 +5,7 @@ ghost use Rattle.sets.specs.Sets.{pairs_of, PutSet};
 use model::{Reply, State};
 
 /// What a set answers: its reply, the place of the first pair that fails, or 0, and the state that it leaves.
-#[derive(Drop)]
+#[derive(Clone, Copy)]
 pub struct SetAnswer {
     pub reply: Reply,
     pub place: u64,

@@ -16,7 +16,7 @@ ghost use Rattle.stack.specs.PushPop.{Held, Placed, bottom_of, between_by, poppe
 use model::{Bases, Octabyte, Reply, State};
 
 /// What POP found at r_o.
-#[derive(Drop)]
+#[derive(Clone, Copy)]
 pub enum PopFrame {
     /// A frame was popped; PC goes to the target.
     Frame(u64),

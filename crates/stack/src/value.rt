@@ -8,14 +8,14 @@ use model::replies::reply_of;
 use model::{Bases, Reply, State};
 
 /// A reply and the state that it leaves.
-#[derive(Drop)]
+#[derive(Clone, Copy)]
 pub struct Answer {
     pub reply: Reply,
     pub state: State,
 }
 
 /// What POP found and the state that it leaves.
-#[derive(Drop)]
+#[derive(Clone, Copy)]
 pub struct Popped {
     pub answer: PopFrame,
     pub state: State,

@@ -17,7 +17,7 @@ use decode::opcode;
 use model::{Bases, State};
 
 /// Where the whole of B lies and which part of it is the task's own.
-#[derive(Drop)]
+#[derive(Clone, Copy)]
 pub(crate) struct Whole {
     pub base: u64,
     pub len: u64,

@@ -1,5 +1,6 @@
 //! One task's turn: a run on A and the task's own part of B. An instruction that the part's edge refuses by 6 or 24 is looked at once more: where
 //! it asked for an octabyte of B outside the part it is 32.
+#![tactic(auto)]
 
 ghost use Rattle.std.specs.Prelude.{◌≡◌, true};
 ghost use Rattle.model.specs.Memory.{shapes_of};

@@ -45,7 +45,7 @@ fn overlap(start: u64, len: u64, other: u64, other_len: u64) -> bool
 }
 
 /// A task's own part of B.
-#[derive(Drop)]
+#[derive(Clone, Copy)]
 pub(crate) struct Part {
     pub start: u64,
     pub len: u64,

@@ -1,5 +1,6 @@
 //! Several tasks on one machine: a call judged whole, and then turns in order of number. The tasks' states are images, one after another; a turn decodes and
 //! encodes its own alone.
+#![tactic(auto)]
 
 ghost use Rattle.model.specs.Parts.{lent};
 ghost use Rattle.tasks.specs.Images.{TasksRan};
