@@ -48,8 +48,9 @@ def blank(text):
 
 def snake(w):
     w = DOTTED.get(w, w)
-    w = re.sub(r"([a-z0-9])([A-Z]+)(?![a-z])", lambda m: m[1] + "_" + m[2].lower(), w) if CAMEL.match(w) else w
-    w = re.sub(r"([a-z0-9])([A-Z])", lambda m: m[1] + "_" + m[2].lower(), w) if CAMEL.match(w) else w
+    if w[0].islower():
+        w = re.sub(r"([a-z0-9])([A-Z]+)(?![a-z])", lambda m: m[1] + "_" + m[2].lower(), w)
+        w = re.sub(r"([a-z0-9])([A-Z])", lambda m: m[1] + "_" + m[2].lower(), w)
     return w.replace("-", "_")
 
 

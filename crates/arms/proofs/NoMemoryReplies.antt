@@ -1,7 +1,7 @@
 -- Laws of what an arm that touches no memory tells, over plain variables: a reply and the parts that code leaves, from what its callees ensure.
 -- 31, GET, PUT (with the tags of replies), SYNC. Trips and traps: Interrupts of crate exceptions.
 use Rattle.model.proofs.Prelude.{ℕ, ◌%◌, ◌+◌, ◌<◌, ◌^◌, ◌≤◌, cond, false, true, List, refl, sym, ◌∙◌, ◌≡◌, arith, eqb, le-leb, le-ltb, lt-leb, lt-ltb, ne_eqb}
-use Rattle.model.proofs.Prelude.{tag_of, OneOf, Said, reply_of, made, halted, hides, with_parts, get_special, got, put_refusal, put_special, put_state, sync_of}
+use Rattle.model.proofs.Prelude.{tag_of, Among, Said, reply_of, made, halted, hides, with_parts, get_special, got, put_refusal, put_special, put_state, sync_of}
 use Rattle.model.proofs.Prelude.{unless_hidden, put_most, not_done, refusals, tag_is}
 use Rattle.arms.proofs.Prelude.{Reply, Done, Hidden, NoSpecial, SyncIllegal, SyncPrivileged, State, the_type, Told, halted_is, next_is}
 use Rattle.arms.specs.NoMemoryArms.{get_of}
@@ -46,7 +46,7 @@ module _ (s : State) (x v : ℕ) (r : Reply) (g l : List ℕ)
       let z : put_refusal s x v ≡ 0 = sym number ∙ h in
       rw (u, z) (record { reply_is = rw z at e; state_is = next_is s _ g l (rw z at f) n q })
 
-  pub put_refused : OneOf refusals (tag_of the_type r) → Told (put_special s x v) r (made g l s.pc 1 s.marks s.mask)
+  pub put_refused : Among refusals (tag_of the_type r) → Told (put_special s x v) r (made g l s.pc 1 s.marks s.mask)
   unfolding put_special unless_hidden
   put_refused h =
       let z : eqb (put_refusal s x v) 0 ≡ false = ne_eqb _ 0 (λ q. not_done _ h (number ∙ q)) in

@@ -1,6 +1,6 @@
 -- Laws of calls and returns, over plain variables: the stack leaves PC as it was, and where it is done the arm sends PC on. First the outcome of a
 -- plan with PC sent on, then PUSH, then POP. SAVE and UNSAVE: SaveUnsaveSent.
-use Rattle.model.proofs.Prelude.{ℕ, ◌≤◌, Bool, cond, false, true, List, [], ap, refl, sym, ◌∙◌, ◌≡◌, arith, eqb, ne_eqb, tag_of, OneOf, hole, misplaced, no_frame}
+use Rattle.model.proofs.Prelude.{ℕ, ◌≤◌, Bool, cond, false, true, List, [], ap, refl, sym, ◌∙◌, ◌≡◌, arith, eqb, ne_eqb, tag_of, Among, hole, misplaced, no_frame}
 use Rattle.model.proofs.Prelude.{pop_frame, pop_rule, pop_to, push_frame, Windows, tell, number_of, reply_of, Outcome, Plan, puts, goes, halted, Answers, on}
 use Rattle.model.proofs.Prelude.{perform_on, Any, not_done, refusals, tag_is, perform_meets, pop_sent, push_sent, sent}
 use Rattle.arms.proofs.Prelude.{Reply, State, the_type, Gives, only_if, placed, pop_answer, PopGives, pop_in, pop_number, push_in, return_to}
@@ -80,7 +80,7 @@ module _ (w : Windows) (s : State) (x target : ℕ) (r : Reply) (t : State) (v :
   pub push_done : tag_of the_type r ≡ 0 → Replied (only_if (placed s) w s (push_frame s (hole s x) target)) r (goes t target) v
   push_done z = sent_done s _ _ target r t v push_open g.reply_is g.state_is g.window_is (sym number ∙ z)
 
-  pub push_refused : OneOf refusals (tag_of the_type r) → Replied (only_if (placed s) w s (push_frame s (hole s x) target)) r t v
+  pub push_refused : Among refusals (tag_of the_type r) → Replied (only_if (placed s) w s (push_frame s (hole s x) target)) r t v
   push_refused h =
       let z : eqb (push_in w s x).reply 0 ≡ false = ne_eqb _ 0 (λ q. not_done _ h (number ∙ q)) in
       sent_not s _ _ target r t v push_open g.reply_is g.state_is g.window_is at_start z

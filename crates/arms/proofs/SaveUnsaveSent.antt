@@ -1,6 +1,6 @@
 -- Laws of SAVE and UNSAVE, over plain variables: first which outcomes send PC on to @ + 4, then the whole outcome from what the stack gives, done or
 -- refused. PUSH and POP: PushPopSent.
-use Rattle.model.proofs.Prelude.{ℕ, ◌%◌, ◌+◌, ◌^◌, ◌≤◌, Bool, cond, false, true, List, ap, refl, sym, ◌∙◌, ◌≡◌, arith, eqb, ltb, eq-eqb, ne_eqb, tag_of, OneOf}
+use Rattle.model.proofs.Prelude.{ℕ, ◌%◌, ◌+◌, ◌^◌, ◌≤◌, Bool, cond, false, true, List, ap, refl, sym, ◌∙◌, ◌≡◌, arith, eqb, ltb, eq-eqb, ne_eqb, tag_of, Among}
 use Rattle.model.proofs.Prelude.{save_context, unsave_context, unsaved, Windows, tell, made, Outcome, Plan, admissible, following, goes, halted, next, r_g, sp}
 use Rattle.model.proofs.Prelude.{Answers, context_meets, on, perform_on, Any, not_done, refusals, tag_is, perform_meets, back_to, save_sent, sent, unsave_sent}
 use Rattle.arms.proofs.Prelude.{Reply, State, the_type, Gives, only_if}
@@ -62,7 +62,7 @@ module _ (o : Outcome State Windows) (s : State) (h : Onward o s) (r : Reply) (g
       state : made g l n k s.marks s.mask ≡ o.state
       state = ap (λ (m : ℕ). made g l m k s.marks s.mask) q ∙ moved ∙ sym (state_at_law true (eq-eqb _ _ (sym number ∙ z)))
 
-  pub onward_refused : OneOf refusals (tag_of the_type r) → Replied o r (made g l s.pc k s.marks s.mask) v
+  pub onward_refused : Among refusals (tag_of the_type r) → Replied o r (made g l s.pc k s.marks s.mask) v
   onward_refused z = record {
     reply_is = e.reply_is;
     state_is = e.state_is ∙ sym (state_at_law false (ne_eqb _ 0 (λ q. not_done _ z (number ∙ q))));

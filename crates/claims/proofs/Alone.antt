@@ -1,6 +1,6 @@
 -- A call of a function on what one task holds: as turns of that task, and two such calls, on windows that agree outside F, side by side.
 use Rattle.model.proofs.Prelude.{ℕ, ◌<◌, List, ap, subst, sym, ◌∙◌, ◌≡◌, length, length-set, set, Bytes, needs_of, Ran, run_needs_by, runs, both, Windows, Agree}
-use Rattle.model.proofs.Prelude.{All, Off, Item, mmix, mmix_sound, runs_agree, run_touches, runTouches_off, SameRun, both_lawful}
+use Rattle.model.proofs.Prelude.{All, Off, Item, mmix, mmix_sound, runs_agree, run_touches, run_touches_off, SameRun, both_lawful}
 use Rattle.claims.proofs.Prelude.{State, studies, turn_needs}
 use Rattle.claims.specs.OneCall.{Held, held_state, HeldIs, Entry, asked_by}
 use Rattle.claims.specs.Calls.{AllFit}
@@ -65,7 +65,7 @@ alone_same F hs w u k e c d h a off mc md =
     let t : k < length (states_held hs) = rw (states_length hs) mc.there in
     let needed : All (Off F) (run_needs_by both mmix (needs_of both mmix) s w is)
     = subst (λ (q : State). All (Off F) (run_needs_by both mmix (needs_of both mmix) q w is)) (task_held hs k) (subst (All (Off F)) (turns_need k (states_held hs) w is t) off) in
-    let touched : All (Off F) (run_touches both mmix s w is) = runTouches_off both both_lawful mmix (Off F) is s w needed in
+    let touched : All (Off F) (run_touches both mmix s w is) = run_touches_off both both_lawful mmix (Off F) is s w needed in
     let one : SameCall e c.reply c.count d.reply d.count
     = same_call e g g (held_by c.held k) (held_by d.held k) w u c.window d.window c.reply c.count d.reply d.count i i mc.contract md.contract
     (twins_agree F is s w u a touched) in

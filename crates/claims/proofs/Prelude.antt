@@ -40,7 +40,7 @@ pub use Rattle.image.specs.Image.{has_room, is_image, is_old}
 unfoldable pub use Rattle.image.specs.Image.{image_as, image_of, old_image_of, state_of}
 pub use Rattle.image.proofs.Coded.{as_same, at_most, chosen, if_image, if_other, image_same, is_new', is_old', of_image, room_image, room_same, stored_is}
 pub use Rattle.image.proofs.Fronts.{state_full}
-pub use Rattle.image.proofs.RoundTrips.{bytes_value, flat_octas, getD_octas, halt_as, keeps_length, round_trips}
+pub use Rattle.image.proofs.RoundTrips.{bytes_value, flat_octas, get_d_octas, halt_as, keeps_length, round_trips}
 pub use Rattle.points.specs.Store.{a_at, b_at, numbers_at, room_length, store_length, Took}
 unfoldable pub use Rattle.points.specs.Store.{filled, from_two, mask_in, number_at, numbers_of, room_of, store_with_point, take_reply}
 pub use Rattle.points.proofs.Returns.{fits, Passed, passed, returns}

@@ -2,7 +2,7 @@
 use Rattle.model.proofs.Prelude.{suc, zero, ℕ, ◌%◌, ◌*◌, ◌+◌, ◌-◌, ◌/◌, ◌<◌, ◌≤◌, Bool, cond, false, true, List, [], ◌∷◌, inl, inr, ◌⊎◌, ap, refl, sym, ◌∙◌}
 use Rattle.model.proofs.Prelude.{◌≡◌, dec_lt, arith, get_or, length, get_or_eq_default, ext_get_or, le-leb, le-ltb, lt-leb, lt-ltb, bytes_of, part, value_of, hides}
 use Rattle.model.proofs.Prelude.{SameSeen, get_d_part, lt_or_le, part_cong}
-use Rattle.claims.proofs.Prelude.{State, flat, octas, image_as, image_of, is_old, old_image_of, state_of, at_most, room_image, bytes_value, getD_octas}
+use Rattle.claims.proofs.Prelude.{State, flat, octas, image_as, image_of, is_old, old_image_of, state_of, at_most, room_image, bytes_value, get_d_octas}
 use Rattle.machine.proofs.OctabyteRuns.{length_octas}
 use Rattle.claims.specs.OneCall.{Held, image, struct, held_state, HeldIs, ImageBytes}
 use Rattle.claims.proofs.OneCall.{Intact}
@@ -40,7 +40,7 @@ module _ (l m : List ℕ) (h : SameShown l m) where
       ext_get_or 0 (octas l 0 256) (octas m 0 256) (length_octas l 0 256 ∙ sym (length_octas m 0 256)) (λ k q. at k (omega (arith, length_octas l 0 256)))
     where
       at : (k : ℕ) → k < 256 → get_or (octas l 0 256) k 0 ≡ get_or (octas m 0 256) k 0
-      at k q = getD_octas l 0 256 k q ∙ octa_same (0 + 8 * k) (λ j a b. shown_before mask j (omega arith)) ∙ sym (getD_octas m 0 256 k q)
+      at k q = get_d_octas l 0 256 k q ∙ octa_same (0 + 8 * k) (λ j a b. shown_before mask j (omega arith)) ∙ sym (get_d_octas m 0 256 k q)
 
   special_same : (k : ℕ) → hides mask k ≡ false → get_or (octas l 2048 32) k 0 ≡ get_or (octas m 2048 32) k 0
   special_same k f = go (dec_lt k 32)
@@ -51,7 +51,7 @@ module _ (l m : List ℕ) (h : SameShown l m) where
           hidden_special mask j (omega arith) (omega arith) ∙ ap (hides mask) e ∙ f
 
       go : Dec (k < 32) → get_or (octas l 2048 32) k 0 ≡ get_or (octas m 2048 32) k 0
-      go (yes q) = getD_octas l 2048 32 k q ∙ octa_same (2048 + 8 * k) (λ j. its j q) ∙ sym (getD_octas m 2048 32 k q)
+      go (yes q) = get_d_octas l 2048 32 k q ∙ octa_same (2048 + 8 * k) (λ j. its j q) ∙ sym (get_d_octas m 2048 32 k q)
       go (no n) = get_or_eq_default (octas l 2048 32) 0 (omega (arith, length_octas l 2048 32)) ∙ sym (get_or_eq_default (octas m 2048 32) 0 (omega (arith, length_octas m 2048 32)))
 
   states_seen : SameSeen (state_of l) (state_of m)
@@ -101,13 +101,13 @@ module _ (l m : List ℕ) (bl : ImageBytes l) (bm : ImageBytes m) (n : length l 
   unfolding state_of
   general_octa k q =
       let z : 0 + 8 * k ≡ 8 * k = omega arith in
-      rw z at (sym (getD_octas l 0 256 k q) ∙ ap (λ (vs : List ℕ). get_or vs k 0) h.general_same ∙ getD_octas m 0 256 k q)
+      rw z at (sym (get_d_octas l 0 256 k q) ∙ ap (λ (vs : List ℕ). get_or vs k 0) h.general_same ∙ get_d_octas m 0 256 k q)
 
   special_octa : (k : ℕ) → k < 32 → hides (state_of l).mask k ≡ false → Same (256 + k)
   unfolding state_of
   special_octa k q f =
       let z : 2048 + 8 * k ≡ 8 * (256 + k) = omega arith in
-      rw z at (sym (getD_octas l 2048 32 k q) ∙ h.special_same.seen_same k f ∙ getD_octas m 2048 32 k q)
+      rw z at (sym (get_d_octas l 2048 32 k q) ∙ h.special_same.seen_same k f ∙ get_d_octas m 2048 32 k q)
 
   last_octa : (k : ℕ) → 288 ≤ k → k < 292 → Same k
   unfolding state_of

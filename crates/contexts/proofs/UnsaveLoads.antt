@@ -4,8 +4,8 @@ use Rattle.model.proofs.Prelude.{suc, zero, ℕ, ◌%◌, ◌*◌, ◌+◌, ◌-
 use Rattle.model.proofs.Prelude.{add-one, arith, eqb, leb, get_or, length, length-set, set, ext_get_or, get_or-set_other, get_or-set_same, eqb-false, eqb-true, le-leb}
 use Rattle.model.proofs.Prelude.{le-ltb, leb-false, leb-true, lt-leb, lt-ltb, saved_special, unsaved, unsaved_general, unsaved_special, unsaved_unspilled, over}
 use Rattle.model.proofs.Prelude.{both, shapes_of, Windows, made, looks, worst, r_a, r_g, r_l, r_o, r_p, r_r, r_s, r_z, spilled, with_special, refusing, and_left}
-use Rattle.model.proofs.Prelude.{and_right, on, length_over, lt_or_le, over_above, over_below, over_in, both_lawful, getD_looks, getD_tab, length_tab, further}
-use Rattle.model.proofs.Prelude.{savedSpecial_high, savedSpecial_low}
+use Rattle.model.proofs.Prelude.{and_right, on, length_over, lt_or_le, over_above, over_below, over_in, both_lawful, get_d_looks, get_d_tab, length_tab, further}
+use Rattle.model.proofs.Prelude.{saved_special_high, saved_special_low}
 use Rattle.contexts.proofs.Prelude.{State, read_octa, read_mod, run_read}
 use Rattle.contexts.specs.ContextWork.{octas_from, loaded}
 
@@ -13,7 +13,7 @@ use Rattle.contexts.specs.ContextWork.{octas_from, loaded}
 
 pub octa_at_law : (w : Windows) (a n i : ℕ) → i < n → get_or (octas_from w a n) i 0 ≡ read_octa w ((a + 8 * i) % 2 ^ 64)
 unfolding octas_from
-octa_at_law w a n i h = getD_tab n i (λ j. read_octa w ((a + 8 * j) % 2 ^ 64)) h
+octa_at_law w a n i h = get_d_tab n i (λ j. read_octa w ((a + 8 * j) % 2 ^ 64)) h
 
 length_octas : (w : Windows) (a n : ℕ) → length (octas_from w a n) ≡ n
 unfolding octas_from
@@ -30,7 +30,7 @@ octas_are w a b n p e =
     ext_get_or 0 (octas_from w b n) (looks both w a n) (length_octas w b n ∙ sym (length_looks n w a))
     (λ i h. let l : i < n = omega (arith, length_octas w b n) in
     let m : (b + 8 * i) % 2 ^ 64 % 2 ^ 64 ≡ (a + 8 * i) % 2 ^ 64 = omega arith in
-    octa_at_law w b n i l ∙ read_mod w ((b + 8 * i) % 2 ^ 64) (a + 8 * i) m ∙ run_read w a n p i (a + 8 * i) l refl ∙ sym (getD_looks both both_lawful n w a i l))
+    octa_at_law w b n i l ∙ read_mod w ((b + 8 * i) % 2 ^ 64) (a + 8 * i) m ∙ run_read w a n p i (a + 8 * i) l refl ∙ sym (get_d_looks both both_lawful n w a i l))
 
 -- ---- the general registers, part by part: the locals, those between cleared, the globals
 
@@ -98,20 +98,20 @@ module _ (w : Windows) (first g l globals : ℕ) (r r₁ r₂ r₃ : List ℕ) (
 
 -- ---- the twelve
 
-pub savedSpecial_up : (k : ℕ) → r_r < k → saved_special k ≡ k + 16
+pub saved_special_up : (k : ℕ) → r_r < k → saved_special k ≡ k + 16
 unfolding saved_special
-savedSpecial_up k h = rw (lt-leb k r_r h)
+saved_special_up k h = rw (lt-leb k r_r h)
 
-pub savedSpecial_less : (i j : ℕ) → i < j → saved_special i < saved_special j
-savedSpecial_less i j h =
-    ⊎_elim (λ low. ⊎_elim (λ high. omega (arith, savedSpecial_low i (omega arith), savedSpecial_up j high))
-    (λ also. omega (arith, savedSpecial_low i (omega arith), savedSpecial_low j also)) (lt_or_le r_r j))
-    (λ high. omega (arith, savedSpecial_up i (omega arith), savedSpecial_up j (omega arith)))
+pub saved_special_less : (i j : ℕ) → i < j → saved_special i < saved_special j
+saved_special_less i j h =
+    ⊎_elim (λ low. ⊎_elim (λ high. omega (arith, saved_special_low i (omega arith), saved_special_up j high))
+    (λ also. omega (arith, saved_special_low i (omega arith), saved_special_low j also)) (lt_or_le r_r j))
+    (λ high. omega (arith, saved_special_up i (omega arith), saved_special_up j (omega arith)))
     (lt_or_le i 7)
 
-pub savedSpecial_most : (i : ℕ) → i < 12 → saved_special i < 32
-savedSpecial_most i h =
-    ⊎_elim (λ low. omega (arith, savedSpecial_low i (omega arith))) (λ high. omega (arith, savedSpecial_up i (omega arith))) (lt_or_le i 7)
+pub saved_special_most : (i : ℕ) → i < 12 → saved_special i < 32
+saved_special_most i h =
+    ⊎_elim (λ low. omega (arith, saved_special_low i (omega arith))) (λ high. omega (arith, saved_special_up i (omega arith))) (lt_or_le i 7)
 
 module _ (f : ℕ → ℕ) (l : List ℕ) where
   length_loaded : (n : ℕ) → length (loaded f n l) ≡ length l
@@ -126,10 +126,10 @@ module _ (f : ℕ → ℕ) (l : List ℕ) where
     where
       go : (j < n) ⊎ (n ≤ j) → (j < n → get_or (loaded f n l) (saved_special j) 0 ≡ f j) → get_or (set (loaded f n l) (saved_special n) (f n)) (saved_special j) 0 ≡ f j
       go (inl less) rest =
-          get_or-set_other (loaded f n l) (saved_special n) (saved_special j) (f n) 0 (λ q. omega (arith, savedSpecial_less j n less, q)) ∙ rest less
+          get_or-set_other (loaded f n l) (saved_special n) (saved_special j) (f n) 0 (λ q. omega (arith, saved_special_less j n less, q)) ∙ rest less
       go (inr more) rest =
           let here : n ≡ j = omega arith in
-          rw here (get_or-set_same (loaded f j l) (saved_special j) (f j) 0 (omega (arith, length_loaded j, savedSpecial_most j (omega arith))))
+          rw here (get_or-set_same (loaded f j l) (saved_special j) (f j) 0 (omega (arith, length_loaded j, saved_special_most j (omega arith))))
 
   loaded_miss : (n k : ℕ) → ((j : ℕ) → j < n → saved_special j ≡ k → ⊥) → get_or (loaded f n l) k 0 ≡ get_or l k 0
   unfolding loaded
@@ -144,17 +144,17 @@ loaded_more f i k v l m e q r = rw (add-one i) (cc)
 module _ (f v : ℕ → ℕ) (l : List ℕ) (k : ℕ) (n : length l ≡ 32) (h : (j : ℕ) → j < 12 → f j ≡ v j) where
   at_low : k ≤ r_r → get_or (loaded f 12 l) k 0 ≡ v k
   at_low b =
-      ap (λ (i : ℕ). get_or (loaded f 12 l) i 0) (sym (savedSpecial_low k b)) ∙ loaded_hit f l 12 k n (omega arith) (omega arith) ∙ h k (omega arith)
+      ap (λ (i : ℕ). get_or (loaded f 12 l) i 0) (sym (saved_special_low k b)) ∙ loaded_hit f l 12 k n (omega arith) (omega arith) ∙ h k (omega arith)
 
   at_high : r_p ≤ k → k ≤ r_z → get_or (loaded f 12 l) k 0 ≡ v (k - 16)
   at_high b d =
-      ap (λ (i : ℕ). get_or (loaded f 12 l) i 0) (sym (savedSpecial_high k b)) ∙ loaded_hit f l 12 (k - 16) n (omega arith) (omega arith)
+      ap (λ (i : ℕ). get_or (loaded f 12 l) i 0) (sym (saved_special_high k b)) ∙ loaded_hit f l 12 (k - 16) n (omega arith) (omega arith)
       ∙ h (k - 16) (omega arith)
 
   at_none : r_r < k → (leb r_p k && leb k r_z) ≡ false → (j : ℕ) → j < 12 → saved_special j ≡ k → ⊥
   at_none b d j m q =
-      ⊎_elim (λ low. let e : saved_special j ≡ j = savedSpecial_low j (omega arith) in omega arith)
-      (λ up. let e : saved_special j ≡ j + 16 = savedSpecial_up j (omega arith) in
+      ⊎_elim (λ low. let e : saved_special j ≡ j = saved_special_low j (omega arith) in omega arith)
+      (λ up. let e : saved_special j ≡ j + 16 = saved_special_up j (omega arith) in
       let lo : r_p ≤ k = omega arith in
       let hi : k ≤ r_z = omega arith in
       let t : true ≡ false = rw (le-leb r_p k lo, le-leb k r_z hi) at d in

@@ -21,11 +21,11 @@ part_flat (v ∷ vs) (suc k) h =
 value_flat : (vs : List ℕ) (k o : ℕ) → o ≡ 8 * k → k < length vs → get_or vs k 0 < 2 ^ 64 → value_of 0 (part (flat vs) o 8) ≡ get_or vs k 0
 value_flat vs k o e h b = ap (λ (i : ℕ). value_of 0 (part (flat vs) i 8)) e ∙ ap (value_of 0) (part_flat vs k h) ∙ value_bytes (get_or vs k 0) b
 
-pub getD_octas : (l : List ℕ) (o n k : ℕ) → k < n → get_or (octas l o n) k 0 ≡ value_of 0 (part l (o + 8 * k) 8)
+pub get_d_octas : (l : List ℕ) (o n k : ℕ) → k < n → get_or (octas l o n) k 0 ≡ value_of 0 (part l (o + 8 * k) 8)
 unfolding octas
-getD_octas l o zero k h = absurd (omega arith)
-getD_octas l o (suc n) zero h = ap (λ (i : ℕ). value_of 0 (part l i 8)) (omega arith)
-getD_octas l o (suc n) (suc k) h = getD_octas l (o + 8) n k (omega arith) ∙ ap (λ (i : ℕ). value_of 0 (part l i 8)) (omega arith)
+get_d_octas l o zero k h = absurd (omega arith)
+get_d_octas l o (suc n) zero h = ap (λ (i : ℕ). value_of 0 (part l i 8)) (omega arith)
+get_d_octas l o (suc n) (suc k) h = get_d_octas l (o + 8) n k (omega arith) ∙ ap (λ (i : ℕ). value_of 0 (part l i 8)) (omega arith)
 
 -- n numbers from number i on
 octas_flat : (vs us : List ℕ) (i o n : ℕ) → o ≡ 8 * i → i + n ≤ length vs → length us ≡ n → ((k : ℕ) → k < n → get_or vs (i + k) 0 ≡ get_or us k 0)
@@ -36,7 +36,7 @@ octas_flat vs us i o n eo h e same b =
     at : (k : ℕ) → k < n → get_or (octas (flat vs) o n) k 0 ≡ get_or us k 0
     at k m =
         let q : get_or vs (i + k) 0 < 2 ^ 64 = rw (same k m) (b k) in
-        getD_octas (flat vs) o n k m ∙ value_flat vs (i + k) (o + 8 * k) (omega arith) (omega arith) q ∙ same k m
+        get_d_octas (flat vs) o n k m ∙ value_flat vs (i + k) (o + 8 * k) (omega arith) (omega arith) q ∙ same k m
 
 -- `m` is the mask, or nothing
 module _ (s : State) (m : List ℕ) (z : Sized s) where

@@ -1,6 +1,6 @@
 -- Laws of PUT as code has it: the registers that r_l and r_g clear, the special register that is put, what PUT answers, and the refusal of each special register.
 use Rattle.model.proofs.Prelude.{max, min, ℕ, ◌<◌, ◌≤◌, Bool, cond, false, true, ◌&&◌, ◌||◌, List, inl, inr, ◌⊎◌, ap, refl, sym, ◌∙◌, ◌≡◌, arith, eqb, leb, ltb}
-use Rattle.model.proofs.Prelude.{get_or, length, set, set_out, le-leb, le-ltb, lt-leb, lt-ltb, ne_eqb, tag_of, OneOf, over, reply_of, cleared, put_globals}
+use Rattle.model.proofs.Prelude.{get_or, length, set, set_out, le-leb, le-ltb, lt-leb, lt-ltb, ne_eqb, tag_of, Among, over, reply_of, cleared, put_globals}
 use Rattle.model.proofs.Prelude.{put_locals, r_g, r_l, sp, with_parts, with_special, is_illegal, is_privileged, put_refusal, put_state, put_most, at_each, each}
 use Rattle.model.proofs.Prelude.{not_done, refusals, tag_is}
 use Rattle.model.specs.declared.State.{State}
@@ -57,7 +57,7 @@ module _ (s : State) (x v : ℕ) where
     pub put_done_law : (t : State) → tag_of the_type r ≡ 0 → t ≡ put_state s x v → PutGives s x v r t
     put_done_law t z q = record { reply_is = e; state_is = q ∙ sym (ap (λ (k : ℕ). cond (eqb k 0) (put_state s x v) s) (sym (put_tag r e) ∙ z)) }
 
-    pub put_refused : OneOf refusals (tag_of the_type r) → PutGives s x v r s
+    pub put_refused : Among refusals (tag_of the_type r) → PutGives s x v r s
     put_refused z = record { reply_is = e; state_is = rw (ne_eqb (put_refusal s x v) 0 (λ q. not_done _ z (put_tag r e ∙ q))) refl }
 
 -- ---- the refusals, by ranges

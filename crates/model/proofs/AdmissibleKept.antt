@@ -90,25 +90,25 @@ unfolding cleared
 cleared_good s a b h = good_l s (cleared s a b) (length_over (λ k. 0) a b s.general) refl (sp s r_l) refl refl refl refl refl h.admits.l_g h
 
 -- a special that is none of the three
-pub withSpecial_good : (s : State) (k v : ℕ) → eqb r_g k ≡ false → eqb r_l k ≡ false → eqb r_a k ≡ false → Good s → Good (with_special s k v)
+pub with_special_good : (s : State) (k v : ℕ) → eqb r_g k ≡ false → eqb r_l k ≡ false → eqb r_a k ≡ false → Good s → Good (with_special s k v)
 unfolding with_special
-withSpecial_good s k v g l a h =
+with_special_good s k v g l a h =
     good_l s (with_special s k v) refl (length-set s.special k v) (sp s r_l) (spec_other s.special k r_g v g) (spec_other s.special k r_l v l)
     (spec_other s.special k r_a v a) refl refl h.admits.l_g h
 
-pub withLocal_good : (s : State) (v : ℕ) → v ≤ sp s r_g → Good s → Good (with_special s r_l v)
+pub with_local_good : (s : State) (v : ℕ) → v ≤ sp s r_g → Good s → Good (with_special s r_l v)
 unfolding with_special
-withLocal_good s v b h = let n : length s.special ≡ 32 = h.size.specials in
+with_local_good s v b h = let n : length s.special ≡ 32 = h.size.specials in
     good_l s (with_special s r_l v) refl (length-set s.special r_l v) v (simp spec_other) (simp (spec_same, n)) (simp spec_other) refl refl b h
 
-pub withGlobal_good : (s : State) (v : ℕ) → 32 ≤ v → v ≤ 255 → sp s r_l ≤ v → Good s → Good (with_special s r_g v)
+pub with_global_good : (s : State) (v : ℕ) → 32 ≤ v → v ≤ 255 → sp s r_l ≤ v → Good s → Good (with_special s r_g v)
 unfolding with_special
-withGlobal_good s v b c d h = let n : length s.special ≡ 32 = h.size.specials in
+with_global_good s v b c d h = let n : length s.special ≡ 32 = h.size.specials in
     good_by s (with_special s r_g v) refl (length-set s.special r_g v) v (sp s r_l) (sp s r_a) (simp (spec_same, n)) (simp spec_other) (simp spec_other) refl refl b c d h.admits.a_high h
 
-pub withStatus_good : (s : State) (v : ℕ) → v ≤ 0x3FFFF → Good s → Good (with_special s r_a v)
+pub with_status_good : (s : State) (v : ℕ) → v ≤ 0x3FFFF → Good s → Good (with_special s r_a v)
 unfolding with_special
-withStatus_good s v b h = let n : length s.special ≡ 32 = h.size.specials in
+with_status_good s v b h = let n : length s.special ≡ 32 = h.size.specials in
     good_by s (with_special s r_a v) refl (length-set s.special r_a v) (sp s r_g) (sp s r_l) v (simp spec_other) (simp spec_other) (simp (spec_same, n)) refl refl h.admits.g_low h.admits.g_high h.admits.l_g b h
 
 pub claim_good : (s : State) (x : ℕ) → Good s → Good (claim_local s x)
@@ -116,7 +116,7 @@ unfolding claim_local cleared
 claim_good s x h = go (leb (sp s r_l) x && ltb x (sp s r_g)) refl
   where
     go : (b : Bool) → (leb (sp s r_l) x && ltb x (sp s r_g)) ≡ b → Good (cond b (with_special (cleared s (sp s r_l) (x + 1)) r_l (x + 1)) s)
-    go true e = let l : x < sp s r_g = ltb-true _ _ (and_right (leb (sp s r_l) x) _ e) in withLocal_good (cleared s (sp s r_l) (x + 1)) (x + 1) (omega arith) (cleared_good s (sp s r_l) (x + 1) h)
+    go true e = let l : x < sp s r_g = ltb-true _ _ (and_right (leb (sp s r_l) x) _ e) in with_local_good (cleared s (sp s r_l) (x + 1)) (x + 1) (omega arith) (cleared_good s (sp s r_l) (x + 1) h)
     go false e = h
 
 -- t with the registers of s
@@ -130,18 +130,18 @@ pub set_good : (s : State) (x v : ℕ) → Good s → Good (set_register s x v)
 unfolding set_register
 set_good s x v h = stored_good (claim_local s x) x v (claim_good s x h)
 
-pub putLocals_good : (s : State) (v : ℕ) → Good s → Good (put_locals s v)
+pub put_locals_good : (s : State) (v : ℕ) → Good s → Good (put_locals s v)
 unfolding put_locals cleared
-putLocals_good s v h = let b : sp s r_l ≤ sp s r_g = h.admits.l_g in
-    withLocal_good (cleared s (min v (sp s r_l)) (sp s r_l)) (min v (sp s r_l)) (omega arith) (cleared_good s (min v (sp s r_l)) (sp s r_l) h)
+put_locals_good s v h = let b : sp s r_l ≤ sp s r_g = h.admits.l_g in
+    with_local_good (cleared s (min v (sp s r_l)) (sp s r_l)) (min v (sp s r_l)) (omega arith) (cleared_good s (min v (sp s r_l)) (sp s r_l) h)
 
-pub putGlobals_good : (s : State) (v : ℕ) → 32 ≤ v → v ≤ 255 → sp s r_l ≤ v → Good s → Good (put_globals s v)
+pub put_globals_good : (s : State) (v : ℕ) → 32 ≤ v → v ≤ 255 → sp s r_l ≤ v → Good s → Good (put_globals s v)
 unfolding put_globals cleared
-putGlobals_good s v b c d h = withGlobal_good (cleared s (min v (sp s r_g)) (max v (sp s r_g))) v b c d (cleared_good s (min v (sp s r_g)) (max v (sp s r_g)) h)
+put_globals_good s v b c d h = with_global_good (cleared s (min v (sp s r_g)) (max v (sp s r_g))) v b c d (cleared_good s (min v (sp s r_g)) (max v (sp s r_g)) h)
 
 pub spilled_good : (s : State) → Good s → Good (spilled s)
 unfolding spilled
-spilled_good s h = withSpecial_good s r_s (sp s r_o) refl refl refl h
+spilled_good s h = with_special_good s r_s (sp s r_o) refl refl refl h
 
 pub slide_good : (s : State) (n : ℕ) → Good s → Good (slide s n)
 unfolding slide
@@ -151,7 +151,7 @@ slide_good s n g = let m : length s.special ≡ 32 = g.size.specials in let b : 
 
 pub pushed_good : (s : State) (h : ℕ) → Good s → Good (pushed s h)
 unfolding pushed pushed_rule
-pushed_good s h g = spilled_good _ (withSpecial_good (slide s _) r_j (following s) refl refl refl (slide_good s _ g))
+pushed_good s h g = spilled_good _ (with_special_good (slide s _) r_j (following s) refl refl refl (slide_good s _ g))
 
 pub unslide_good : (s : State) (x h : ℕ) (ls : List ℕ) → Good s → Good (unslide s x h ls)
 unfolding unslide
@@ -164,23 +164,23 @@ unfolding popped
 popped_good s x h ls g = spilled_good _ (unslide_good s x h ls g)
 
 -- SAVE's state but for r_s
-pub savedUnspilled_good : (s : State) (x : ℕ) → Good s → Good (saved_unspilled s x)
+pub saved_unspilled_good : (s : State) (x : ℕ) → Good s → Good (saved_unspilled s x)
 unfolding saved_unspilled stored
-savedUnspilled_good s x g = let m : length s.special ≡ 32 = g.size.specials in
+saved_unspilled_good s x g = let m : length s.special ≡ 32 = g.size.specials in
     good_l s _ (simp (length-set, length_over)) (simp length-set) 0 (simp spec_other) (simp (spec_other, spec_same, length-set, m)) (simp spec_other) refl refl (omega arith) g
 
 pub saved_good : (s : State) (x : ℕ) → Good s → Good (saved_state s x)
 unfolding saved_state
-saved_good s x g = spilled_good _ (savedUnspilled_good s x g)
+saved_good s x g = spilled_good _ (saved_unspilled_good s x g)
 
 pub unsaved_special_law : (s : State) (o g a l : ℕ) (vs : List ℕ) (k : ℕ) → length s.special ≡ 32 → k < 32
     → get_or (over (unsaved_special s o g a l vs) 0 32 s.special) k 0 ≡ unsaved_special s o g a l vs k
 unsaved_special_law s o g a l vs k n b = over_in (unsaved_special s o g a l vs) 0 32 s.special k (omega arith) b (omega arith)
 
 -- UNSAVE's state but for r_s
-pub unsavedUnspilled_good : (s : State) (o g a l : ℕ) (vs : List ℕ) → 32 ≤ g → g ≤ 255 → a ≤ 0x3FFFF → l ≤ g → Good s → Good (unsaved_unspilled s o g a l vs)
+pub unsaved_unspilled_good : (s : State) (o g a l : ℕ) (vs : List ℕ) → 32 ≤ g → g ≤ 255 → a ≤ 0x3FFFF → l ≤ g → Good s → Good (unsaved_unspilled s o g a l vs)
 unfolding unsaved_unspilled
-unsavedUnspilled_good s o g a l vs p q r u h =
+unsaved_unspilled_good s o g a l vs p q r u h =
     let n : length s.special ≡ 32 = h.size.specials in
     good_by s _ (length_over (unsaved_general g l vs) 0 256 s.general) (length_over (unsaved_special s o g a l vs) 0 32 s.special) g l a
     (unsaved_special_law s o g a l vs r_g n (omega arith) ∙ (unfold unsaved_special in refl))
@@ -189,7 +189,7 @@ unsavedUnspilled_good s o g a l vs p q r u h =
 
 pub unsaved_good : (s : State) (o g a l : ℕ) (vs : List ℕ) → 32 ≤ g → g ≤ 255 → a ≤ 0x3FFFF → l ≤ g → Good s → Good (unsaved s o g a l vs)
 unfolding unsaved
-unsaved_good s o g a l vs p q r u h = spilled_good _ (unsavedUnspilled_good s o g a l vs p q r u h)
+unsaved_good s o g a l vs p q r u h = spilled_good _ (unsaved_unspilled_good s o g a l vs p q r u h)
 
 pub tripped_good : (s : State) (word u v : ℕ) → Good s → Good (tripped s word u v)
 unfolding interrupted
@@ -210,4 +210,4 @@ added_good s f h =
     let b : sp s r_a ≤ 0x3FFFF = h.admits.a_high in
     let c : added s f ≤ 255 = added_byte s f in
     let d : bit_or (sp s r_a) (added s f) < 2 ^ 18 = or_lt 18 (sp s r_a) (added s f) (omega arith) (omega arith) in
-    withStatus_good s (bit_or (sp s r_a) (added s f)) (omega arith) h
+    with_status_good s (bit_or (sp s r_a) (added s f)) (omega arith) h

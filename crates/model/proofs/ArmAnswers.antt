@@ -135,9 +135,9 @@ module _ (s : State) (W : ℕ → Type 0) (Read : List ℕ → Type 0) (R : ℕ 
   operand_is register z w = m.general_is z
   operand_is immediate z w = w
 
-  putState_meets : (x v : ℕ) → W v → put_refusal s x v ≡ 0 → R 0 (next (put_state s x v)) []
+  put_state_meets : (x v : ℕ) → W v → put_refusal s x v ≡ 0 → R 0 (next (put_state s x v)) []
   unfolding put_state
-  putState_meets x v w p =
+  put_state_meets x v w p =
       on (λ (t : State). R 0 (next t) []) (eqb x r_l) (λ el. m.locals v _ w (onward (put_locals s v)))
       (λ el. on (λ (t : State). R 0 (next t) []) (eqb x r_g)
       (λ eg. let b : (32 ≤ v) × (sp s r_l ≤ v) × (v ≤ 255) = put_global s v (rw (eqb-true x r_g eg) at p) in m.globals v _ b.0 b.2 b.1 (onward (put_globals s v)))
@@ -155,7 +155,7 @@ module _ (s : State) (W : ℕ → Type 0) (Read : List ℕ → Type 0) (R : ℕ 
   unfolding put_special
   put_meets x v w =
       unless_meets _ _
-      (on {A = Said} (Tells (λ r t. R r t [])) (eqb (put_refusal s x v) 0) (λ e. putState_meets x v w (eqb-true _ _ e))
+      (on {A = Said} (Tells (λ r t. R r t [])) (eqb (put_refusal s x v) 0) (λ e. put_state_meets x v w (eqb-true _ _ e))
       (λ e. m.halts (put_refusal s x v) (put_range s x v e)))
 
   pub get_meets : (x z : ℕ) → Tells (λ r t. R r t []) (get_special s x z)

@@ -15,7 +15,7 @@ use Rattle.model.specs.declared.State.{State}
 use Rattle.model.proofs.Plan.{Always, Always_map}
 use Rattle.model.proofs.Entry.{plan_open, guarded_done, sound, mmix_sound}
 use Rattle.model.proofs.Memory.{both_lawful}
-use Rattle.model.proofs.Lists.{runTouches_off, runWider_off}
+use Rattle.model.proofs.Lists.{run_touches_off, run_wider_off}
 use Rattle.model.proofs.AdmissibleKept.{Adm, Good, adm}
 use Rattle.model.proofs.ItemInvariant.{item_keeps}
 use Rattle.model.proofs.Invariants.{good_keeps}
@@ -143,10 +143,10 @@ demand3 w s t c x y z is ns nt ws wt alike done pcs off =
     private_is (hole s x) s t (step_of w s (opcode_of c) x y z) (step_of w t (opcode_of c) x y z) is
     (step_private mmix mmix_caller w s t c x y z is
     (record { there = tt; there_too = tt; put_same = λ q. refl; sized = ns; sized_too = nt; words = ws; words_too = wt }) alike done pcs
-    (runTouches_off both both_lawful mmix (Off (Within (sp s r_o) (hole s x + 1))) is (step_of w s (opcode_of c) x y z).state (step_of w s (opcode_of c) x y z).memory off))
+    (run_touches_off both both_lawful mmix (Off (Within (sp s r_o) (hole s x + 1))) is (step_of w s (opcode_of c) x y z).state (step_of w s (opcode_of c) x y z).memory off))
 
 -- the wider needs hold the needs
 pub demand3_wider : Demand3Wider
 demand3_wider w s t c x y z is ns nt ws wt alike done pcs off =
     demand3 w s t c x y z is ns nt ws wt alike done pcs
-    (runWider_off both both_lawful mmix (Off (Within (sp s r_o) (hole s x + 1))) is (step_of w s (opcode_of c) x y z).state (step_of w s (opcode_of c) x y z).memory off)
+    (run_wider_off both both_lawful mmix (Off (Within (sp s r_o) (hole s x + 1))) is (step_of w s (opcode_of c) x y z).state (step_of w s (opcode_of c) x y z).memory off)

@@ -20,9 +20,9 @@ use Rattle.model.proofs.Entry.{answered, bytes_agree}
 use Rattle.model.proofs.Memory.{both_lawful}
 use Rattle.model.proofs.Runs.{length_tab}
 use Rattle.model.proofs.Ways.{target_by, pop_item}
-use Rattle.model.proofs.Lists.{run_touches, SameRun, runs_agree, runs_kept, runTouches_agree, runs_always}
+use Rattle.model.proofs.Lists.{run_touches, SameRun, runs_agree, runs_kept, run_touches_agree, runs_always}
 use Rattle.model.proofs.AdmissibleKept.{Good, adm_of, goes_good, pushed_good}
-use Rattle.model.proofs.PushPop.{called, called_alike, push_from, push_is, push_same, pop_is, pop_reg, push_rO}
+use Rattle.model.proofs.PushPop.{called, called_alike, push_from, push_is, push_same, pop_is, pop_reg, push_r_o}
 
 -- a caller in a machine: its state in the machine's, by which number its octabytes are refused, and the machine's item that is an item of its own
 pub record Caller {S I : Type 0} (mc : Machine S I Shapes) : Type 1 where
@@ -165,7 +165,7 @@ module _ {S I : Type 0} (mc : Machine S I Shapes) (k : Caller mc) where
         = runs_kept both both_lawful mc (Within (sp s r_o) (h + 1)) k.all_sound is (k.put ss (called s h u)) (pushed_on w s h u).memory touched in
         let gg : sp s r_g ≤ 255 = good.admits.g_high in
         let small : h ≤ 255 = omega arith in
-        let ro : sp e r_o ≡ (sp s r_o + 8 * (h + 1)) % 2 ^ 64 = at.back ∙ push_rO s h u good.size.specials in
+        let ro : sp e r_o ≡ (sp s r_o + 8 * (h + 1)) % 2 ^ 64 = at.back ∙ push_r_o s h u good.size.specials in
         let b1 : sp e r_o % 8 ≡ 0 = rw at.back at.aligned in
         let b2 : stack_start < sp e r_o = rw at.back at.above in
         let b3 : sp e r_o < 2 ^ 63 = rw at.back at.below in
@@ -206,7 +206,7 @@ module _ {S I : Type 0} (mc : Machine S I Shapes) (k : Caller mc) where
         = subst (λ (q : S). SameRun both mc (Within (sp s r_o) h) (after_in (called_by w ss s h u) is) (runs both mc q (pushed_on w t h u).memory is)) st
         (runs_agree both both_lawful mc (Within (sp s r_o) h) k.all_sound is (k.put ss (called s h u)) (pushed_on w s h u).memory (pushed_on w t h u).memory ms near) in
         let te : touched_by (called_by w ss s h u) is ≡ touched_by (called_by w ts t h u) is
-        = runTouches_agree both both_lawful mc (Within (sp s r_o) h) k.all_sound is (k.put ss (called s h u)) (pushed_on w s h u).memory (pushed_on w t h u).memory ms near
+        = run_touches_agree both both_lawful mc (Within (sp s r_o) h) k.all_sound is (k.put ss (called s h u)) (pushed_on w s h u).memory (pushed_on w t h u).memory ms near
         ∙ ap (λ (q : S). run_touches both mc q (pushed_on w t h u).memory is) st in
         let touched_t : All (Off (Within (sp t r_o) (h + 1))) (touched_by (called_by w ts t h u) is)
         = subst (λ (o : ℕ). All (Off (Within o (h + 1))) (touched_by (called_by w ts t h u) is)) os

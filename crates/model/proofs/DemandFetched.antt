@@ -17,7 +17,7 @@ use Rattle.model.proofs.Bools.{on, and_right}
 use Rattle.model.proofs.Fill.{length_over, over_in, over_after, over_before, lt_or_le}
 use Rattle.model.proofs.Memory.{both_lawful}
 use Rattle.model.proofs.Runs.{perform_read, read_done}
-use Rattle.model.proofs.Lists.{runTouches_off, runWider_off}
+use Rattle.model.proofs.Lists.{run_touches_off, run_wider_off}
 use Rattle.model.proofs.Entry.{guarded_is, guarded_done}
 use Rattle.model.proofs.AdmissibleKept.{Good, adm, spec_other, claim_good}
 use Rattle.model.proofs.WordsKept.{claim_words}
@@ -193,9 +193,9 @@ demand3_fetched w s t c is ns nt ws wt op alike done pcs off =
     private_is (hole s (x_at w s)) (claim_local s (x_at w s)) (claim_local t (x_at w s)) (fetched_of w s) (fetched_of w t) is
     (fetched_private mmix mmix_caller w s t c is
     (record { there = tt; there_too = tt; put_same = λ q. refl; sized = ns; sized_too = nt; words = ws; words_too = wt }) op alike done pcs
-    (runTouches_off both both_lawful mmix (Off (Within (sp s r_o) (hole s (x_at w s) + 1))) is (fetched_of w s).state (fetched_of w s).memory off))
+    (run_touches_off both both_lawful mmix (Off (Within (sp s r_o) (hole s (x_at w s) + 1))) is (fetched_of w s).state (fetched_of w s).memory off))
 
 pub demand3_fetched_wider : Demand3FetchedWider
 demand3_fetched_wider w s t c is ns nt ws wt op alike done pcs off =
     demand3_fetched w s t c is ns nt ws wt op alike done pcs
-    (runWider_off both both_lawful mmix (Off (Within (sp s r_o) (hole s (x_at w s) + 1))) is (fetched_of w s).state (fetched_of w s).memory off)
+    (run_wider_off both both_lawful mmix (Off (Within (sp s r_o) (hole s (x_at w s) + 1))) is (fetched_of w s).state (fetched_of w s).memory off)

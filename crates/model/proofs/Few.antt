@@ -18,7 +18,7 @@ use Rattle.model.specs.declared.Operation.{Operation}
 use Rattle.model.specs.declared.Results.{Results}
 use Rattle.model.proofs.Bools.{on_both, or_left, or_right, each, at_each}
 use Rattle.model.proofs.Related.{Related, RelatedOutcome, perform_related}
-use Rattle.model.proofs.SeenArms.{by_test, putRefusal_same}
+use Rattle.model.proofs.SeenArms.{by_test, put_refusal_same}
 use Rattle.model.proofs.FewStates.{Touched, start, joined_is, sp_same, following_same, admissible_same, goes_left, next_left, halted_left, with_left, write_left, interrupted_left, added_left, results_left}
 
 -- ---- which arms
@@ -111,7 +111,7 @@ module _ (x : ℕ) (o : State) where
   put_left : (s t : State) (k u v : ℕ) → (eqb k r_l || eqb k r_g) ≡ false → u ≡ v → R s t → Says (put_special s k u) (put_special t k v)
   unfolding put_special
   put_left s t k u v n e h =
-      rw (e, putRefusal_same s t k v (sp_same x o s t r_l h)) (unless_left s t k _ _ h
+      rw (e, put_refusal_same s t k v (sp_same x o s t r_l h)) (unless_left s t k _ _ h
       (on_both Says (eqb (put_refusal t k v) 0) (λ f. said 0 _ _ (next_left x o _ _ (state_left s t k v n h))) (λ f. refused _ s t h)))
 
   get_left : (s t : State) (z : ℕ) → is_marginal s x ≡ false → R s t → Says (get_special s x z) (get_special t x z)

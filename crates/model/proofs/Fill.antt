@@ -33,12 +33,12 @@ unfolding indexed
 length_indexed g i [] = refl
 length_indexed g i (x ∷ xs) = ap suc (length_indexed g (suc i) xs)
 
-getD_indexed : (g : ℕ → ℕ → ℕ) (i : ℕ) (l : List ℕ) (k : ℕ) → k < length l → get_or (indexed g i l) k 0 ≡ g (i + k) (get_or l k 0)
+get_d_indexed : (g : ℕ → ℕ → ℕ) (i : ℕ) (l : List ℕ) (k : ℕ) → k < length l → get_or (indexed g i l) k 0 ≡ g (i + k) (get_or l k 0)
 unfolding indexed
-getD_indexed g i [] k h = absurd (not-suc-le-zero h)
-getD_indexed g i (x ∷ xs) zero h = ap (λ (n : ℕ). g n x) (omega arith)
-getD_indexed g i (x ∷ xs) (suc k) h =
-    getD_indexed g (suc i) xs k (le_of_suc-le-suc h) ∙ ap (λ (n : ℕ). g n (get_or xs k 0)) (omega arith)
+get_d_indexed g i [] k h = absurd (not-suc-le-zero h)
+get_d_indexed g i (x ∷ xs) zero h = ap (λ (n : ℕ). g n x) (omega arith)
+get_d_indexed g i (x ∷ xs) (suc k) h =
+    get_d_indexed g (suc i) xs k (le_of_suc-le-suc h) ∙ ap (λ (n : ℕ). g n (get_or xs k 0)) (omega arith)
 
 module _ (f : ℕ → ℕ) (a b : ℕ) (l : List ℕ) where
   pub length_over : length (over f a b l) ≡ length l
@@ -48,7 +48,7 @@ module _ (f : ℕ → ℕ) (a b : ℕ) (l : List ℕ) where
   at : (k : ℕ) → k < length l → get_or (over f a b l) k 0 ≡ cond (within a b k) (f k) (get_or l k 0)
   unfolding over
   at k h =
-      getD_indexed (λ k x. cond (within a b k) (f k) x) 0 l k h
+      get_d_indexed (λ k x. cond (within a b k) (f k) x) 0 l k h
       ∙ ap (λ (n : ℕ). cond (within a b n) (f n) (get_or l k 0)) (omega arith)
 
   pub over_in : (k : ℕ) → a ≤ k → k < b → k < length l → get_or (over f a b l) k 0 ≡ f k

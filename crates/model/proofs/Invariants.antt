@@ -13,7 +13,7 @@ use Rattle.model.proofs.Bools.{on}
 use Rattle.model.proofs.ItemInvariant.{Keeps, item_keeps, item_always}
 use Rattle.model.proofs.MarginalKept.{Calm, calm_keeps}
 use Rattle.model.proofs.ItemWords.{item_words, item_bytes}
-use Rattle.model.proofs.AdmissibleKept.{Good, adm, adm_of, goes_good, halted_good, claim_good, back_good, set_good, putLocals_good, putGlobals_good, withStatus_good, withSpecial_good, pushed_good, popped_good, saved_good, unsaved_good, tripped_good, trapped_good, added_good}
+use Rattle.model.proofs.AdmissibleKept.{Good, adm, adm_of, goes_good, halted_good, claim_good, back_good, set_good, put_locals_good, put_globals_good, with_status_good, with_special_good, pushed_good, popped_good, saved_good, unsaved_good, tripped_good, trapped_good, added_good}
 
 pub good_keeps : Keeps Good
 good_keeps = record {
@@ -22,10 +22,10 @@ good_keeps = record {
   claim = claim_good;
   back = back_good;
   write = set_good;
-  locals = putLocals_good;
-  globals = putGlobals_good;
-  status = withStatus_good;
-  other = withSpecial_good;
+  locals = put_locals_good;
+  globals = put_globals_good;
+  status = with_status_good;
+  other = with_special_good;
   pushes = pushed_good;
   pops = popped_good;
   saves = λ s x e h. saved_good s x h;

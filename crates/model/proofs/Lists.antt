@@ -40,13 +40,13 @@ module _ {M Sh S I : Type 0} (st : Store M Sh) (mc : Machine S I Sh) where
       (by_reading P f g e is (step_on st mc s m i).state (step_on st mc s m i).memory (All_right P (f s m i) _ h))
 
 module _ {M Sh S I : Type 0} (st : Store M Sh) (law : Lawful st) (mc : Machine S I Sh) where
-  pub runTouches_off : (P : ℕ → Type 0) (is : List I) (s : S) (m : M) → All P (run_needs_by st mc (needs_of st mc) s m is) → All P (run_touches st mc s m is)
+  pub run_touches_off : (P : ℕ → Type 0) (is : List I) (s : S) (m : M) → All P (run_needs_by st mc (needs_of st mc) s m is) → All P (run_touches st mc s m is)
   unfolding needs_of touches_of
-  runTouches_off P = by_reading st mc P (needs_of st mc) (touches_of st mc) (λ s m i h. touches_off st law P (mc.judge s (st.shape m) i) (mc.plan s (st.shape m) i) m h)
+  run_touches_off P = by_reading st mc P (needs_of st mc) (touches_of st mc) (λ s m i h. touches_off st law P (mc.judge s (st.shape m) i) (mc.plan s (st.shape m) i) m h)
 
-  pub runWider_off : (P : ℕ → Type 0) (is : List I) (s : S) (m : M) → All P (run_needs_by st mc (wider_needs_of st mc) s m is) → All P (run_needs_by st mc (needs_of st mc) s m is)
+  pub run_wider_off : (P : ℕ → Type 0) (is : List I) (s : S) (m : M) → All P (run_needs_by st mc (wider_needs_of st mc) s m is) → All P (run_needs_by st mc (needs_of st mc) s m is)
   unfolding needs_of wider_needs_of
-  runWider_off P = by_reading st mc P (wider_needs_of st mc) (needs_of st mc) (λ s m i h. wider_off st law P (mc.judge s (st.shape m) i) (mc.plan s (st.shape m) i) m h)
+  run_wider_off P = by_reading st mc P (wider_needs_of st mc) (needs_of st mc) (λ s m i h. wider_off st law P (mc.judge s (st.shape m) i) (mc.plan s (st.shape m) i) m h)
 
   module _ (F : ℕ → Type 0) (sound : (s : S) (sh : Sh) (i : I) → Sound st (mc.judge s sh i) sh) where
     pub step_agree : (s : S) (v w : M) (i : I) → Agree st F v w → All (Off F) (touches_of st mc s v i) → Same st F (step_on st mc s v i) (step_on st mc s w i)
@@ -70,14 +70,14 @@ module _ {M Sh S I : Type 0} (st : Store M Sh) (law : Lawful st) (mc : Machine S
           memory_same = h.memory_same;
         })
 
-    pub runTouches_agree : (is : List I) (s : S) (v w : M) → Agree st F v w → All (Off F) (run_touches st mc s v is) → run_touches st mc s v is ≡ run_touches st mc s w is
+    pub run_touches_agree : (is : List I) (s : S) (v w : M) → Agree st F v w → All (Off F) (run_touches st mc s v is) → run_touches st mc s v is ≡ run_touches st mc s w is
     unfolding run_needs_by touches_of
-    runTouches_agree [] s v w g f = refl
-    runTouches_agree (i ∷ is) s v w g f =
+    run_touches_agree [] s v w g f = refl
+    run_touches_agree (i ∷ is) s v w g f =
         let a : Same st F (step_on st mc s v i) (step_on st mc s w i) = step_agree s v w i g (All_left (Off F) (touches_of st mc s v i) _ f) in
         let n : touches_of st mc s v i ≡ touches_of st mc s w i = rw (← g.shape_same) (touches_agree st law F (mc.judge s (st.shape v) i) s (mc.plan s (st.shape v) i) v w g (All_left (Off F) (touches_of st mc s v i) _ f)) in
         rw (← a.state_same, ← n)
-        (ap (λ (l : List ℕ). touches_of st mc s v i ++ l) (runTouches_agree is (step_on st mc s v i).state (step_on st mc s v i).memory (step_on st mc s w i).memory a.memory_same (All_right (Off F) (touches_of st mc s v i) _ f)))
+        (ap (λ (l : List ℕ). touches_of st mc s v i ++ l) (run_touches_agree is (step_on st mc s v i).state (step_on st mc s v i).memory (step_on st mc s w i).memory a.memory_same (All_right (Off F) (touches_of st mc s v i) _ f)))
 
     pub runs_kept : (is : List I) (s : S) (v : M) → All (Off F) (run_touches st mc s v is) → Kept st F v (runs st mc s v is).memory
     unfolding runs run_needs_by

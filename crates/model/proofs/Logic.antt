@@ -32,4 +32,4 @@ pub use borrow.Author.Tests.{eq-eqb, eqb-false, eqb-true, le-leb, le-ltb, leb-fa
 pub use denote.Enum.Declared.{tag_of}
 pub use mir.Syntax.{w64}
 pub use mir.Val.{has_key}
-pub use types.Run.{OneOf}
+pub use borrow.Enum.Refused.{Among}

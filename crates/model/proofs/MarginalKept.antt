@@ -8,7 +8,7 @@ use Rattle.model.specs.Contexts.{context_address, saved_unspilled, saved_state, 
 use Rattle.model.specs.Trips.{interrupted, with_added}
 use Rattle.model.specs.declared.State.{State}
 use Rattle.model.proofs.Fill.{over_in, over_below, over_above, lt_or_le}
-use Rattle.model.proofs.AdmissibleKept.{Good, spec_other, spec_same, goes_good, halted_good, back_good, stored_good, cleared_good, withLocal_good, putLocals_good, putGlobals_good, withStatus_good, withSpecial_good, slide_good, unslide_good, savedUnspilled_good, unsavedUnspilled_good, unsaved_special_law, tripped_good, trapped_good, added_good}
+use Rattle.model.proofs.AdmissibleKept.{Good, spec_other, spec_same, goes_good, halted_good, back_good, stored_good, cleared_good, with_local_good, put_locals_good, put_globals_good, with_status_good, with_special_good, slide_good, unslide_good, saved_unspilled_good, unsaved_unspilled_good, unsaved_special_law, tripped_good, trapped_good, added_good}
 use Rattle.model.proofs.Bools.{and_left, and_right, on, on_both}
 use Rattle.model.proofs.ItemInvariant.{Keeps}
 
@@ -44,7 +44,7 @@ claimed_calm s x a b h =
     let n : length s.special ≡ 32 = h.good.size.specials in
     let m : length s.general ≡ 256 = h.good.size.generals in
     let gh : sp s r_g ≤ 255 = h.good.admits.g_high in
-    calm_by (with_special (cleared s (sp s r_l) (x + 1)) r_l (x + 1)) (withLocal_good (cleared s (sp s r_l) (x + 1)) (x + 1) (omega arith) (cleared_good s (sp s r_l) (x + 1) h.good)) (x + 1) (sp s r_g)
+    calm_by (with_special (cleared s (sp s r_l) (x + 1)) r_l (x + 1)) (with_local_good (cleared s (sp s r_l) (x + 1)) (x + 1) (omega arith) (cleared_good s (sp s r_l) (x + 1) h.good)) (x + 1) (sp s r_g)
     (simp (spec_same, n)) (simp spec_other)
     (λ i p q. over_above (λ k. 0) (sp s r_l) (x + 1) s.general i p (omega arith) ∙ h.zero_at i (omega arith) q)
 
@@ -54,9 +54,9 @@ claim_calm s x h =
     on Calm (leb (sp s r_l) x && ltb x (sp s r_g))
     (λ e. claimed_calm s x (leb-true _ _ (and_left (leb (sp s r_l) x) _ e)) (ltb-true _ _ (and_right (leb (sp s r_l) x) _ e)) h) (λ e. h)
 
-claimed_rL : (s : State) (x : ℕ) → length s.special ≡ 32 → sp (with_special (cleared s (sp s r_l) (x + 1)) r_l (x + 1)) r_l ≡ x + 1
+claimed_r_l : (s : State) (x : ℕ) → length s.special ≡ 32 → sp (with_special (cleared s (sp s r_l) (x + 1)) r_l (x + 1)) r_l ≡ x + 1
 unfolding with_special cleared
-claimed_rL s x n = simp (spec_same, n)
+claimed_r_l s x n = simp (spec_same, n)
 
 set_calm : (s : State) (x v : ℕ) → Calm s → Calm (set_register s x v)
 unfolding set_register claim_local
@@ -65,7 +65,7 @@ set_calm s x v h = go (leb (sp s r_l) x) (ltb x (sp s r_g)) refl refl
     go : (a b : Bool) → leb (sp s r_l) x ≡ a → ltb x (sp s r_g) ≡ b → Calm (stored (cond (a && b) (with_special (cleared s (sp s r_l) (x + 1)) r_l (x + 1)) s) x v)
     go true true e f =
         let n : length s.special ≡ 32 = h.good.size.specials in
-        let l : sp (with_special (cleared s (sp s r_l) (x + 1)) r_l (x + 1)) r_l ≡ x + 1 = claimed_rL s x n in
+        let l : sp (with_special (cleared s (sp s r_l) (x + 1)) r_l (x + 1)) r_l ≡ x + 1 = claimed_r_l s x n in
         stored_calm (with_special (cleared s (sp s r_l) (x + 1)) r_l (x + 1)) x v (λ p q. omega arith) (claimed_calm s x (leb-true _ _ e) (ltb-true _ _ f) h)
     go true false e f = let k : sp s r_g ≤ x = ltb-false _ _ f in stored_calm s x v (λ p q. omega arith) h
     go false b e f = let k : x < sp s r_l = leb-false _ _ e in stored_calm s x v (λ p q. omega arith) h
@@ -76,7 +76,7 @@ locals_calm s v h =
     let n : length s.special ≡ 32 = h.good.size.specials in
     let m : length s.general ≡ 256 = h.good.size.generals in
     let gh : sp s r_g ≤ 255 = h.good.admits.g_high in
-    calm_by (put_locals s v) (putLocals_good s v h.good) (min v (sp s r_l)) (sp s r_g) (simp (spec_same, n)) (simp spec_other)
+    calm_by (put_locals s v) (put_locals_good s v h.good) (min v (sp s r_l)) (sp s r_g) (simp (spec_same, n)) (simp spec_other)
     (λ i p q. ⊎_elim (λ lo. over_in (λ k. 0) (min v (sp s r_l)) (sp s r_l) s.general i p lo (omega arith))
     (λ hi. over_above (λ k. 0) (min v (sp s r_l)) (sp s r_l) s.general i hi (omega arith) ∙ h.zero_at i hi q) (lt_or_le i (sp s r_l)))
 
@@ -85,7 +85,7 @@ unfolding put_globals with_special cleared
 globals_calm s v a b c h =
     let n : length s.special ≡ 32 = h.good.size.specials in
     let m : length s.general ≡ 256 = h.good.size.generals in
-    calm_by (put_globals s v) (putGlobals_good s v a b c h.good) (sp s r_l) v (simp spec_other) (simp (spec_same, n))
+    calm_by (put_globals s v) (put_globals_good s v a b c h.good) (sp s r_l) v (simp spec_other) (simp (spec_same, n))
     (λ i p q. ⊎_elim (λ lo. over_below (λ k. 0) (min v (sp s r_g)) (max v (sp s r_g)) s.general i lo (omega arith) ∙ h.zero_at i p (omega arith))
     (λ hi. over_in (λ k. 0) (min v (sp s r_g)) (max v (sp s r_g)) s.general i hi (omega arith) (omega arith)) (lt_or_le i (min v (sp s r_g))))
 
@@ -95,7 +95,7 @@ slid_zero s n i p = rw (le-ltb i (sp s r_l - n) p)
 
 spilled_calm : (s : State) → Calm s → Calm (spilled s)
 unfolding spilled
-spilled_calm s h = other_calm s r_s (sp s r_o) refl refl (withSpecial_good s r_s (sp s r_o) refl refl refl h.good) h
+spilled_calm s h = other_calm s r_s (sp s r_o) refl refl (with_special_good s r_s (sp s r_o) refl refl refl h.good) h
 
 slide_calm : (s : State) (n : ℕ) → Calm s → Calm (slide s n)
 unfolding slide
@@ -110,7 +110,7 @@ pushed_calm : (s : State) (h : ℕ) → Calm s → Calm (pushed s h)
 unfolding pushed pushed_rule
 pushed_calm s h c =
     let d : Calm (slide s _) = slide_calm s _ c in
-    spilled_calm _ (other_calm (slide s _) r_j (following s) refl refl (withSpecial_good (slide s _) r_j (following s) refl refl refl d.good) d)
+    spilled_calm _ (other_calm (slide s _) r_j (following s) refl refl (with_special_good (slide s _) r_j (following s) refl refl refl d.good) d)
 
 -- beyond the outputs: only where the count is 0 is the hole one of these, and then it is 0
 none_last : (s : State) (x : ℕ) → count_of s x ≡ 0 → last_output s x ≡ 0
@@ -143,7 +143,7 @@ saved_calm s x b c =
     let n : length s.special ≡ 32 = c.good.size.specials in
     let m : length s.general ≡ 256 = c.good.size.generals in
     let gh : sp s r_g ≤ 255 = c.good.admits.g_high in
-    spilled_calm _ (calm_by _ (savedUnspilled_good s x c.good) 0 (sp s r_g) (simp (spec_other, spec_same, length-set, n)) (simp spec_other)
+    spilled_calm _ (calm_by _ (saved_unspilled_good s x c.good) 0 (sp s r_g) (simp (spec_other, spec_same, length-set, n)) (simp spec_other)
     (λ i p q. get_or-set_other (over (λ k. 0) 0 (sp s r_g) s.general) x i (context_address s) 0 (λ e. let f : i ≡ x = e in omega arith)
     ∙ over_in (λ k. 0) 0 (sp s r_g) s.general i p q (omega arith)))
 
@@ -156,7 +156,7 @@ unfolding unsaved unsaved_unspilled
 unsaved_calm s o g a l vs b1 b2 b3 b4 c =
     let n : length s.special ≡ 32 = c.good.size.specials in
     let m : length s.general ≡ 256 = c.good.size.generals in
-    spilled_calm _ (calm_by _ (unsavedUnspilled_good s o g a l vs b1 b2 b3 b4 c.good) l g
+    spilled_calm _ (calm_by _ (unsaved_unspilled_good s o g a l vs b1 b2 b3 b4 c.good) l g
     (unsaved_special_law s o g a l vs r_l n (omega arith) ∙ (unfold unsaved_special in refl)) (unsaved_special_law s o g a l vs r_g n (omega arith) ∙ (unfold unsaved_special in refl))
     (λ i p q. over_in (unsaved_general g l vs) 0 256 s.general i (omega arith) (omega arith) (omega arith) ∙ unsaved_zero g l vs i p q))
 
@@ -183,8 +183,8 @@ calm_keeps = record {
   write = set_calm;
   locals = locals_calm;
   globals = globals_calm;
-  status = λ s v b h. other_calm s r_a v refl refl (withStatus_good s v b h.good) h;
-  other = λ s k v g l a h. other_calm s k v g l (withSpecial_good s k v g l a h.good) h;
+  status = λ s v b h. other_calm s r_a v refl refl (with_status_good s v b h.good) h;
+  other = λ s k v g l a h. other_calm s k v g l (with_special_good s k v g l a h.good) h;
   pushes = pushed_calm;
   pops = popped_calm;
   saves = saved_calm;

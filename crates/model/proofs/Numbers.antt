@@ -1,6 +1,7 @@
 -- The numbers of the replies, and their tags, by which code tells the cases of a match.
 use Rattle.model.proofs.Logic.{ℕ, ◌<◌, ◌≤◌, cond, true, List, [], ◌∷◌, inl, inr, ◌⊎◌, ap, refl, sym, ◌∙◌, ◌≡◌, arith, eqb, leb, get_or_eq_default}
-use Rattle.model.proofs.Logic.{eqb-false, eqb-true, le-leb, tag_of, has_key, OneOf}
+use Rattle.model.proofs.Logic.{eqb-false, eqb-true, le-leb, tag_of, has_key, Among}
+use borrow.Enum.Refused.{not_key, opened}
 use types.Run.{miss}
 use Rattle.model.specs.Numbers.{Halting, number_of, in_order, reply_of, RepliesNumbered}
 use Rattle.model.specs.declared.Reply.{Reply}
@@ -82,8 +83,8 @@ tag_is n r h e = ap (tag_of the_type) e ∙ eqb-true (tag_of the_type (reply_of 
 abbrev pub refusals : List ℕ
 refusals = 1 ∷ 2 ∷ 3 ∷ 4 ∷ 5 ∷ 6 ∷ 7 ∷ 8 ∷ 9 ∷ 10 ∷ 11 ∷ 12 ∷ 13 ∷ 14 ∷ 15 ∷ 16 ∷ 17 ∷ 18 ∷ 19 ∷ 20 ∷ 21 ∷ 22 ∷ 23 ∷ 24 ∷ 25 ∷ 26 ∷ 27 ∷ 28 ∷ 29 ∷ 30 ∷ 31 ∷ 32 ∷ 33 ∷ []
 
-pub not_done : (n : ℕ) → OneOf refusals n → n ≡ 0 → ⊥
-not_done n h e = miss refusals 0 tt (rw e at h)
+pub not_done : (n : ℕ) → Among refusals n → n ≡ 0 → ⊥
+not_done n h e = not_key refusals 0 tt n (opened h) e
 
 -- a number that is none of them is 0 or above 33
 keyed : each 34 (λ n. cond (leb 1 n) (has_key refusals n) true) ≡ true

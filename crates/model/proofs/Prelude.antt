@@ -15,7 +15,7 @@ pub use Rattle.model.proofs.Logic.{shl_lt, shr-shr, split, append_snoc, drop-app
 pub use Rattle.model.proofs.Logic.{get_or-drop, get_or-set_other, get_or-set_same, get_or-take, length-take-le, set-append_left, set-get_or, set_out, set-set}
 pub use Rattle.model.proofs.Logic.{split_at, take_all, take-append-le, take_at, take-suc, take-suc-set, take-take, lt_z, mag, non_neg, eq-eqb}
 pub use Rattle.model.proofs.Logic.{eqb-false, eqb-true, le-leb, le-ltb, leb-false, leb-true, lt-leb, lt-ltb, ltb-false, ltb-true, ne_eqb, not-false}
-pub use Rattle.model.proofs.Logic.{not-true, tag_of, w64, has_key, OneOf}
+pub use Rattle.model.proofs.Logic.{not-true, tag_of, w64, has_key, Among}
 unfoldable pub use Rattle.model.proofs.Logic.{length}
 pub use Rattle.model.specs.Arithmetic.{exact, flag_d, overflow_of, parted, plain}
 unfoldable pub use Rattle.model.specs.Arithmetic.{divided, divided_wide, results_of}
@@ -113,7 +113,7 @@ pub use Rattle.model.proofs.Instance.{caller, callers_alike, hiding, same_seen}
 pub use Rattle.model.proofs.Invariants.{good_keeps, items_keep}
 pub use Rattle.model.proofs.ItemInvariant.{Any, item_keeps, Keeps}
 pub use Rattle.model.proofs.Kept.{at_own, full_bytes}
-pub use Rattle.model.proofs.Lists.{by_reading, runs_agree, runs_always, runs_append, runs_kept, run_touches, runTouches_agree, runTouches_off, SameRun}
+pub use Rattle.model.proofs.Lists.{by_reading, runs_agree, runs_always, runs_append, runs_kept, run_touches, run_touches_agree, run_touches_off, SameRun}
 pub use Rattle.model.proofs.Lists.{step_agree, step_kept}
 unfoldable pub use Rattle.model.proofs.Lists.{touches_of}
 pub use Rattle.model.proofs.LoadStore.{merged_small, operand_least, operand_small, values_positive}
@@ -130,10 +130,10 @@ pub use Rattle.model.proofs.RepliesLeft.{replies_leave}
 pub use Rattle.model.proofs.RunLaws.{IsList, map_stopped, run_by, run_done, run_listed, run_map, run_most, run_none, run_refused, run_spent}
 pub use Rattle.model.proofs.RunMeant.{call_by, fetched_on, fetched_ready, fetched_shapes, Ready, run_is_meant, run_open, run_ready, run_unruled}
 pub use Rattle.model.proofs.RunMeant.{runs_in_order}
-pub use Rattle.model.proofs.Runs.{getD_looks, getD_tab, length_tab, look_mod, octa_mod, of_worst, perform_read, worst_of}
+pub use Rattle.model.proofs.Runs.{get_d_looks, get_d_tab, length_tab, look_mod, octa_mod, of_worst, perform_read, worst_of}
 pub use Rattle.model.proofs.SaveUnsave.{Context, context_found, further, looked, octas_of, refusing_mod, save_fits, save_stores, saved_count}
-pub use Rattle.model.proofs.SaveUnsave.{saved_global, saved_local, saved_packed, saved_twelve, saved_on, savedSpecial_high, savedSpecial_low}
-pub use Rattle.model.proofs.SaveUnsave.{savedState_address, Saves, shape_same, unsave_found, unsaved_next, Unsaves, with_context, Wraps}
+pub use Rattle.model.proofs.SaveUnsave.{saved_global, saved_local, saved_packed, saved_twelve, saved_on, saved_special_high, saved_special_low}
+pub use Rattle.model.proofs.SaveUnsave.{saved_state_address, Saves, shape_same, unsave_found, unsaved_next, Unsaves, with_context, Wraps}
 pub use Rattle.model.proofs.SeenArms.{by_test}
 pub use Rattle.model.proofs.SeenStates.{admissible_same, of_seen, Seen, seen_of}
 pub use Rattle.model.proofs.Slices.{in_all, in_none, in_turn, length_part, out_all, out_none, out_turn, part_all, part_apart, part_inside, part_lent}

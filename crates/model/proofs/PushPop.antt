@@ -10,7 +10,7 @@ use Rattle.model.specs.Frames.{framed, slid, slide, pushed_rule, pushed, push_fr
 use Rattle.model.specs.Demand.{Within, Alike}
 use Rattle.model.proofs.Plan.{worst_head, worst_tail, Kept, Same, Sound, put_agree}
 use Rattle.model.proofs.Memory.{Lawful}
-use Rattle.model.proofs.Runs.{length_tab, worst_of, of_worst, getD_looks, stands, perform_read}
+use Rattle.model.proofs.Runs.{length_tab, worst_of, of_worst, get_d_looks, stands, perform_read}
 use Rattle.model.specs.declared.State.{State}
 use Rattle.model.proofs.Fill.{over_cong, over_in}
 use Rattle.model.proofs.AdmissibleKept.{spec_other, spec_same}
@@ -146,7 +146,7 @@ module _ {M Sh : Type 0} (st : Store M Sh) (law : Lawful st) where
     count : get_or (looks st w (sp e r_o - 8) 1) 0 0 % 256 ≡ h
     count =
         let p : sp e r_o - 8 + 8 * 0 ≡ sp s r_o + 8 * h = omega arith in
-        let c : get_or (looks st w (sp e r_o - 8) 1) 0 0 ≡ h = getD_looks st law 1 w (sp e r_o - 8) 0 (omega arith) ∙ ap (look st w) p ∙ octabyte h (omega arith) ∙ (unfold framed in rw (le-ltb h h (omega arith))) in
+        let c : get_or (looks st w (sp e r_o - 8) 1) 0 0 ≡ h = get_d_looks st law 1 w (sp e r_o - 8) 0 (omega arith) ∙ ap (look st w) p ∙ octabyte h (omega arith) ∙ (unfold framed in rw (le-ltb h h (omega arith))) in
         rw c (omega arith)
 
     passes : (a n : ℕ) → ((i : ℕ) → i < n → (k : ℕ) × (k < h + 1) × (a + 8 * i ≡ sp s r_o + 8 * k)) → worst j a n ≡ 0
@@ -172,8 +172,8 @@ module _ {M Sh : Type 0} (st : Store M Sh) (law : Lawful st) where
 
         got : get_or (looks st w (sp e r_o - 8 * (h + 1)) (min h (sp e r_g))) i 0 ≡ reg s i
         got = let p : sp e r_o - 8 * (h + 1) + 8 * i ≡ sp s r_o + 8 * i = omega arith in
-            getD_looks st law (min h (sp e r_g)) w (sp e r_o - 8 * (h + 1)) i (omega arith) ∙ ap (look st w) p ∙ octabyte i (omega arith) ∙ (unfold framed in rw (lt-ltb i h l))
+            get_d_looks st law (min h (sp e r_g)) w (sp e r_o - 8 * (h + 1)) i (omega arith) ∙ ap (look st w) p ∙ octabyte i (omega arith) ∙ (unfold framed in rw (lt-ltb i h l))
 
-pub push_rO : (s : State) (h t : ℕ) → length s.special ≡ 32 → sp (called s h t) r_o ≡ (sp s r_o + 8 * (h + 1)) % 2 ^ 64
+pub push_r_o : (s : State) (h t : ℕ) → length s.special ≡ 32 → sp (called s h t) r_o ≡ (sp s r_o + 8 * (h + 1)) % 2 ^ 64
 unfolding pushed pushed_rule slide spilled with_special goes
-push_rO s h t n = simp (spec_other, spec_same, length-set, n)
+push_r_o s h t n = simp (spec_other, spec_same, length-set, n)

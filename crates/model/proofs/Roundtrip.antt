@@ -14,7 +14,7 @@ use Rattle.model.proofs.Fill.{length_over, over_in, over_below, over_above}
 use Rattle.model.proofs.Memory.{both_lawful}
 use Rattle.model.proofs.Plan.{kept_refl}
 use Rattle.model.proofs.AdmissibleKept.{Adm, Good, adm_of, spec_same, goes_good, saved_good, unsaved_good, unsaved_special_law}
-use Rattle.model.proofs.SaveUnsave.{Saves, saved_on, save_done, save_is, savedState_address, savedSpecial_low, savedSpecial_high, saved_local, saved_global, saved_twelve, with_context, Unsaves, unsave_back}
+use Rattle.model.proofs.SaveUnsave.{Saves, saved_on, save_done, save_is, saved_state_address, saved_special_low, saved_special_high, saved_local, saved_global, saved_twelve, with_context, Unsaves, unsave_back}
 use Rattle.model.proofs.Reader.{reader_reply, reader_part}
 
 -- ---- the registers that UNSAVE leaves
@@ -59,11 +59,11 @@ module _ (s e : State) (b : Adm s) (vs : List ℕ) (are : (i : ℕ) → i < exte
       (peel (eqb k r_a) _ (λ f. ap (sp s) (sym (eqb-true k r_a f)))
       (peel (eqb k r_o) _ (λ f. ap (sp s) (sym (eqb-true k r_o f)))
       (peel (leb k r_r) _
-      (λ f. let h : k ≤ r_r = leb-true _ _ f in are (sp s r_l + 257 - sp s r_g + k) (omega arith) ∙ saved_twelve s b k (omega arith) ∙ rw (savedSpecial_low k h))
+      (λ f. let h : k ≤ r_r = leb-true _ _ f in are (sp s r_l + 257 - sp s r_g + k) (omega arith) ∙ saved_twelve s b k (omega arith) ∙ rw (saved_special_low k h))
       (on_both (λ (x y : ℕ). x ≡ y) (leb r_p k && leb k r_z)
       (λ f. let h : r_p ≤ k = leb-true _ _ (and_left (leb r_p k) _ f) in
       let r : k ≤ r_z = leb-true _ _ (and_right (leb r_p k) _ f) in
-      are (sp s r_l + 257 - sp s r_g + (k - 16)) (omega arith) ∙ saved_twelve s b (k - 16) (omega arith) ∙ rw (savedSpecial_high k h))
+      are (sp s r_l + 257 - sp s r_g + (k - 16)) (omega arith) ∙ saved_twelve s b (k - 16) (omega arith) ∙ rw (saved_special_high k h))
       (λ f. refl))))))
     where
       -- one test of two
@@ -77,9 +77,9 @@ module _ (s e : State) (b : Adm s) (vs : List ℕ) (are : (i : ℕ) → i < exte
       get_or-set_other (unsaved_unspilled e (sp s r_o) (sp s r_g) (sp s r_a) (sp s r_l) vs).special r_s k _ 0 h
       ∙ unsaved_special_law e (sp s r_o) (sp s r_g) (sp s r_a) (sp s r_l) vs k n.specials l ∙ special_at k
 
-  pub unsaved_rS : Sized e → sp (with_context s e vs) r_s ≡ sp s r_o
+  pub unsaved_r_s : Sized e → sp (with_context s e vs) r_s ≡ sp s r_o
   unfolding unsaved spilled with_special unsaved_unspilled
-  unsaved_rS n =
+  unsaved_r_s n =
       let m : length e.special ≡ 32 = n.specials in
       let v : length (over (unsaved_special e (sp s r_o) (sp s r_g) (sp s r_a) (sp s r_l) vs) 0 32 e.special) ≡ 32 = length_over _ 0 32 e.special ∙ m in
       spec_same (over (unsaved_special e (sp s r_o) (sp s r_g) (sp s r_a) (sp s r_l) vs) 0 32 e.special) r_s _ v refl
@@ -105,14 +105,14 @@ parked_special s x k f h =
 
 parked_address : (s : State) (x : ℕ) → Sized s → x < 256 → reg (parked s x) x ≡ context_address s
 unfolding goes
-parked_address s x n l = savedState_address s x n l
+parked_address s x n l = saved_state_address s x n l
 
 module _ (s : State) (x : ℕ) (good : Good s) (vs : List ℕ) (are : (i : ℕ) → i < extent s → get_or vs i 0 ≡ saved s i) where
   abbrev back : State
   back = with_context s (parked s x) vs
 
   back_special : (k : ℕ) → k < 32 → Dec (k ≡ r_s) → sp back k ≡ get_or (set s.special r_s (sp s r_o)) k 0
-  back_special k l (yes q) = rw q (unsaved_rS s (parked s x) good.admits vs are (parked_good s x good).size ∙ sym (spec_same s.special r_s (sp s r_o) good.size.specials refl))
+  back_special k l (yes q) = rw q (unsaved_r_s s (parked s x) good.admits vs are (parked_good s x good).size ∙ sym (spec_same s.special r_s (sp s r_o) good.size.specials refl))
   back_special k l (no h) =
       unsaved_specials s (parked s x) good.admits vs are k (parked_good s x good).size l h
       ∙ on (λ (v : ℕ). v ≡ sp s k) (is_saved k) (λ f. refl) (λ f. parked_special s x k f h)

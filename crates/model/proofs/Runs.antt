@@ -17,8 +17,8 @@ tab_from zero i j f h = absurd (omega arith)
 tab_from (suc n) i zero f h = ap f (omega arith)
 tab_from (suc n) i (suc j) f h = tab_from n (suc i) j f (omega arith) ∙ ap f (omega arith)
 
-pub getD_tab : (n j : ℕ) (f : ℕ → ℕ) → j < n → get_or (tab 0 n f) j 0 ≡ f j
-getD_tab n j f h = tab_from n 0 j f h ∙ ap f (zero-add j)
+pub get_d_tab : (n j : ℕ) (f : ℕ → ℕ) → j < n → get_or (tab 0 n f) j 0 ≡ f j
+get_d_tab n j f h = tab_from n 0 j f h ∙ ap f (zero-add j)
 
 pub length_tab : (n i : ℕ) (f : ℕ → ℕ) → length (tab i n f) ≡ n
 unfolding tab
@@ -77,11 +77,11 @@ of_worst j (suc n) a h =
     next i l = let z : a + 8 * suc i ≡ a + 8 + 8 * i = omega arith in rw z at (h (suc i) (omega arith))
 
 module _ {M Sh : Type 0} (st : Store M Sh) (law : Lawful st) where
-  pub getD_looks : (n : ℕ) (m : M) (a i : ℕ) → i < n → get_or (looks st m a n) i 0 ≡ look st m (a + 8 * i)
+  pub get_d_looks : (n : ℕ) (m : M) (a i : ℕ) → i < n → get_or (looks st m a n) i 0 ≡ look st m (a + 8 * i)
   unfolding looks
-  getD_looks zero m a i l = absurd (omega arith)
-  getD_looks (suc n) m a zero l = ap (look st m) (omega arith)
-  getD_looks (suc n) m a (suc i) l = getD_looks n m (a + 8) i (omega arith) ∙ ap (look st m) (omega arith)
+  get_d_looks zero m a i l = absurd (omega arith)
+  get_d_looks (suc n) m a zero l = ap (look st m) (omega arith)
+  get_d_looks (suc n) m a (suc i) l = get_d_looks n m (a + 8) i (omega arith) ∙ ap (look st m) (omega arith)
 
   pub look_mod : (m : M) (a b : ℕ) → a % 2 ^ 64 ≡ b % 2 ^ 64 → look st m a ≡ look st m b
   unfolding look
@@ -111,7 +111,7 @@ module _ {M Sh : Type 0} (st : Store M Sh) (law : Lawful st) where
 
       here : look st w (a + 8 * i) ≡ f i
       here = unfold look in (ap (value_of 0) (k.octa_kept (a + 8 * i) (record { place = i; place_below = l; named_by = refl })
-          ∙ raw_puts j (tab 0 n f) m a i snd (rw len h) (omega (arith, len)) (omega (arith, len)) ∙ ap bytes_of (getD_tab n i f l)) ∙ value_bytes (f i) (words i l))
+          ∙ raw_puts j (tab 0 n f) m a i snd (rw len h) (omega (arith, len)) (omega (arith, len)) ∙ ap bytes_of (get_d_tab n i f l)) ∙ value_bytes (f i) (words i l))
 
   pub perform_read : {S : Type 0} (j : ℕ → ℕ) (s : S) (q a n : ℕ) (k : List ℕ → Plan S) (m : M) → worst j a n ≡ 0 → perform st j s (read q a n k) m ≡ perform st j s (k (looks st m a n)) m
   unfolding perform

@@ -16,7 +16,7 @@ use Rattle.model.proofs.Bools.{on}
 use Rattle.model.proofs.Fill.{length_over}
 use Rattle.model.proofs.Memory.{inside_octa, both_lawful}
 use Rattle.model.proofs.Plan.{Kept, Sound, puts_shape}
-use Rattle.model.proofs.Runs.{length_tab, octa_mod, worst_of, of_worst, getD_looks, stands, perform_read}
+use Rattle.model.proofs.Runs.{length_tab, octa_mod, worst_of, of_worst, get_d_looks, stands, perform_read}
 use Rattle.model.proofs.AdmissibleKept.{Adm, adm, adm_of}
 use Rattle.model.proofs.Entry.{perform_on, Inside, said_by_law, answered, step_open, step_done, sound}
 
@@ -109,22 +109,22 @@ pub save_is : (w : Windows) (s : State) (x y z : ℕ) → Saves (refusing (shape
 save_is w s x y z c = save_open w s x y z (adm_of s c.admits) c.fine ∙ save_stores (refusing (shapes_of w)) w s x c
 
 -- the address that it puts in $X, where X is a byte
-pub savedState_address : (s : State) (x : ℕ) → Sized s → x < 256 → reg (saved_state s x) x ≡ context_address s
+pub saved_state_address : (s : State) (x : ℕ) → Sized s → x < 256 → reg (saved_state s x) x ≡ context_address s
 unfolding saved_state saved_unspilled spilled with_special stored
-savedState_address s x n l =
+saved_state_address s x n l =
     let m : length s.general ≡ 256 = n.generals in
     get_or-set_same (over (λ i. 0) 0 (sp s r_g) s.general) x (context_address s) 0 (omega (arith, length_over (λ i. 0) 0 (sp s r_g) s.general))
 
 -- ---- the octabytes that SAVE stores, by what they are
 
 -- number k of the twelve, and back
-pub savedSpecial_low : (k : ℕ) → k ≤ r_r → saved_special k ≡ k
+pub saved_special_low : (k : ℕ) → k ≤ r_r → saved_special k ≡ k
 unfolding saved_special
-savedSpecial_low k h = rw (le-leb k r_r h)
+saved_special_low k h = rw (le-leb k r_r h)
 
-pub savedSpecial_high : (k : ℕ) → r_p ≤ k → saved_special (k - 16) ≡ k
+pub saved_special_high : (k : ℕ) → r_p ≤ k → saved_special (k - 16) ≡ k
 unfolding saved_special
-savedSpecial_high k h = rw (lt-leb (k - 16) r_r (omega arith)) (omega arith)
+saved_special_high k h = rw (lt-leb (k - 16) r_r (omega arith)) (omega arith)
 
 module _ (s : State) (b : Adm s) where
   pub saved_local : (i : ℕ) → i < sp s r_l → saved s i ≡ reg s i
@@ -261,7 +261,7 @@ module _ (j : ℕ → ℕ) (wraps : Wraps j) (w v : Windows) (snd : Sound both j
       let o : below (context_address s) (sp s r_l + 269 - sp s r_g) % 2 ^ 64 ≡ sp s r_o = omega (arith, words.special_word r_o) in
       record {
         octas = octas_of v (context_address s) (sp s r_g) (sp s r_l);
-        octas_are = λ k l. getD_looks both both_lawful (extent s) v (below (context_address s) (sp s r_l + 269 - sp s r_g)) k l
+        octas_are = λ k l. get_d_looks both both_lawful (extent s) v (below (context_address s) (sp s r_l + 269 - sp s r_g)) k l
             ∙ stored_at k _ l (further (sp s r_o) (below (context_address s) (sp s r_l + 269 - sp s r_g)) 0 k first ∙ rw (zero-add k));
         outcome_is = context_found j v e (halted e) (unsaved_next e) (context_address s) (sp s r_g) (sp s r_a) (sp s r_l) stored_context ∙ rw o;
       }

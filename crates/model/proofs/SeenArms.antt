@@ -19,15 +19,15 @@ use Rattle.model.specs.declared.Operation.{Operation}
 use Rattle.model.specs.declared.Results.{Results}
 use Rattle.model.proofs.Bools.{on_both, each, at_each}
 use Rattle.model.proofs.Related.{Related}
-use Rattle.model.proofs.SeenStates.{Seen, seen, g_same, l_same, o_same, a_same, reg_same, hides_same, admissible_same, goes_seen, next_seen, halted_seen, write_seen, pushed_seen, popped_seen, saved_seen, interrupted_seen, added_seen, putState_seen, results_seen}
+use Rattle.model.proofs.SeenStates.{Seen, seen, g_same, l_same, o_same, a_same, reg_same, hides_same, admissible_same, goes_seen, next_seen, halted_seen, write_seen, pushed_seen, popped_seen, saved_seen, interrupted_seen, added_seen, put_state_seen, results_seen}
 
 -- by two tests that come to the same
 pub by_test : {A B : Type 0} (Q : A → B → Type 0) {x y : A} {u v : B} (b c : Bool) → b ≡ c → (b ≡ true → Q x u) → (b ≡ false → Q y v) → Q (cond b x y) (cond c u v)
 by_test Q {x} {y} {u} {v} b c e f g = subst (λ (d : Bool). Q (cond b x y) (cond d u v)) e (on_both Q b f g)
 
-pub putRefusal_same : (s t : State) (x v : ℕ) → sp s r_l ≡ sp t r_l → put_refusal s x v ≡ put_refusal t x v
+pub put_refusal_same : (s t : State) (x v : ℕ) → sp s r_l ≡ sp t r_l → put_refusal s x v ≡ put_refusal t x v
 unfolding put_refusal
-putRefusal_same s t x v l = rw l
+put_refusal_same s t x v l = rw l
 
 module _ (m : ℕ) where
   abbrev R : State → State → Type 0
@@ -77,9 +77,9 @@ module _ (m : ℕ) where
   put_seen : (s t : State) (x v : ℕ) → R s t → Says (put_special s x v) (put_special t x v)
   unfolding put_special
   put_seen s t x v h =
-      let e : put_refusal s x v ≡ put_refusal t x v = putRefusal_same s t x v (l_same m s t h) in
+      let e : put_refusal s x v ≡ put_refusal t x v = put_refusal_same s t x v (l_same m s t h) in
       rw e (unless_seen s t x _ _ h
-      (λ f. on_both Says (eqb (put_refusal t x v) 0) (λ f. done _ _ (next_seen m _ _ (putState_seen m s t x v h))) (λ f. refused _ s t h)))
+      (λ f. on_both Says (eqb (put_refusal t x v) 0) (λ f. done _ _ (next_seen m _ _ (put_state_seen m s t x v h))) (λ f. refused _ s t h)))
 
   pub get_seen : (s t : State) (x z : ℕ) → R s t → Says (get_special s x z) (get_special t x z)
   unfolding get_special got

@@ -46,9 +46,9 @@ of_seen m s t h = record {
   mask_same = h.first_mask ∙ sym h.second_mask;
 }
 
-unsavedSpecial_same : (s t : State) (o g a l : ℕ) (vs : List ℕ) (k : ℕ) → sp s k ≡ sp t k → unsaved_special s o g a l vs k ≡ unsaved_special t o g a l vs k
+unsaved_special_same : (s t : State) (o g a l : ℕ) (vs : List ℕ) (k : ℕ) → sp s k ≡ sp t k → unsaved_special s o g a l vs k ≡ unsaved_special t o g a l vs k
 unfolding unsaved_special
-unsavedSpecial_same s t o g a l vs k e = rw e
+unsaved_special_same s t o g a l vs k e = rw e
 
 module _ (m : ℕ) where
   set_same : (ks ls : List ℕ) (k u v : ℕ) → u ≡ v → SameSpecials m ks ls → SameSpecials m (set ks k u) (set ls k v)
@@ -211,7 +211,7 @@ module _ (m : ℕ) where
           → get_or (over (unsaved_special s o g a l vs) 0 32 s.special) k 0 ≡ get_or (over (unsaved_special t o g a l vs) 0 32 t.special) k 0
       at k f (yes p) (yes q) =
           let e : sp s k ≡ sp t k = h.special_same.seen_same k f in
-          let u : unsaved_special s o g a l vs k ≡ unsaved_special t o g a l vs k = unsavedSpecial_same s t o g a l vs k e in
+          let u : unsaved_special s o g a l vs k ≡ unsaved_special t o g a l vs k = unsaved_special_same s t o g a l vs k e in
           over_in (unsaved_special s o g a l vs) 0 32 s.special k (omega arith) q p ∙ u
           ∙ sym (over_in (unsaved_special t o g a l vs) 0 32 t.special k (omega arith) q (omega (arith, h.special_same.count_same)))
       at k f (yes p) (no q) =
@@ -233,9 +233,9 @@ module _ (m : ℕ) where
   unfolding with_added added
   added_seen s t f h = let a : sp s r_a ≡ sp t r_a = a_same s t h in with_seen s t r_a _ _ (λ i. bit_or (a i) (bit_and (f % 256) (255 - leftmost (bit_and (f % 256) (a i / 256 % 256))))) h
 
-  pub putState_seen : (s t : State) (x v : ℕ) → Seen m s t → Seen m (put_state s x v) (put_state t x v)
+  pub put_state_seen : (s t : State) (x v : ℕ) → Seen m s t → Seen m (put_state s x v) (put_state t x v)
   unfolding put_state put_locals put_globals
-  putState_seen s t x v h =
+  put_state_seen s t x v h =
       let l : sp s r_l ≡ sp t r_l = l_same s t h in
       let g : sp s r_g ≡ sp t r_g = g_same s t h in
       on_both (Seen m) (eqb x r_l) (λ e. with_seen _ _ r_l _ _ (λ i. min v (l i)) (cleared_seen s t _ _ _ _ (λ i. min v (l i)) l h))

@@ -4,7 +4,7 @@ use Rattle.model.proofs.Prelude.{ℕ, ◌*◌, ◌+◌, ◌<◌, ◌≤◌, true
 use Rattle.model.proofs.Prelude.{OfBytes, Point, point_count, PointFits, All, and_left, and_right, All_left, All_right, length_part}
 use Rattle.point_lines.proofs.Prelude.{number_of, Digits, number_below}
 use Rattle.point_lines.specs.Line.{fits, point_form, digits_at, hex_at, octas_a, octas_b, is_form, octas_max, state_at}
-use Rattle.point_lines.specs.PointLine.{hex_of, digits_of, in_form, point_digits, bytes_of_digits, name_at, base_aAt, base_bAt, windows_at, name_of, point_by}
+use Rattle.point_lines.specs.PointLine.{hex_of, digits_of, in_form, point_digits, bytes_of_digits, name_at, base_a_at, base_b_at, windows_at, name_of, point_by}
 use Rattle.point_lines.proofs.Marks.{digits_in, line_again, digits_small}
 use Rattle.point_lines.proofs.LineMarks.{form_digits}
 use Rattle.point_lines.proofs.Hex.{hex_number, length_bytes, digits_of_bytes, bytes_small, length_at, digits_split}
@@ -36,17 +36,17 @@ module _ (w n : ℕ) (l : List ℕ) where
   abbrev pub d_name : List ℕ
   d_name = digits_at l name_at 1
 
-  abbrev pub d_octasA : List ℕ
-  d_octasA = digits_at l 23 w
+  abbrev pub d_octas_a : List ℕ
+  d_octas_a = digits_at l 23 w
 
-  abbrev pub d_octasB : List ℕ
-  d_octasB = digits_at l (24 + w) w
+  abbrev pub d_octas_b : List ℕ
+  d_octas_b = digits_at l (24 + w) w
 
-  abbrev pub d_baseA : List ℕ
-  d_baseA = digits_at l (base_aAt w) 16
+  abbrev pub d_base_a : List ℕ
+  d_base_a = digits_at l (base_a_at w) 16
 
-  abbrev pub d_baseB : List ℕ
-  d_baseB = digits_at l (base_bAt w) 16
+  abbrev pub d_base_b : List ℕ
+  d_base_b = digits_at l (base_b_at w) 16
 
   abbrev pub d_state : List ℕ
   d_state = digits_at l (state_at w) (2 * n)
@@ -60,7 +60,7 @@ module _ (w n : ℕ) (l : List ℕ) where
   abbrev pub d_b : ℕ → ℕ → List ℕ
   d_b a b = digits_at l (windows_at w (2 * n) + 16 * a) (16 * b)
 
-  pub line_digits : (m : ℕ) → digits_in (form w n m) l ≡ d_name ++ (d_octasA ++ (d_octasB ++ (d_baseA ++ (d_baseB ++ (d_state ++ d_windows m)))))
+  pub line_digits : (m : ℕ) → digits_in (form w n m) l ≡ d_name ++ (d_octas_a ++ (d_octas_b ++ (d_base_a ++ (d_base_b ++ (d_state ++ d_windows m)))))
   line_digits m = form_digits w (2 * n) m l
 
   pub windows_digits : (a b : ℕ) → d_windows (a + b) ≡ d_a a ++ d_b a b
@@ -93,10 +93,10 @@ module _ (w n : ℕ) (l : List ℕ) where
     -- all of them are digits
     record Small : Type 0 where
       s_name : Digits d_name
-      s_octasA : Digits d_octasA
-      s_octasB : Digits d_octasB
-      s_baseA : Digits d_baseA
-      s_baseB : Digits d_baseB
+      s_octas_a : Digits d_octas_a
+      s_octas_b : Digits d_octas_b
+      s_base_a : Digits d_base_a
+      s_base_b : Digits d_base_b
       s_state : Digits d_state
       s_a : Digits (d_a a)
       s_b : Digits (d_b a b)
@@ -104,19 +104,19 @@ module _ (w n : ℕ) (l : List ℕ) where
     small : Small
     small =
         let P : ℕ → Type 0 = λ (d : ℕ). d < 16 in
-        let t₀ : Digits (d_name ++ (d_octasA ++ (d_octasB ++ (d_baseA ++ (d_baseB ++ (d_state ++ d_windows octas)))))) = rw (line_digits octas) at (digits_small (form w n octas) l judged.of_form) in
-        let t₁ = All_right P d_name (d_octasA ++ (d_octasB ++ (d_baseA ++ (d_baseB ++ (d_state ++ d_windows octas))))) t₀ in
-        let t₂ = All_right P d_octasA (d_octasB ++ (d_baseA ++ (d_baseB ++ (d_state ++ d_windows octas)))) t₁ in
-        let t₃ = All_right P d_octasB (d_baseA ++ (d_baseB ++ (d_state ++ d_windows octas))) t₂ in
-        let t₄ = All_right P d_baseA (d_baseB ++ (d_state ++ d_windows octas)) t₃ in
-        let t₅ = All_right P d_baseB (d_state ++ d_windows octas) t₄ in
+        let t₀ : Digits (d_name ++ (d_octas_a ++ (d_octas_b ++ (d_base_a ++ (d_base_b ++ (d_state ++ d_windows octas)))))) = rw (line_digits octas) at (digits_small (form w n octas) l judged.of_form) in
+        let t₁ = All_right P d_name (d_octas_a ++ (d_octas_b ++ (d_base_a ++ (d_base_b ++ (d_state ++ d_windows octas))))) t₀ in
+        let t₂ = All_right P d_octas_a (d_octas_b ++ (d_base_a ++ (d_base_b ++ (d_state ++ d_windows octas)))) t₁ in
+        let t₃ = All_right P d_octas_b (d_base_a ++ (d_base_b ++ (d_state ++ d_windows octas))) t₂ in
+        let t₄ = All_right P d_base_a (d_base_b ++ (d_state ++ d_windows octas)) t₃ in
+        let t₅ = All_right P d_base_b (d_state ++ d_windows octas) t₄ in
         let t₆ : Digits (d_a a ++ d_b a b) = rw (windows_digits a b) at (All_right P d_state (d_windows octas) t₅) in
         record {
           s_name = All_left P d_name _ t₀;
-          s_octasA = All_left P d_octasA _ t₁;
-          s_octasB = All_left P d_octasB _ t₂;
-          s_baseA = All_left P d_baseA _ t₃;
-          s_baseB = All_left P d_baseB _ t₄;
+          s_octas_a = All_left P d_octas_a _ t₁;
+          s_octas_b = All_left P d_octas_b _ t₂;
+          s_base_a = All_left P d_base_a _ t₃;
+          s_base_b = All_left P d_base_b _ t₄;
           s_state = All_left P d_state _ t₅;
           s_a = All_left P (d_a a) (d_b a b) t₆;
           s_b = All_right P (d_a a) (d_b a b) t₆;
@@ -134,25 +134,25 @@ module _ (w n : ℕ) (l : List ℕ) where
     octas_b' : octas_in (bytes_of_digits (d_b a b)) ≡ b
     octas_b' = omega (arith, size_b)
 
-    spelt_a : hex_of w a ≡ d_octasA
+    spelt_a : hex_of w a ≡ d_octas_a
     unfolding octas_a hex_at
-    spelt_a = hex_number w d_octasA small.s_octasA (length_at l 23 w)
+    spelt_a = hex_number w d_octas_a small.s_octas_a (length_at l 23 w)
 
-    spelt_b : hex_of w b ≡ d_octasB
+    spelt_b : hex_of w b ≡ d_octas_b
     unfolding octas_b hex_at
-    spelt_b = hex_number w d_octasB small.s_octasB (length_at l (24 + w) w)
+    spelt_b = hex_number w d_octas_b small.s_octas_b (length_at l (24 + w) w)
 
     spelt_name : hex_of 1 (name_of l) ≡ d_name
     unfolding name_of hex_at
     spelt_name = hex_number 1 d_name small.s_name (length_at l name_at 1)
 
-    spelt_baseA : hex_of 16 (hex_at l (base_aAt w) 16) ≡ d_baseA
+    spelt_base_a : hex_of 16 (hex_at l (base_a_at w) 16) ≡ d_base_a
     unfolding hex_at
-    spelt_baseA = hex_number 16 d_baseA small.s_baseA (length_at l (base_aAt w) 16)
+    spelt_base_a = hex_number 16 d_base_a small.s_base_a (length_at l (base_a_at w) 16)
 
-    spelt_baseB : hex_of 16 (hex_at l (base_bAt w) 16) ≡ d_baseB
+    spelt_base_b : hex_of 16 (hex_at l (base_b_at w) 16) ≡ d_base_b
     unfolding hex_at
-    spelt_baseB = hex_number 16 d_baseB small.s_baseB (length_at l (base_bAt w) 16)
+    spelt_base_b = hex_number 16 d_base_b small.s_base_b (length_at l (base_b_at w) 16)
 
     spelt_state : digits_of (bytes_of_digits d_state) ≡ d_state
     spelt_state = digits_of_bytes n d_state (length_at l (state_at w) (2 * n)) small.s_state
@@ -166,7 +166,7 @@ module _ (w n : ℕ) (l : List ℕ) where
     -- the digits of its point are its own
     own_digits : point_digits w (name_of l) (point_by w (2 * n) l) ≡ digits_in (form w n octas) l
     unfolding point_digits point_by
-    own_digits = rw (octas_a', octas_b', spelt_name, spelt_a, spelt_b, spelt_baseA, spelt_baseB, spelt_state, spelt_windows) (sym (line_digits octas))
+    own_digits = rw (octas_a', octas_b', spelt_name, spelt_a, spelt_b, spelt_base_a, spelt_base_b, spelt_state, spelt_windows) (sym (line_digits octas))
 
     own_line : line_by w n (name_of l) (point_by w (2 * n) l) ≡ l
     unfolding point_by
@@ -191,8 +191,8 @@ module _ (w n : ℕ) (l : List ℕ) where
       few_b = omega (arith, octas_b', judged.small_b);
       point_fits = record {
         image_long = length_part (bytes_of_digits d_state) 0 image_length;
-        base_a' = number_below d_baseA small.s_baseA (omega (arith, length_at l (base_aAt w) 16));
-        base_b' = number_below d_baseB small.s_baseB (omega (arith, length_at l (base_bAt w) 16));
+        base_a' = number_below d_base_a small.s_base_a (omega (arith, length_at l (base_a_at w) 16));
+        base_b' = number_below d_base_b small.s_base_b (omega (arith, length_at l (base_b_at w) 16));
         long_a = omega (arith, size_a, judged.small_a);
         long_b = omega (arith, size_b, judged.small_b);
         whole_a = omega (arith, size_a);

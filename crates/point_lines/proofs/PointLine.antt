@@ -3,12 +3,12 @@ use Rattle.model.proofs.Prelude.{ℕ, ◌*◌, ◌+◌, ◌<◌, ◌^◌, ◌≤
 use Rattle.model.proofs.Prelude.{octas_in, OfBytes, Point, point_count, PointFits, window_max, at_own, All_both}
 use Rattle.point_lines.proofs.Prelude.{number_of, Digits}
 use Rattle.point_lines.specs.Line.{fits, hex_at, octas_a, octas_b, is_form, is_new, length_digits_law, state_digits, octas_max, state_at}
-use Rattle.point_lines.specs.PointLine.{hex_of, digits_of, point_digits, line_of, bytes_of_digits, name_at, base_aAt, base_bAt, windows_at, name_of, point_by, Told, EachOther}
+use Rattle.point_lines.specs.PointLine.{hex_of, digits_of, point_digits, line_of, bytes_of_digits, name_at, base_a_at, base_b_at, windows_at, name_of, point_by, Told, EachOther}
 use Rattle.point_lines.proofs.Formed.{point_new}
 use Rattle.point_lines.proofs.Marks.{digits_in, marks_in, form_fits, digits_again}
 use Rattle.point_lines.proofs.LineMarks.{form_marks}
 use Rattle.point_lines.proofs.Hex.{length_hex, hex_digits, number_hex, length_digits, bytes_digits, bytes_of_digits_law, length_at, same_front, same_rest}
-use Rattle.point_lines.proofs.LinePoint.{form, d_name, d_octasA, d_octasB, d_baseA, d_baseB, d_state, d_windows, d_a, d_b, line_digits, windows_digits}
+use Rattle.point_lines.proofs.LinePoint.{form, d_name, d_octas_a, d_octas_b, d_base_a, d_base_b, d_state, d_windows, d_a, d_b, line_digits, windows_digits}
 use Rattle.point_lines.proofs.Renewed.{new_point, new_same, read, old, short, short_old}
 
 both : (xs ys : List ℕ) → Digits xs → Digits ys → Digits (xs ++ ys)
@@ -91,39 +91,39 @@ module _ (name : ℕ) (p : Point) (n : name < point_count) (f : PointFits p) (o 
   its_digits = digits_again (form length_digits_law image_length m) (point_digits length_digits_law name p) all_small length_all
 
   -- part by part
-  e₀ : d_name length_digits_law image_length line ++ (d_octasA length_digits_law image_length line ++ (d_octasB length_digits_law image_length line ++ (d_baseA length_digits_law image_length line ++ (d_baseB length_digits_law image_length line ++ (d_state length_digits_law image_length line ++ d_windows length_digits_law image_length line m))))) ≡ hex_of 1 name ++ t₁
+  e₀ : d_name length_digits_law image_length line ++ (d_octas_a length_digits_law image_length line ++ (d_octas_b length_digits_law image_length line ++ (d_base_a length_digits_law image_length line ++ (d_base_b length_digits_law image_length line ++ (d_state length_digits_law image_length line ++ d_windows length_digits_law image_length line m))))) ≡ hex_of 1 name ++ t₁
   unfolding point_digits
   e₀ = sym (line_digits length_digits_law image_length line m) ∙ its_digits
 
   at_name : length (d_name length_digits_law image_length line) ≡ 1
   at_name = length_at line name_at 1
 
-  e₁ : d_octasA length_digits_law image_length line ++ (d_octasB length_digits_law image_length line ++ (d_baseA length_digits_law image_length line ++ (d_baseB length_digits_law image_length line ++ (d_state length_digits_law image_length line ++ d_windows length_digits_law image_length line m)))) ≡ t₁
+  e₁ : d_octas_a length_digits_law image_length line ++ (d_octas_b length_digits_law image_length line ++ (d_base_a length_digits_law image_length line ++ (d_base_b length_digits_law image_length line ++ (d_state length_digits_law image_length line ++ d_windows length_digits_law image_length line m)))) ≡ t₁
   e₁ = same_rest 1 (d_name length_digits_law image_length line) _ (hex_of 1 name) t₁ at_name (length_hex 1 name) e₀
 
-  at_octasA : length (d_octasA length_digits_law image_length line) ≡ length_digits_law
-  at_octasA = length_at line 23 length_digits_law
+  at_octas_a : length (d_octas_a length_digits_law image_length line) ≡ length_digits_law
+  at_octas_a = length_at line 23 length_digits_law
 
-  e₂ : d_octasB length_digits_law image_length line ++ (d_baseA length_digits_law image_length line ++ (d_baseB length_digits_law image_length line ++ (d_state length_digits_law image_length line ++ d_windows length_digits_law image_length line m))) ≡ t₂
-  e₂ = same_rest length_digits_law (d_octasA length_digits_law image_length line) _ (hex_of length_digits_law (octas_in p.a)) t₂ at_octasA (length_hex length_digits_law (octas_in p.a)) e₁
+  e₂ : d_octas_b length_digits_law image_length line ++ (d_base_a length_digits_law image_length line ++ (d_base_b length_digits_law image_length line ++ (d_state length_digits_law image_length line ++ d_windows length_digits_law image_length line m))) ≡ t₂
+  e₂ = same_rest length_digits_law (d_octas_a length_digits_law image_length line) _ (hex_of length_digits_law (octas_in p.a)) t₂ at_octas_a (length_hex length_digits_law (octas_in p.a)) e₁
 
-  at_octasB : length (d_octasB length_digits_law image_length line) ≡ length_digits_law
-  at_octasB = length_at line (24 + length_digits_law) length_digits_law
+  at_octas_b : length (d_octas_b length_digits_law image_length line) ≡ length_digits_law
+  at_octas_b = length_at line (24 + length_digits_law) length_digits_law
 
-  e₃ : d_baseA length_digits_law image_length line ++ (d_baseB length_digits_law image_length line ++ (d_state length_digits_law image_length line ++ d_windows length_digits_law image_length line m)) ≡ t₃
-  e₃ = same_rest length_digits_law (d_octasB length_digits_law image_length line) _ (hex_of length_digits_law (octas_in p.b)) t₃ at_octasB (length_hex length_digits_law (octas_in p.b)) e₂
+  e₃ : d_base_a length_digits_law image_length line ++ (d_base_b length_digits_law image_length line ++ (d_state length_digits_law image_length line ++ d_windows length_digits_law image_length line m)) ≡ t₃
+  e₃ = same_rest length_digits_law (d_octas_b length_digits_law image_length line) _ (hex_of length_digits_law (octas_in p.b)) t₃ at_octas_b (length_hex length_digits_law (octas_in p.b)) e₂
 
-  at_baseA : length (d_baseA length_digits_law image_length line) ≡ 16
-  at_baseA = length_at line (base_aAt length_digits_law) 16
+  at_base_a : length (d_base_a length_digits_law image_length line) ≡ 16
+  at_base_a = length_at line (base_a_at length_digits_law) 16
 
-  e₄ : d_baseB length_digits_law image_length line ++ (d_state length_digits_law image_length line ++ d_windows length_digits_law image_length line m) ≡ t₄
-  e₄ = same_rest 16 (d_baseA length_digits_law image_length line) _ (hex_of 16 p.base_a) t₄ at_baseA (length_hex 16 p.base_a) e₃
+  e₄ : d_base_b length_digits_law image_length line ++ (d_state length_digits_law image_length line ++ d_windows length_digits_law image_length line m) ≡ t₄
+  e₄ = same_rest 16 (d_base_a length_digits_law image_length line) _ (hex_of 16 p.base_a) t₄ at_base_a (length_hex 16 p.base_a) e₃
 
-  at_baseB : length (d_baseB length_digits_law image_length line) ≡ 16
-  at_baseB = length_at line (base_bAt length_digits_law) 16
+  at_base_b : length (d_base_b length_digits_law image_length line) ≡ 16
+  at_base_b = length_at line (base_b_at length_digits_law) 16
 
   e₅ : d_state length_digits_law image_length line ++ d_windows length_digits_law image_length line m ≡ t₅
-  e₅ = same_rest 16 (d_baseB length_digits_law image_length line) _ (hex_of 16 p.base_b) t₅ at_baseB (length_hex 16 p.base_b) e₄
+  e₅ = same_rest 16 (d_base_b length_digits_law image_length line) _ (hex_of 16 p.base_b) t₅ at_base_b (length_hex 16 p.base_b) e₄
 
   at_state : length (d_state length_digits_law image_length line) ≡ state_digits
   at_state = length_at line (state_at length_digits_law) state_digits
@@ -142,25 +142,25 @@ module _ (name : ℕ) (p : Point) (n : name < point_count) (f : PointFits p) (o 
   unfolding name_of hex_at
   is_name = ap (number_of 0) (same_front 1 (d_name length_digits_law image_length line) _ (hex_of 1 name) t₁ at_name (length_hex 1 name) e₀) ∙ number_hex 1 name (omega arith)
 
-  is_octasA : octas_a length_digits_law line ≡ octas_in p.a
+  is_octas_a : octas_a length_digits_law line ≡ octas_in p.a
   unfolding octas_a hex_at
-  is_octasA =
-      ap (number_of 0) (same_front length_digits_law (d_octasA length_digits_law image_length line) _ (hex_of length_digits_law (octas_in p.a)) t₂ at_octasA (length_hex length_digits_law (octas_in p.a)) e₁)
+  is_octas_a =
+      ap (number_of 0) (same_front length_digits_law (d_octas_a length_digits_law image_length line) _ (hex_of length_digits_law (octas_in p.a)) t₂ at_octas_a (length_hex length_digits_law (octas_in p.a)) e₁)
       ∙ number_hex length_digits_law (octas_in p.a) (few (octas_in p.a) (omega (arith, f.whole_a, f.long_a)))
 
-  is_octasB : octas_b length_digits_law line ≡ octas_in p.b
+  is_octas_b : octas_b length_digits_law line ≡ octas_in p.b
   unfolding octas_b hex_at
-  is_octasB =
-      ap (number_of 0) (same_front length_digits_law (d_octasB length_digits_law image_length line) _ (hex_of length_digits_law (octas_in p.b)) t₃ at_octasB (length_hex length_digits_law (octas_in p.b)) e₂)
+  is_octas_b =
+      ap (number_of 0) (same_front length_digits_law (d_octas_b length_digits_law image_length line) _ (hex_of length_digits_law (octas_in p.b)) t₃ at_octas_b (length_hex length_digits_law (octas_in p.b)) e₂)
       ∙ number_hex length_digits_law (octas_in p.b) (few (octas_in p.b) (omega (arith, f.whole_b, f.long_b)))
 
-  is_baseA : hex_at line (base_aAt length_digits_law) 16 ≡ p.base_a
+  is_base_a : hex_at line (base_a_at length_digits_law) 16 ≡ p.base_a
   unfolding hex_at
-  is_baseA = ap (number_of 0) (same_front 16 (d_baseA length_digits_law image_length line) _ (hex_of 16 p.base_a) t₄ at_baseA (length_hex 16 p.base_a) e₃) ∙ number_hex 16 p.base_a f.base_a'
+  is_base_a = ap (number_of 0) (same_front 16 (d_base_a length_digits_law image_length line) _ (hex_of 16 p.base_a) t₄ at_base_a (length_hex 16 p.base_a) e₃) ∙ number_hex 16 p.base_a f.base_a'
 
-  is_baseB : hex_at line (base_bAt length_digits_law) 16 ≡ p.base_b
+  is_base_b : hex_at line (base_b_at length_digits_law) 16 ≡ p.base_b
   unfolding hex_at
-  is_baseB = ap (number_of 0) (same_front 16 (d_baseB length_digits_law image_length line) _ (hex_of 16 p.base_b) t₅ at_baseB (length_hex 16 p.base_b) e₄) ∙ number_hex 16 p.base_b f.base_b'
+  is_base_b = ap (number_of 0) (same_front 16 (d_base_b length_digits_law image_length line) _ (hex_of 16 p.base_b) t₅ at_base_b (length_hex 16 p.base_b) e₄) ∙ number_hex 16 p.base_b f.base_b'
 
   is_image' : bytes_of_digits (d_state length_digits_law image_length line) ≡ p.image
   is_image' = ap bytes_of_digits (same_front state_digits (d_state length_digits_law image_length line) _ (digits_of p.image) t₆ at_state length_image e₅) ∙ bytes_of_digits_law p.image
@@ -173,11 +173,11 @@ module _ (name : ℕ) (p : Point) (n : name < point_count) (f : PointFits p) (o 
 
   its_point : point_by length_digits_law state_digits line ≡ p
   unfolding point_by
-  its_point = rw (is_octasA, is_octasB, is_baseA, is_baseB, is_image', is_a, is_b)
+  its_point = rw (is_octas_a, is_octas_b, is_base_a, is_base_b, is_image', is_a, is_b)
 
   is_new' : is_new line ≡ true
   unfolding is_new is_form
-  is_new' = rw (is_octasA, is_octasB, le-leb (octas_in p.a) octas_max (omega (arith, f.whole_a, f.long_a)), le-leb (octas_in p.b) octas_max (omega (arith, f.whole_b, f.long_b)), its_form)
+  is_new' = rw (is_octas_a, is_octas_b, le-leb (octas_in p.a) octas_max (omega (arith, f.whole_a, f.long_a)), le-leb (octas_in p.b) octas_max (omega (arith, f.whole_b, f.long_b)), its_form)
 
   told : Told name p
   told = record { line_new = is_new'; line_good = point_new line is_new'; name_is = is_name; point_is = new_point line is_new' ∙ ap full its_point ∙ at_own image_length p (sym f.image_long) }

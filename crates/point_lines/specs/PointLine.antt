@@ -44,11 +44,11 @@ bytes_of_digits (d ∷ e ∷ ds) = (d * 16 + e) ∷ bytes_of_digits ds
 abbrev pub name_at : ℕ
 name_at = 13
 
-abbrev pub base_aAt : ℕ → ℕ
-base_aAt w = 33 + 2 * w
+abbrev pub base_a_at : ℕ → ℕ
+base_a_at w = 33 + 2 * w
 
-abbrev pub base_bAt : ℕ → ℕ
-base_bAt w = 50 + 2 * w
+abbrev pub base_b_at : ℕ → ℕ
+base_b_at w = 50 + 2 * w
 
 abbrev pub windows_at : ℕ → ℕ → ℕ
 windows_at w d = 86 + 2 * w + d
@@ -60,8 +60,8 @@ name_of l = hex_at l name_at 1
 unfoldable pub point_by : ℕ → ℕ → List ℕ → Point
 point_by w d l = record {
   image = bytes_of_digits (digits_at l (state_at w) d);
-  base_a = hex_at l (base_aAt w) 16;
-  base_b = hex_at l (base_bAt w) 16;
+  base_a = hex_at l (base_a_at w) 16;
+  base_b = hex_at l (base_b_at w) 16;
   a = bytes_of_digits (digits_at l (windows_at w d) (16 * octas_a w l));
   b = bytes_of_digits (digits_at l (windows_at w d + 16 * octas_a w l) (16 * octas_b w l));
 }

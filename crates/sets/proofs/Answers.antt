@@ -1,6 +1,6 @@
 -- What put_set answers, from what its tests and calls tell; and that of a long list its first 33 pairs tell as much as all.
 use Rattle.model.proofs.Prelude.{min, ℕ, ◌*◌, ◌+◌, ◌/◌, ◌<◌, ◌≤◌, false, true, List, ⊎_elim, ap, refl, sym, ◌∙◌, ◌≡◌, arith, length, le-leb, lt-ltb, tag_of}
-use Rattle.model.proofs.Prelude.{OneOf, number_of, reply_of, admissible, halted, r_l, Sized, sp, lt_or_le, not_done, numbered, refusals, tag_is}
+use Rattle.model.proofs.Prelude.{Among, number_of, reply_of, admissible, halted, r_l, Sized, sp, lt_or_le, not_done, numbered, refusals, tag_is}
 use Rattle.model.specs.declared.State.{State}
 use Rattle.model.specs.declared.Reply.{Reply}
 use Rattle.model.specs.declared.Reply.TheVariants.{NotAdmissible, TooManyPairs}
@@ -43,7 +43,7 @@ module _ (s : State) (ps : List Pair) where
         let k : (judge_pairs (sp s r_l) 0 ps).reply ≡ 0 = sym tag ∙ z in
         rw (q, number ∙ k) (by s ps (set_says 0 0 (put_all s ps)) (set_done s ps n e h _ refl k))
 
-    pub none_put : OneOf refusals (tag_of the_type r) → (i : ℕ) → i ≡ (judge_pairs (sp s r_l) 0 ps).place → PutSet s ps (number_of r) i (halted s)
+    pub none_put : Among refusals (tag_of the_type r) → (i : ℕ) → i ≡ (judge_pairs (sp s r_l) 0 ps).place → PutSet s ps (number_of r) i (halted s)
     none_put z i q = rw (number, q) (by s ps _ (set_refused s ps n e h _ refl (λ k. not_done _ z (tag ∙ k))))
 
 -- ---- the pairs of a list of bytes

@@ -1,6 +1,6 @@
 -- The pairs of a list of octabytes, one after another from the front; what judging and putting come to, pair by pair.
 use Rattle.model.proofs.Prelude.{suc, ℕ, ◌*◌, ◌+◌, ◌/◌, ◌<◌, ◌≤◌, List, [], ◌∷◌, ap, refl, sym, ◌∙◌, ◌≡◌, arith, eqb, drop, get_or, length, length-drop}
-use Rattle.model.proofs.Prelude.{drop-cons, ne_eqb, tag_of, OneOf, reply_of, fresh, r_l, sp, with_special, put_refusal, put_state, put_most, on, not_done, refusals}
+use Rattle.model.proofs.Prelude.{drop-cons, ne_eqb, tag_of, Among, reply_of, fresh, r_l, sp, with_special, put_refusal, put_state, put_most, on, not_done, refusals}
 use Rattle.model.proofs.Prelude.{tag_is}
 use Rattle.model.specs.declared.State.{State}
 use Rattle.model.specs.declared.Reply.{Reply}
@@ -61,7 +61,7 @@ module _ (l : ℕ) (p : Pair) (r : Reply) (e : r ≡ reply_of (refusal_at l p)) 
     unfolding judge_pairs
     judge_on z m q = let k : suc i ≡ i + 1 = omega arith in rw (sym tag ∙ z, k, q)
 
-    pub judge_stops : OneOf refusals (tag_of the_type r) → judge_pairs l i (p ∷ ps) ≡ judges (refusal_at l p) i
+    pub judge_stops : Among refusals (tag_of the_type r) → judge_pairs l i (p ∷ ps) ≡ judges (refusal_at l p) i
     unfolding judge_pairs
     judge_stops z = rw (ne_eqb (refusal_at l p) 0 (λ q. not_done _ z (tag ∙ q)))
 

@@ -3,7 +3,7 @@
 use Rattle.model.proofs.Prelude.{min, ℕ, ◌%◌, ◌*◌, ◌+◌, ◌-◌, ◌<◌, ◌^◌, ◌≤◌, false, true, List, [], inl, inr, ap, refl, sym, ◌∙◌, ◌≡◌, arith, get_or, length}
 use Rattle.model.proofs.Prelude.{le-leb, lt-leb, tab, framed, hole, misplaced, no_frame, pop_frame, popped, pop_rule, pop_to, pushed, pushed_rule, push_frame, slide}
 use Rattle.model.proofs.Prelude.{unslide, both, shapes_of, Windows, tell, number_of, reply_of, answer, looks, Outcome, puts, admissible, goes, halted, r_g, r_j, r_l}
-use Rattle.model.proofs.Prelude.{r_o, sp, spilled, stack_start, with_special, refusing, adm, Inside, perform_on, said, both_lawful, called, push_is, getD_looks}
+use Rattle.model.proofs.Prelude.{r_o, sp, spilled, stack_start, with_special, refusing, adm, Inside, perform_on, said, both_lawful, called, push_is, get_d_looks}
 use Rattle.model.proofs.Prelude.{length_tab, perform_read}
 use Rattle.model.specs.declared.State.{State}
 use Rattle.model.specs.declared.Reply.{Reply}
@@ -139,7 +139,7 @@ module _ (w : Windows) (s : State) (x yz : ℕ) where
           hole_read =
               let z : sp s r_o - 8 + 8 * 0 ≡ sp s r_o - 8 = omega arith in
               let q : get_or (looks both w (sp s r_o - 8) 1) 0 0 ≡ read_octa w (sp s r_o - 8)
-              = getD_looks both both_lawful 1 w (sp s r_o - 8) 0 (omega arith) ∙ sym (run_read w (sp s r_o - 8) 1 i 0 (sp s r_o - 8 + 8 * 0) (omega arith) refl) ∙ ap (read_octa w) z in
+              = get_d_looks both both_lawful 1 w (sp s r_o - 8) 0 (omega arith) ∙ sym (run_read w (sp s r_o - 8) 1 i 0 (sp s r_o - 8 + 8 * 0) (omega arith) refl) ∙ ap (read_octa w) z in
               ap (λ (n : ℕ). n % 256) q ∙ sym e
 
           pop_to' : pop_in w s x ≡ perform_on w s (pop_to s x s.pc h)

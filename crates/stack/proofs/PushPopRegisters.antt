@@ -5,7 +5,7 @@ use Rattle.model.proofs.Prelude.{get_or, length, length-set, set, ext_get_or, ge
 use Rattle.model.proofs.Prelude.{ltb-true, ne_eqb, over, tab, count_of, framed, last_output, misplaced, popped, pushed, pushed_rule, restored, slid, slide}
 use Rattle.model.proofs.Prelude.{unslide, both, holder, shapes_of, Windows, made, looks, puts, worst, cleared, reg, r_g, r_j, r_l, r_o, r_s, sp, spilled, stack_start}
 use Rattle.model.proofs.Prelude.{with_parts, with_special, refusing, spec_other, and_left, and_right, granted, length_over, lt_or_le, over_above, over_after}
-use Rattle.model.proofs.Prelude.{over_below, over_in, both_lawful, getD_looks}
+use Rattle.model.proofs.Prelude.{over_below, over_in, both_lawful, get_d_looks}
 use Rattle.model.specs.PopOrder.{lowered, between}
 use Rattle.model.specs.declared.State.{State}
 use Rattle.model.proofs.PopOrder.{first_general, then_clears}
@@ -143,7 +143,7 @@ module _ (w : Windows) (bottom h low x : ℕ) (s : State) (el : low ≡ lowered 
       let m : min h low ≡ min h (sp s r_g) = omega arith in
       let n : k < min h low = omega arith in
       rw (e, lt-ltb k h a) (run_read w bottom (min h low) pass k (bottom + 8 * k) n refl
-      ∙ sym (ap (λ (j : ℕ). get_or (looks both w bottom j) k 0) (sym m) ∙ getD_looks both both_lawful (min h low) w bottom k n))
+      ∙ sym (ap (λ (j : ℕ). get_or (looks both w bottom j) k 0) (sym m) ∙ get_d_looks both both_lawful (min h low) w bottom k n))
 
   moved_in : (k : ℕ) → k < length g → h < k → k < low → get_or moved k 0 ≡ by_rule k
   unfolding restored

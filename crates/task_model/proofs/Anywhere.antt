@@ -2,7 +2,7 @@
 use Rattle.model.proofs.Prelude.{ℕ, ◌*◌, ◌+◌, ◌<◌, List, [], ◌⊎◌, ⊎_elim, ap, subst, sym, ◌∙◌, ◌≡◌, get_or, length, get_or-set_same, Alike, AtPop, Call, opcode_of}
 use Rattle.model.proofs.Prelude.{SameOutside, Within, hole, run_needs_by, runs, both, Shapes, shapes_of, Windows, Agree, All, Off, Outcome, worst, fresh, r_o}
 use Rattle.model.proofs.Prelude.{Sized, sp, Words, Item, opcode_in, tetra_of, unruled_by, x_in, by_fetch, by_step, item_by, NamesBy, Way, x_by, adm, Good, agree_of}
-use Rattle.model.proofs.Prelude.{hole_alike, back_core, called_by, narrow, tetra_alike, runs_kept, run_touches, runTouches_agree, both_lawful, All_of, called}
+use Rattle.model.proofs.Prelude.{hole_alike, back_core, called_by, narrow, tetra_alike, runs_kept, run_touches, run_touches_agree, both_lawful, All_of, called}
 use Rattle.model.proofs.Prelude.{of_worst, splits}
 use Rattle.task_model.proofs.Prelude.{State}
 use Rattle.task_model.specs.Tasks.{Own, refusing_in, task_of, Turn, turn, studies, turn_needs}
@@ -12,7 +12,7 @@ use Rattle.task_model.proofs.Judge.{studies_sound}
 use Rattle.task_model.proofs.Callers.{turn_shape, task_caller, turns_off}
 use Rattle.task_model.proofs.TaskDemand.{frame_off, demand3_tasks, demand3_tasks_fetched, demand3_own, demand3_own_fetched}
 use Rattle.task_model.specs.Anywhere.{TurnsSplit, Cut, call_turn, pop_turn, turns_to_pop, caller_by, at_call, called_at, at_pop, popped_at, caller_at, hole_at, pushed_at, CallerThere, PopsThere, CameBack, Reading, AnywhereBy, Anywhere, AnywhereOwn, behind, TwiceBy, AnywhereTwice, AnywhereOwnTwice}
-use Rattle.task_model.proofs.CallBy.{CalledBy, by_rO, by_good, by_words, by_hole, call_leaves, was_called}
+use Rattle.task_model.proofs.CallBy.{CalledBy, by_r_o, by_good, by_words, by_hole, call_leaves, was_called}
 
 pub turns_split : TurnsSplit
 turns_split = splits both studies
@@ -48,7 +48,7 @@ module _ (p r : Own) (w : Windows) (ss : List State) (c : ℕ) (f : Call) (i u :
       let q : CalledBy (refusing_in p (shapes_of w)) w s f i = was_called studies (task_caller c p) w ss f i names done in
       let good : Good s = record { size = sized; admits = adm s q.passed.admitted } in
       let cs : State = caller_by i w s in
-      let os : sp cs r_o ≡ sp s r_o = by_rO i w s in
+      let os : sp cs r_o ≡ sp s r_o = by_r_o i w s in
       let o : Outcome (List State) Windows = called_by studies (task_caller c p) w ss cs h q.target in
       subst Back (sym (call_leaves studies (task_caller c p) w ss f i q))
       (λ off at met.
@@ -176,7 +176,7 @@ module _ (parted : Condition) (needed : Reading) (claimed : Claimed parted neede
       let a : ℕ = sp (task_of ss c) r_o in
       let F : ℕ → Type 0 = Within a (hole_of w (task_of ss c) i) in
       let G : ℕ → Type 0 = Within a (hole_of w (task_of ss c) i + 1) in
-      let os : sp (caller_by i w (task_of ss c)) r_o ≡ a = by_rO i w (task_of ss c) in
+      let os : sp (caller_by i w (task_of ss c)) r_o ≡ a = by_r_o i w (task_of ss c) in
       let d : Demanded p w ss ts c f i is = demanded i is apart l ns nt ws wt n alike done pcs off in
       let q : CalledBy (refusing_in p (shapes_of w)) w (task_of ss c) f i = was_called studies (task_caller c p) w ss f i n done in
       let fine : unruled_by (shapes_of o.memory) ≡ 0 = ap unruled_by (after_shape p w ss c i (opcode_of f) []) ∙ q.passed.fine in
@@ -184,7 +184,7 @@ module _ (parted : Condition) (needed : Reading) (claimed : Claimed parted neede
       = agree_of F o.memory u.memory fine (subst (λ (b : ℕ). SameOutside (Within b (hole_of w (task_of ss c) i)) o.memory u.memory) os e.window_same) in
       let touched : All (Off G) (run_touches both studies o.state o.memory is) = claimed.clears p w a (hole_of w (task_of ss c) i + 1) c is ss (item_by i (opcode_of f)) q.passed.fits apart off in
       let same : run_touches both studies o.state o.memory is ≡ run_touches both studies u.state u.memory is
-      = runTouches_agree both both_lawful studies F studies_sound is o.state o.memory u.memory agree (narrow a (hole_of w (task_of ss c) i) (run_touches both studies o.state o.memory is) touched)
+      = run_touches_agree both both_lawful studies F studies_sound is o.state o.memory u.memory agree (narrow a (hole_of w (task_of ss c) i) (run_touches both studies o.state o.memory is) touched)
       ∙ ap (λ (qs : List State). run_touches both studies qs u.memory is) e.states_same in
       record {
         call_same = d.call_same;

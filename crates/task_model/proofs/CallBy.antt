@@ -26,9 +26,9 @@ called_by_law j w s f by_fetch n d =
     }
 
 -- the state that it pushes from
-pub by_rO : (i : Way) (w : Windows) (s : State) → sp (caller_by i w s) r_o ≡ sp s r_o
-by_rO (by_step x y z) w s = refl
-by_rO by_fetch w s = claim_other s (x_by by_fetch w s) r_o refl
+pub by_r_o : (i : Way) (w : Windows) (s : State) → sp (caller_by i w s) r_o ≡ sp s r_o
+by_r_o (by_step x y z) w s = refl
+by_r_o by_fetch w s = claim_other s (x_by by_fetch w s) r_o refl
 
 pub by_good : (i : Way) (w : Windows) (s : State) → Good s → Good (caller_by i w s)
 by_good (by_step x y z) w s g = g
@@ -55,7 +55,7 @@ module _ {S I : Type 0} (mc : Machine S I Shapes) (k : Caller mc) (w : Windows) 
       let h : ℕ = hole s (x_by i w s) in
       k.does_is ss w (item_by i (opcode_of f))
       ∙ ap (map_outcome (k.put ss)) (c.calls ∙ push_from both both_lawful j s (caller_by i w s) h c.target w
-      (subst (λ (o : ℕ). worst j o (h + 1) ≡ 0) (sym (by_rO i w s)) c.passed.fits))
+      (subst (λ (o : ℕ). worst j o (h + 1) ≡ 0) (sym (by_r_o i w s)) c.passed.fits))
 
   pub was_called : NamesBy i (opcode_of f) w (k.get ss) → (step_on both mc ss w (k.does (item_by i (opcode_of f)))).reply ≡ 0 → CalledBy (k.judge (shapes_of w)) w (k.get ss) f i
   was_called n d = called_by_law (k.judge (shapes_of w)) w (k.get ss) f i n (sym (reply_of' mc k ss w (item_by i (opcode_of f))) ∙ d)

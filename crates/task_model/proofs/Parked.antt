@@ -7,10 +7,10 @@ use Rattle.model.proofs.Prelude.{claim_local, following, goes, halted, next, reg
 use Rattle.model.proofs.Prelude.{instruction_plan, item_plan, keeps_claim, plan_of, refusal_of, settled_by, taken_back, unruled_by, by_fetch, by_step, item_by, NamesBy}
 use Rattle.model.proofs.Prelude.{Way, x_by, y_by, z_by, Adm, adm, adm_of, goes_good, Good, saved_good, after_in, Caller, reply_of', touched_by, claim_global}
 use Rattle.model.proofs.Prelude.{claim_other, said_by_law, over_above, over_below, over_in, runs_always, runs_kept, both_lawful, Kept, save_fits, save_stores}
-use Rattle.model.proofs.Prelude.{saved_on, savedState_address, Saves, shape_same, unsave_found, unsaved_next, Unsaves, with_context, Wraps, item_opened}
+use Rattle.model.proofs.Prelude.{saved_on, saved_state_address, Saves, shape_same, unsave_found, unsaved_next, Unsaves, with_context, Wraps, item_opened}
 use Rattle.model.proofs.Prelude.{item_opens, Opened, plan_by}
 use Rattle.task_model.proofs.Prelude.{State}
-use Rattle.model.proofs.Roundtrip.{is_saved, unsaved_generals, unsaved_specials, unsaved_rS}
+use Rattle.model.proofs.Roundtrip.{is_saved, unsaved_generals, unsaved_specials, unsaved_r_s}
 use Rattle.task_model.specs.Parked.{in_context, ComesBack, Asks, Context}
 
 -- ---- the registers
@@ -31,7 +31,7 @@ comes_back s e vs good n are =
     let g : (with_context s e vs).general ≡ over (λ k. 0) (sp s r_l) (sp s r_g) s.general = unsaved_generals s e b vs are good.size n in
     record {
       special_back = λ k l q. special k l (sym (in_context_law k) ∙ q);
-      stack_back = unsaved_rS s e b vs are n ∙ sym (special r_o (omega arith) (unfold is_saved in refl));
+      stack_back = unsaved_r_s s e b vs are n ∙ sym (special r_o (omega arith) (unfold is_saved in refl));
       local_back = λ i l. ap (λ (xs : List ℕ). get_or xs i 0) g ∙ over_below (λ k. 0) (sp s r_l) (sp s r_g) s.general i l (omega arith);
       other_zero = λ i l u. ap (λ (xs : List ℕ). get_or xs i 0) g ∙ over_in (λ k. 0) (sp s r_l) (sp s r_g) s.general i l u (omega arith);
       global_back = λ i l u. ap (λ (xs : List ℕ). get_or xs i 0) g ∙ over_above (λ k. 0) (sp s r_l) (sp s r_g) s.general i l (omega arith);
@@ -46,7 +46,7 @@ unsaved_rest s e vs = (refl, refl)
 
 saved_address : (s : State) (x : ℕ) → Sized s → x < 256 → reg (next (saved_state s x)) x ≡ context_address s
 unfolding goes
-saved_address s x n l = savedState_address s x n l
+saved_address s x n l = saved_state_address s x n l
 
 -- ---- SAVE
 

@@ -1,6 +1,6 @@
 -- A parked context survives: of task c among tasks, and of one state without tasks. Both are Parked's of a caller in a machine.
 use Rattle.model.proofs.Prelude.{ℕ, List, ap, refl, subst, ◌∙◌, ◌≡◌, set, get_or-set_other, get_or-set_same, after, after_needs, Ran, step_on, both, Shapes, shapes_of}
-use Rattle.model.proofs.Prelude.{Windows, op_save, op_unsave, All, Off, Outcome, fresh, reg, mmix, refusing, done_by, item_by, x_by, mmix_caller, runTouches_off}
+use Rattle.model.proofs.Prelude.{Windows, op_save, op_unsave, All, Off, Outcome, fresh, reg, mmix, refusing, done_by, item_by, x_by, mmix_caller, run_touches_off}
 use Rattle.model.proofs.Prelude.{both_lawful, octa_mod, refusing_mod, Wraps, done_is}
 use Rattle.task_model.proofs.Prelude.{State}
 use Rattle.task_model.specs.Tasks.{Own, refusing_in, task_of, studies}
@@ -50,4 +50,4 @@ parked_survives w s i u is n words names byte =
     subst (Unparks s (after o is)) (done_is u op_unsave (after o is).memory (after o is).state)
     (unparks s (after o is) (step_on both mmix (after o is).state (after o is).memory (item_by u op_unsave))
     (parked_survives_in mmix mmix_caller refusing_mod w s i u is tt n words names byte done
-    (runTouches_off both both_lawful mmix (Off (Context s)) is o.state o.memory off) asks)))
+    (run_touches_off both both_lawful mmix (Off (Context s)) is o.state o.memory off) asks)))

@@ -2,7 +2,7 @@
 use Rattle.model.proofs.Prelude.{min, ℕ, ◌+◌, ◌<◌, ◌≤◌, Bool, false, not, true, ◌&&◌, List, inl, inr, ◌≢◌, ◌⊎◌, refl, ◌∙◌, ◌≡◌, ℕ_discrete, arith, eqb, ltb}
 use Rattle.model.proofs.Prelude.{get_or, length, length-set, set, get_or-set_other, get_or-set_same, eq-eqb, eqb-true, ltb-false, tab, step_on, both, shapes_of}
 use Rattle.model.proofs.Prelude.{Windows, admissible, fresh, Sized, run_for, fetched, Item, item_plan, adm, adm_of, Good, and_left, and_right, good_keeps}
-use Rattle.model.proofs.Prelude.{item_keeps, both_lawful, perform_always, run_by, run_most, run_spent, getD_tab}
+use Rattle.model.proofs.Prelude.{item_keeps, both_lawful, perform_always, run_by, run_most, run_spent, get_d_tab}
 use Rattle.task_model.proofs.Prelude.{State}
 use Rattle.task_model.specs.Tasks.{Own, refusing_in, mmix_in, task_of, turn, studies}
 use Rattle.task_model.specs.Schedule.{count_by, refusal_by, any_runs, is_over, Runs, Scheduled}
@@ -46,7 +46,7 @@ module _ (w : Windows) (ss : List State) (ns : List ℕ) (q grant : ℕ) where
   stopped : TasksPass w ss ns q grant → any_runs (tasks_in ns) (call_of w ss ns q grant).given ≡ false → (k : ℕ) → k < tasks_in ns
       → get_or (tab 0 tasks_most (λ j. refusal_by j (call_of w ss ns q grant).given)) k 0 ≢ 0
   stopped p e k l =
-      rw (getD_tab tasks_most k (λ j. refusal_by j (call_of w ss ns q grant).given) (omega (arith, (rules p).tasks_few))) (none_runs (tasks_in ns) (call_of w ss ns q grant).given e k l)
+      rw (get_d_tab tasks_most k (λ j. refusal_by j (call_of w ss ns q grant).given) (omega (arith, (rules p).tasks_few))) (none_runs (tasks_in ns) (call_of w ss ns q grant).given e k l)
 
   total : (tasks_of w ss ns q grant).reply ≡ 0
       → (sum_of (tasks_of w ss ns q grant).counts ≡ grant) ⊎ ((k : ℕ) → k < tasks_in ns → get_or (tasks_of w ss ns q grant).refusals k 0 ≢ 0)

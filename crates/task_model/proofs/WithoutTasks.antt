@@ -72,12 +72,12 @@ module _ (sh : Shapes) where
   runs_alone [] s m e = refl
   runs_alone (i ∷ is) s m e = rw (turn_alone s m i e, runs_alone is (step_on both mmix s m i).state (step_on both mmix s m i).memory (mmix_shape s m i ∙ e))
 
-  runNeeds_alone : (is : List Item) (s : State) (m : Windows) → shapes_of m ≡ sh
+  run_needs_alone : (is : List Item) (s : State) (m : Windows) → shapes_of m ≡ sh
       → run_needs_by both studies turn_needs (s ∷ []) m (turns_of sh is) ≡ run_needs_by both mmix (needs_of both mmix) s m is
   unfolding turns_of run_needs_by
-  runNeeds_alone [] s m e = refl
-  runNeeds_alone (i ∷ is) s m e =
-      rw (turn_alone s m i e, needs_alone s m i e, runNeeds_alone is (step_on both mmix s m i).state (step_on both mmix s m i).memory (mmix_shape s m i ∙ e))
+  run_needs_alone [] s m e = refl
+  run_needs_alone (i ∷ is) s m e =
+      rw (turn_alone s m i e, needs_alone s m i e, run_needs_alone is (step_on both mmix s m i).state (step_on both mmix s m i).memory (mmix_shape s m i ∙ e))
 
   step_alone : (s : State) (m : Windows) (op x y z : ℕ) → shapes_of m ≡ sh → turn_on (whole sh) m (s ∷ []) 0 (step op x y z) ≡ alone (step_of m s op x y z)
   step_alone s m op x y z e = turn_alone s m (step op x y z) e ∙ (unfold step_on mmix step_of item_plan both in refl)
@@ -146,7 +146,7 @@ without_tasks claim w s t c x y z is ns nt ws wt alike done pcs off =
     (ap (λ (o : Outcome (List State) Windows). o.reply) la ∙ done)
     (ap (λ (o : Outcome (List State) Windows). (task_of o.state 0).pc) la ∙ pcs ∙ sym (ap (λ (o : Outcome (List State) Windows). (task_of o.state 0).pc) lb))
     (subst (λ (o : Outcome (List State) Windows). All (Off (Within (sp s r_o) (hole s x + 1))) (run_needs_by both studies turn_needs o.state o.memory (turns_of sh is))) (sym la)
-    (subst (All (Off (Within (sp s r_o) (hole s x + 1)))) (sym (runNeeds_alone sh is a.state a.memory ea)) off)))))
+    (subst (All (Off (Within (sp s r_o) (hole s x + 1)))) (sym (run_needs_alone sh is a.state a.memory ea)) off)))))
   where
     none_else : (k : ℕ) → k ≢ 0 → get_or (s ∷ []) k fresh ≡ get_or (t ∷ []) k fresh
     none_else zero n = absurd (n refl)

@@ -2,7 +2,7 @@
 use Rattle.model.proofs.Prelude.{min, ℕ, ◌*◌, ◌+◌, ◌-◌, ◌<◌, ◌^◌, ◌≤◌, true, ◌&&◌, List, ◌∷◌, inl, inr, ◌⊎◌, ap, refl, subst, sym, ◌∙◌, ◌≡◌, ℕ_discrete, arith}
 use Rattle.model.proofs.Prelude.{eqb, ltb, get_or, length, length-set, get_or_eq_default, set, ext_get_or, get_or-set_other, get_or-set_same, eq-eqb, eqb-true}
 use Rattle.model.proofs.Prelude.{le-ltb, lt-ltb, ne_eqb, tab, both, shapes_of, Windows, written, admissible, grant_most, Stopped, fetched, unruled_by, and_right}
-use Rattle.model.proofs.Prelude.{on, lt_or_le, run_most, getD_tab, length_tab}
+use Rattle.model.proofs.Prelude.{on, lt_or_le, run_most, get_d_tab, length_tab}
 use Rattle.tasks.proofs.Prelude.{State, part_at, part_ruled, tasks_in, tasks_most, count_by, Desk, gave, Given, refusal_by, running, turn_of, mmix_in, Own}
 use Rattle.tasks.proofs.Prelude.{run_in_law, state_of, stored_in}
 use Rattle.tasks.specs.Images.{images_fit, image_in}
@@ -66,8 +66,8 @@ set_tab n k f g v e h =
   where
     at : (j : ℕ) → j < n → Dec (j ≡ k) → get_or (set (tab 0 n f) k v) j 0 ≡ get_or (tab 0 n g) j 0
     at j b (yes q) =
-        ap (λ (i : ℕ). get_or (set (tab 0 n f) k v) i 0) q ∙ get_or-set_same (tab 0 n f) k v 0 (omega (arith, length_tab n 0 f)) ∙ e ∙ ap g (sym q) ∙ sym (getD_tab n j g b)
-    at j b (no q) = get_or-set_other (tab 0 n f) k j v 0 q ∙ getD_tab n j f b ∙ h j q ∙ sym (getD_tab n j g b)
+        ap (λ (i : ℕ). get_or (set (tab 0 n f) k v) i 0) q ∙ get_or-set_same (tab 0 n f) k v 0 (omega (arith, length_tab n 0 f)) ∙ e ∙ ap g (sym q) ∙ sym (get_d_tab n j g b)
+    at j b (no q) = get_or-set_other (tab 0 n f) k j v 0 q ∙ get_d_tab n j f b ∙ h j q ∙ sym (get_d_tab n j g b)
 
 module _ (k i r : ℕ) (gs : List Given) where
   abbrev later : List Given
@@ -91,7 +91,7 @@ module _ (k i r : ℕ) (gs : List Given) where
 
   counts_later : (cs : List ℕ) → k < tasks_most → cs ≡ tab 0 tasks_most (λ j. count_by j gs) → set cs k (get_or cs k 0 + i) ≡ tab 0 tasks_most (λ j. count_by j later)
   counts_later cs l e =
-      let c : get_or cs k 0 ≡ count_by k gs = ap (λ (x : List ℕ). get_or x k 0) e ∙ getD_tab tasks_most k (λ j. count_by j gs) l in
+      let c : get_or cs k 0 ≡ count_by k gs = ap (λ (x : List ℕ). get_or x k 0) e ∙ get_d_tab tasks_most k (λ j. count_by j gs) l in
       ap (λ (x : List ℕ). set x k (get_or cs k 0 + i)) e
       ∙ set_tab tasks_most k (λ j. count_by j gs) (λ j. count_by j later) (get_or cs k 0 + i) (ap (λ (x : ℕ). x + i) c ∙ count_own) count_other
 
@@ -101,7 +101,7 @@ module _ (k i r : ℕ) (gs : List Given) where
 
 -- what code reads of a task's refusal
 pub refusal_at_law : (k : ℕ) (rs : List ℕ) (gs : List Given) → k < tasks_most → rs ≡ tab 0 tasks_most (λ j. refusal_by j gs) → get_or rs k 0 ≡ refusal_by k gs
-refusal_at_law k rs gs l e = ap (λ (x : List ℕ). get_or x k 0) e ∙ getD_tab tasks_most k (λ j. refusal_by j gs) l
+refusal_at_law k rs gs l e = ap (λ (x : List ℕ). get_or x k 0) e ∙ get_d_tab tasks_most k (λ j. refusal_by j gs) l
 
 -- ---- a turn of the schedule
 
