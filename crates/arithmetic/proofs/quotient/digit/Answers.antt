@@ -1,0 +1,34 @@
+-- `digit` meets its contract: what q times the divisor's lower half leaves, modulo 2^64, is the remainder, which has 64 bits.
+use Rattle.model.proofs.Prelude.{ℕ, ◌%◌, ◌*◌, ◌+◌, ◌/◌, ◌<◌, ◌^◌, ◌≤◌, ap, sym, ◌∙◌, ◌≡◌, div-add-mod', div-eq_of_lt-le, mod-lt, arith, split}
+use Rattle.arithmetic.proofs.Digits.{digit_product, quotient_digit}
+use Rattle.arithmetic.proofs.quotient.digit.Goals as goal
+
+-- R is the remainder, x what the code computes
+same : (h l v1 v0 q r x R : ℕ) → q * v1 + r ≡ h → q * (v1 * 2 ^ 32 + v0) + R ≡ h * 2 ^ 32 + l → x < 2 ^ 64 → R < 2 ^ 64
+    → (x + q * v0) % 2 ^ 64 ≡ r % 2 ^ 32 * 2 ^ 32 + l → x ≡ R
+same h l v1 v0 q r x R e w hx h_r t = omega arith
+
+quotient : (h l v q : ℕ) → q * v ≤ h * 2 ^ 32 + l → h * 2 ^ 32 + l < (q + 1) * v → q ≡ (h * 2 ^ 32 + l) / v
+quotient h l v q a b = sym (div-eq_of_lt-le v a b)
+
+remainder : (h l v q r x : ℕ) → 0 < v → v < 2 ^ 64 → x < 2 ^ 64 → q * (v / 2 ^ 32) + r ≡ h → q ≡ (h * 2 ^ 32 + l) / v
+    → (x + q * (v % 2 ^ 32)) % 2 ^ 64 ≡ r % 2 ^ 32 * 2 ^ 32 + l → x ≡ (h * 2 ^ 32 + l) % v
+remainder h l v q r x hp hv hx e eq t =
+    let N : ℕ = h * 2 ^ 32 + l in
+    same h l (v / 2 ^ 32) (v % 2 ^ 32) q r x (N % v) e
+    (ap (λ (y : ℕ). q * y + N % v) (split v 32) ∙ ap (λ (y : ℕ). y * v + N % v) eq ∙ div-add-mod' N v) hx (omega (arith, mod-lt N hp)) t
+
+-- the digit at the place after `estimate`
+digit_is : (n : tie.After-estimate) → n.estimate.result.quotient ≡ (n.before.args.h * 2 ^ 32 + n.before.args.l) / n.before.args.v
+digit_is n = quotient _ _ _ _ n.estimate.ensures.0 n.estimate.ensures.1
+
+digit_small : (n : tie.After-estimate) → n.estimate.result.quotient < 2 ^ 32
+digit_small n = quotient_digit _ _ _ _ n.before.requires.1 n.before.requires.2 (digit_is n)
+
+pub overflow_mul-q : goal.overflow_mul-q
+overflow_mul-q c =
+    omega (arith, digit_product c.estimate-e.result.quotient (c.args.v % 2 ^ 32) (digit_small n) (omega arith))
+
+pub returns : goal.returns
+returns c =
+    (digit_is n, remainder _ _ c.args.v _ c.estimate-e.result.remainder _ (omega arith) (omega arith) (omega arith) c.estimate-e.ensures.2 (digit_is n) c.wrapping_sub_u64.ensures)
