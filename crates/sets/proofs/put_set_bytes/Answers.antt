@@ -1,0 +1,8 @@
+-- `put_set_bytes` meets its contract: as many octabytes are read as tell the set.
+use Rattle.model.proofs.Prelude.{◌-◌, arith}
+use Rattle.sets.proofs.Answers.{read_same}
+use Rattle.sets.proofs.put_set_bytes.Goals as goal
+
+pub returns : goal.returns
+returns c =
+    λ pc. read_same _ _ _ (c.least-count.result - 0) (omega arith) (omega (arith, c.least-count.ensures)) _ _ _ (c.put_read.ensures pc)

@@ -1,0 +1,51 @@
+-- `pop_at` meets its contract: the hole is read where it is lent, and then the frame.
+use Rattle.model.proofs.Prelude.{sym, ◌∙◌, arith, lent, made}
+use Rattle.stack.proofs.PushPopRegisters.{held_placed, hole_held, hole_lost, hole_is, frame_run}
+use Rattle.stack.proofs.PushPopAnswers.{pop_lacks, pop_short, pop_done}
+use Rattle.stack.proofs.frame.pop_at.Goals as goal
+
+pub returns-then-octa-eq-IN_NEITHER : goal.returns-then-octa-eq-IN_NEITHER
+returns-then-octa-eq-IN_NEITHER c =
+    λ pc halt marks mask m.
+    let a = c.args in
+    let w = lent a.at a.a.now a.b.now in
+    let l = a.special.now in
+    let hole = c.wrapping_sub-below in
+    let found = c.read_octa-octa in
+    let s = made a.general.now l pc halt marks mask in
+    let good = held_placed s c.requires.0 in
+    pop_lacks w s a.x a.yz good c.requires.1.above m (hole_lost w l c.requires.1 _ hole.ensures _ found.ensures.1 c.if-octa-eq-IN_NEITHER.true)
+
+pub returns-then-run_refusal-ne0 : goal.returns-then-run_refusal-ne0
+returns-then-run_refusal-ne0 c =
+    λ pc halt marks mask m.
+    let a = c.args in
+    let w = lent a.at a.a.now a.b.now in
+    let l = a.special.now in
+    let hole = c.wrapping_sub-below in
+    let found = c.read_octa-octa in
+    let s = made a.general.now l pc halt marks mask in
+    let good = held_placed s c.requires.0 in
+    pop_short w s a.x a.yz good c.requires.1.above m (hole_held w l c.requires.1 _ hole.ensures _ found.ensures.1 c.if-octa-eq-IN_NEITHER.false) _ (hole_is w l c.requires.1 _ hole.ensures _ found.ensures.0)
+    (λ i. c.if-run_refusal-ne0.true ((frame_run w l c.requires.1 _ _ _ _ (omega arith) c.wrapping_sub-bottom.ensures c.least-n.ensures c.run_refusal.ensures) ∙ i))
+
+pub leave-requires : goal.leave-requires
+leave-requires c =
+    let a = c.args in
+    let w = lent a.at a.a.now a.b.now in
+    let l = a.special.now in
+    (c.requires.0, omega arith, c.requires.1, sym (frame_run w l c.requires.1 _ _ _ _ (omega arith) c.wrapping_sub-bottom.ensures c.least-n.ensures c.run_refusal.ensures) ∙ c.if-run_refusal-ne0.false)
+
+pub returns : goal.returns
+returns c =
+    λ pc halt marks mask m.
+    let a = c.args in
+    let w = lent a.at a.a.now a.b.now in
+    let l = a.special.now in
+    let hole = c.wrapping_sub-below in
+    let found = c.read_octa-octa in
+    let s = made a.general.now l pc halt marks mask in
+    let good = held_placed s c.requires.0 in
+    pop_done w s a.x a.yz good c.requires.1.above m (hole_held w l c.requires.1 _ hole.ensures _ found.ensures.1 c.if-octa-eq-IN_NEITHER.false) _ (hole_is w l c.requires.1 _ hole.ensures _ found.ensures.0) _ _
+    (sym (frame_run w l c.requires.1 _ _ _ _ (omega arith) c.wrapping_sub-bottom.ensures c.least-n.ensures c.run_refusal.ensures) ∙ c.if-run_refusal-ne0.false)
+    (c.leave.ensures pc halt marks mask) c.wrapping_add-target.ensures

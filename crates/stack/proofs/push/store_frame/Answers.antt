@@ -1,0 +1,13 @@
+-- `store_frame` meets its contract: the hole is the octabyte after the locals.
+use Rattle.model.proofs.Prelude.{◌+◌, sym, arith, framed, lent, made}
+use Rattle.stack.proofs.PushPopRegisters.{framed_hole, locals_stored, store_next}
+use Rattle.stack.proofs.push.store_frame.Goals as goal
+
+pub returns : goal.returns
+returns c =
+    λ special pc halt marks mask.
+    let a = c.args in
+    let s = made a.general.now special pc halt marks mask in
+    store_next (lent a.at a.a.now a.b.now) a.ro (a.h + 1) a.h _ c.requires.1 (omega arith) c.wrapping_add-addr.ensures (framed s a.h) _ _ _
+    c.write_octa.ensures.0 (locals_stored _ _ s a.ro a.h c.requires.0 c.requires.1 c.store_locals.ensures)
+    (sym (framed_hole s a.h))

@@ -1,0 +1,13 @@
+-- `pop_frame` of a state meets its contract: refused, or the work in place on the fields.
+use Rattle.model.proofs.Prelude.{sym, ◌∙◌, lent}
+use Rattle.stack.proofs.PushPopAnswers.{pop_refused, pop_judged}
+use Rattle.stack.proofs.value.pop_frame.Goals as goal
+
+pub returns-then-number-ne0 : goal.returns-then-number-ne0
+returns-then-number-ne0 c = let a = c.args in pop_refused (lent a.at a.a.now a.b.now) a.state a.x a.yz _ (c.refusal-number.ensures a.state.general a.state.pc a.state.halt) c.if-number-ne0.true _ c.reply_of.ensures
+
+pub returns : goal.returns
+returns c =
+    let a = c.args in
+    let w = lent a.at a.a.now a.b.now in
+    rw (pop_judged w a.state a.x a.yz (sym (c.refusal-number.ensures a.state.general a.state.pc a.state.halt) ∙ c.if-number-ne0.false)) at (c.pop_frame_judged-answer.ensures a.state.pc a.state.marks a.state.mask)
