@@ -1,4 +1,4 @@
-use Rattle.model.proofs.Prelude.{suc, zero, ℕ, ◌%◌, ◌*◌, ◌+◌, ◌-◌, ◌/◌, ◌<◌, ◌^◌, ◌≤◌, ⊎_elim, subst, ◌≡◌, div-add-mod', le_of_lt, lt_of_mul-lt-mul_right}
+use Rattle.model.proofs.Prelude.{suc, zero, ℕ, ◌%◌, ◌*◌, ◌+◌, ◌-◌, ◌/◌, ◌<◌, ◌^◌, ◌≤◌, subst, ◌≡◌, div-add-mod', le_of_lt, lt_of_mul-lt-mul_right}
 use Rattle.model.proofs.Prelude.{mod-lt, mul-le-mul_right, sub-one, arith, split}
 use Rattle.arithmetic.proofs.Digits.{digit_product, factor_pos}
 use Rattle.arithmetic.proofs.quotient.estimate.Goals as goal
@@ -44,17 +44,6 @@ exact : (h l v q r : ℕ) → Holds h l (v / 2 ^ 32) (v % 2 ^ 32) q r → NotAbo
     → (q * v ≤ h * 2 ^ 32 + l) × (h * 2 ^ 32 + l < (q + 1) * v) × (q * (v / 2 ^ 32) + r ≡ h)
 exact h l v q r i t =
     (subst (λ (x : ℕ). q * x ≤ h * 2 ^ 32 + l) (split v 32) t, subst (λ (x : ℕ). h * 2 ^ 32 + l < (q + 1) * x) (split v 32) i.1, i.0)
-
--- the two ways to a turn's second half
-above : (c : tie.Joined1 invariant_loop decreases_loop)
-    → let a = c.before.before.before.args in Above a.h a.l (a.v / 2 ^ 32) (a.v % 2 ^ 32) c.before.before.loop.q
-above c =
-    let n = c.before.before in
-    let a = n.before.args in
-    ⊎_elim
-    (λ w. refuted a.h a.l (a.v / 2 ^ 32) (a.v % 2 ^ 32) n.loop.q n.loop.r n.loop.invariant.0 w.1.left)
-    (λ w. long a.h a.l (a.v / 2 ^ 32) (a.v % 2 ^ 32) n.loop.q (omega arith) n.before.requires.2 w.left)
-    c.if1.branch
 
 pub loop-r-init : goal.loop-r-init
 loop-r-init c = start c.args.h c.args.l (c.args.v / 2 ^ 32) (c.args.v % 2 ^ 32) (omega arith) c.requires.2

@@ -1,6 +1,6 @@
 -- `long_division` meets its contract: dividend and divisor times p = 2^s, in two digits; the quotient is that of both as they were, the remainder p times theirs.
-use Rattle.model.proofs.Prelude.{ℕ, ◌%◌, ◌*◌, ◌+◌, ◌-◌, ◌/◌, ◌<◌, ◌^◌, ap, subst, sym, ◌∙◌, ◌≡◌, div-add-mod', div-lt_iff_lt-mul, lt_of_not-le}
-use Rattle.model.proofs.Prelude.{mul-div_cancel, mul-div-mul_right, mul-le-mul_right, arith, digits_div, pow-add, pow_mono}
+use Rattle.model.proofs.Prelude.{ℕ, ◌%◌, ◌*◌, ◌+◌, ◌-◌, ◌/◌, ◌<◌, ◌^◌, ◌≤◌, ap, ap₂, refl, subst, sym, ◌∙◌, ◌≡◌, div-add-mod', div-lt_iff_lt-mul, lt_of_not-le}
+use Rattle.model.proofs.Prelude.{mod-eq_of_lt, mod-lt, mul-div_cancel, mul-div-mul_right, mul-le-mul_right, arith, digits_div, digits_lt, pow-add, pow_mono}
 use Rattle.model.proofs.Prelude.{pow_pos, shr-shr, wide_of}
 use Rattle.arithmetic.proofs.Digits.{quotient_digit}
 use Rattle.arithmetic.proofs.quotient.long_division.Goals as goal
@@ -33,6 +33,55 @@ remainder n z p q r hp e eq =
     let w : (q * z + n % z) * p ≡ n * p = ap (λ (k : ℕ). (k * z + n % z) * p) eq ∙ ap (λ (k : ℕ). k * p) (div-add-mod' n z) in
     let s : r ≡ n % z * p = omega arith in
     ap (λ (k : ℕ). k / p) s ∙ mul-div_cancel (n % z) hp
+
+-- ---- where the divisor's top bit comes to stand at 63
+
+record Shifted (d y z s : ℕ) : Type 0 where
+  less : d < z
+  small : y < 2 ^ 64
+  top : z * 2 ^ s / 2 ^ 63 ≡ 1
+
+module _ {d y z s : ℕ} (h : Shifted d y z s) where
+  abbrev v : ℕ
+  v = z * 2 ^ s % 2 ^ 64
+
+  abbrev high : ℕ
+  high = d * 2 ^ s % 2 ^ 64 + y / 2 / 2 ^ (63 - s)
+
+  abbrev low : ℕ
+  low = y * 2 ^ s % 2 ^ 64
+
+  divisor_small : z * 2 ^ s < 2 ^ 64
+  divisor_small = omega (arith, h.top)
+
+  short : s < 64
+  short = shift_small z s (omega (arith, h.less)) divisor_small
+
+  v_is : v ≡ z * 2 ^ s
+  v_is = mod-eq_of_lt divisor_small
+
+  v_top : 2 ^ 63 ≤ v
+  v_top = omega (arith, h.top, v_is)
+
+  high_is : high ≡ d * 2 ^ s + y * 2 ^ s / 2 ^ 64
+  high_is = let k : d * 2 ^ s < 2 ^ 64 = omega (arith, mul-le-mul_right (2 ^ s) h.less, divisor_small) in omega (arith, mod-eq_of_lt k, pushed y s short)
+
+  below : high < v
+  below = subst (λ (n : ℕ). high < n) (sym v_is) (subst (λ (n : ℕ). n < z * 2 ^ s) (sym high_is) (digits_lt h.less (pushed_small y (2 ^ s) (pow_pos s) h.small)))
+
+  left_small : (n : ℕ) → n % v < v
+  left_small n = mod-lt n (omega (arith, v_top))
+
+  divided : (q1 r1 q0 r0 : ℕ) → q1 ≡ (high * 2 ^ 32 + low / 2 ^ 32) / v → r1 ≡ (high * 2 ^ 32 + low / 2 ^ 32) % v → q0 ≡ (r1 * 2 ^ 32 + low % 2 ^ 32) / v → r0 ≡ (r1 * 2 ^ 32 + low % 2 ^ 32) % v
+      → (q1 * 2 ^ 32 + q0 ≡ wide_of d y / z) × (r0 / 2 ^ s ≡ wide_of d y % z)
+  divided q1 r1 q0 r0 a1 b1 a0 b0 =
+      let e1 : q1 * v + r1 ≡ high * 2 ^ 32 + low / 2 ^ 32 = ap₂ (λ (q r : ℕ). q * v + r) a1 b1 ∙ div-add-mod' (high * 2 ^ 32 + low / 2 ^ 32) v in
+      let e0 : q0 * v + r0 ≡ r1 * 2 ^ 32 + low % 2 ^ 32 = ap₂ (λ (q r : ℕ). q * v + r) a0 b0 ∙ div-add-mod' (r1 * 2 ^ 32 + low % 2 ^ 32) v in
+      let w : wide_of d y * 2 ^ s ≡ (q1 * 2 ^ 32 + q0) * (z * 2 ^ s) + r0 =
+      whole d y v (2 ^ s) low q1 r1 q0 r0 (e1 ∙ ap (λ (n : ℕ). n * 2 ^ 32 + low / 2 ^ 32) high_is) e0 refl ∙ ap (λ (n : ℕ). (q1 * 2 ^ 32 + q0) * n + r0) v_is in
+      let l : r0 < z * 2 ^ s = subst (λ (n : ℕ). r0 < n) v_is (subst (λ (n : ℕ). n < v) (sym b0) (left_small (r1 * 2 ^ 32 + low % 2 ^ 32))) in
+      let q : q1 * 2 ^ 32 + q0 ≡ wide_of d y / z = quotient (wide_of d y) z (2 ^ s) (q1 * 2 ^ 32 + q0) r0 (pow_pos s) w l in
+      (q, remainder (wide_of d y) z (2 ^ s) (q1 * 2 ^ 32 + q0) r0 (pow_pos s) w q)
 
 -- ---- the code's places
 
