@@ -83,51 +83,88 @@ module _ {d y z s : ℕ} (h : Shifted d y z s) where
       let q : q1 * 2 ^ 32 + q0 ≡ wide_of d y / z = quotient (wide_of d y) z (2 ^ s) (q1 * 2 ^ 32 + q0) r0 (pow_pos s) w l in
       (q, remainder (wide_of d y) z (2 ^ s) (q1 * 2 ^ 32 + q0) r0 (pow_pos s) w q)
 
+  -- what the first digit leaves, and the two digits
+  rest_small : (n r : ℕ) → r ≡ n % v → r < v
+  rest_small n r e = subst (λ (k : ℕ). k < v) (sym e) (left_small n)
+
+  first_small : (l q : ℕ) → l < 2 ^ 32 → q ≡ (high * 2 ^ 32 + l) / v → q < 2 ^ 32
+  first_small l q hl e = quotient_digit _ _ _ _ below hl e
+
+  second_small : (n r l q : ℕ) → r ≡ n % v → l < 2 ^ 32 → q ≡ (r * 2 ^ 32 + l) / v → q < 2 ^ 32
+  second_small n r l q er hl e = quotient_digit _ _ _ _ (rest_small n r er) hl e
+
+at : (d y z s : ℕ) → d < z → y < 2 ^ 64 → z * 2 ^ s / 2 ^ 63 ≡ 1 → Shifted d y z s
+at d y z s l h t = record { less = l; small = h; top = t }
+
 -- ---- the code's places
 
-at : (n : tie.After-headroom) → Shifted n.before.args.d n.before.args.y n.before.args.z n.headroom.result
-at n = record { less = n.before.requires; small = n.before.ranges.y.fits; top = n.headroom.ensures }
-
-first_left : (c : tie.After-digit) → c.digit.result.remainder < v (at c.before)
-first_left c = subst (λ (n : ℕ). n < v (at c.before)) (sym c.digit.ensures.1) (left_small (at c.before) _)
-
-first_small : (c : tie.After-digit) → c.digit.result.quotient < 2 ^ 32
-first_small c = quotient_digit _ _ _ _ (below (at c.before)) (omega arith) c.digit.ensures.0
-
-second_small : (c : tie.After-digit2) → c.digit2.result.quotient < 2 ^ 32
-second_small c = quotient_digit _ _ _ _ (first_left c.before) (omega arith) c.digit2.ensures.0
-
 pub overflow_shl-v : goal.overflow_shl-v
-overflow_shl-v c = short (at c)
+overflow_shl-v c =
+    let a = c.args in
+    let h = at a.d a.y a.z c.headroom-s.result c.requires c.ranges.y.fits c.headroom-s.ensures in
+    short h
 
 pub overflow_shl-high : goal.overflow_shl-high
-overflow_shl-high c = short (at c)
+overflow_shl-high c =
+    let a = c.args in
+    let h = at a.d a.y a.z c.headroom-s.result c.requires c.ranges.y.fits c.headroom-s.ensures in
+    short h
 
 pub overflow_sub-high : goal.overflow_sub-high
-overflow_sub-high c = omega (arith, short (at c))
+overflow_sub-high c =
+    let a = c.args in
+    let h = at a.d a.y a.z c.headroom-s.result c.requires c.ranges.y.fits c.headroom-s.ensures in
+    omega (arith, short h)
 
 pub overflow_add-high : goal.overflow_add-high
-overflow_add-high c = omega (arith, below (at c))
+overflow_add-high c =
+    let a = c.args in
+    let h = at a.d a.y a.z c.headroom-s.result c.requires c.ranges.y.fits c.headroom-s.ensures in
+    omega (arith, below h)
 
 pub overflow_shl-low : goal.overflow_shl-low
-overflow_shl-low c = short (at c)
+overflow_shl-low c =
+    let a = c.args in
+    let h = at a.d a.y a.z c.headroom-s.result c.requires c.ranges.y.fits c.headroom-s.ensures in
+    short h
 
 pub digit-first-requires : goal.digit-first-requires
-digit-first-requires c = (v_top (at c), below (at c), omega arith)
+digit-first-requires c =
+    let a = c.args in
+    let h = at a.d a.y a.z c.headroom-s.result c.requires c.ranges.y.fits c.headroom-s.ensures in
+    (v_top h, below h, omega arith)
 
 pub digit-second-requires : goal.digit-second-requires
-digit-second-requires c = (v_top (at c.before), first_left c, omega arith)
+digit-second-requires c =
+    let a = c.args in
+    let h = at a.d a.y a.z c.headroom-s.result c.requires c.ranges.y.fits c.headroom-s.ensures in
+    (v_top h, rest_small h _ _ c.digit-first.ensures.1, omega arith)
 
 pub overflow_mul-result : goal.overflow_mul-result
-overflow_mul-result c = omega (arith, first_small c.before.before)
+overflow_mul-result c =
+    let a = c.args in
+    let h = at a.d a.y a.z c.headroom-s.result c.requires c.ranges.y.fits c.headroom-s.ensures in
+    let f = c.digit-first in
+    omega (arith, first_small h _ f.result.quotient (omega arith) f.ensures.0)
 
 pub overflow_add-result : goal.overflow_add-result
-overflow_add-result c = omega (arith, first_small c.before.before.before, second_small c.before.before)
+overflow_add-result c =
+    let a = c.args in
+    let h = at a.d a.y a.z c.headroom-s.result c.requires c.ranges.y.fits c.headroom-s.ensures in
+    let f = c.digit-first in
+    let g = c.digit-second in
+    omega (arith, first_small h _ f.result.quotient (omega arith) f.ensures.0, second_small h _ f.result.remainder _ g.result.quotient f.ensures.1 (omega arith) g.ensures.0)
 
 pub overflow_shr-result : goal.overflow_shr-result
-overflow_shr-result c = short (at c.before.before.before.before.before)
+overflow_shr-result c =
+    let a = c.args in
+    let h = at a.d a.y a.z c.headroom-s.result c.requires c.ranges.y.fits c.headroom-s.ensures in
+    short h
 
 pub returns : goal.returns
 returns c =
-    divided (at f.before) c.digit-first.result.quotient c.digit-first.result.remainder c.digit-second.result.quotient c.digit-second.result.remainder
-    c.digit-first.ensures.0 c.digit-first.ensures.1 c.digit-second.ensures.0 c.digit-second.ensures.1
+    let a = c.args in
+    let h = at a.d a.y a.z c.headroom-s.result c.requires c.ranges.y.fits c.headroom-s.ensures in
+    let f = c.digit-first in
+    let g = c.digit-second in
+    divided h f.result.quotient f.result.remainder g.result.quotient g.result.remainder f.ensures.0 f.ensures.1 g.ensures.0 g.ensures.1
