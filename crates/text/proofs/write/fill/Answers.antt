@@ -24,7 +24,7 @@ loop-i-preserved c =
       omega (arith, c.loop-i-test.true),
       omega (arith, l.invariant.1, c.marks-used.ensures, marks_small byte),
       omega (arith, l.invariant.2, c.put_piece-next.ensures.end_is, most_piece byte c.field_at-n.result),
-      c.put_piece-next.auto.0 ∙ l.invariant.3,
+      c.put_piece-next.auto.out ∙ l.invariant.3,
       leads_on _ _ _ _ _ _ _ _ _ _ l.invariant.4
           (filled_at a.pattern.now a.fields.now l.i l.used c.field_at-n.result c.marks-used.result
           c.loop-i-test.true c.field_at-n.ensures c.marks-used.ensures)
