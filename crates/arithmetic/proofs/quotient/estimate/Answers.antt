@@ -57,8 +57,9 @@ overflow_sub-q c =
     let a = c.args in
     let t : Above a.h a.l (a.v / 2 ^ 32) (a.v % 2 ^ 32) c.loop-r.q =
     elim c.if-q-lt4294967296.branch [
-      then-q-lt4294967296+else-q-v0 w ↦ refuted a.h a.l (a.v / 2 ^ 32) (a.v % 2 ^ 32) c.loop-r.q c.loop-r.r c.loop-r.invariant.0 w.if-q-v0.false
-    | else-q-lt4294967296 w ↦ long a.h a.l (a.v / 2 ^ 32) (a.v % 2 ^ 32) c.loop-r.q (omega arith) c.requires.2 w.if-q-lt4294967296.false ] in
+      | then-q-lt4294967296+else-q-v0 w ↦ refuted a.h a.l (a.v / 2 ^ 32) (a.v % 2 ^ 32) c.loop-r.q c.loop-r.r c.loop-r.invariant.0 w.if-q-v0.false
+      | else-q-lt4294967296 w ↦ long a.h a.l (a.v / 2 ^ 32) (a.v % 2 ^ 32) c.loop-r.q (omega arith) c.requires.2 w.if-q-lt4294967296.false
+    ] in
     above_pos _ _ _ _ _ t
 
 pub loop-r-smaller : goal.loop-r-smaller
@@ -66,8 +67,9 @@ loop-r-smaller c =
     let a = c.args in
     let t : Above a.h a.l (a.v / 2 ^ 32) (a.v % 2 ^ 32) c.loop-r.q =
     elim c.if-q-lt4294967296.branch [
-      then-q-lt4294967296+else-q-v0 w ↦ refuted a.h a.l (a.v / 2 ^ 32) (a.v % 2 ^ 32) c.loop-r.q c.loop-r.r c.loop-r.invariant.0 w.if-q-v0.false
-    | else-q-lt4294967296 w ↦ long a.h a.l (a.v / 2 ^ 32) (a.v % 2 ^ 32) c.loop-r.q (omega arith) c.requires.2 w.if-q-lt4294967296.false ] in
+      | then-q-lt4294967296+else-q-v0 w ↦ refuted a.h a.l (a.v / 2 ^ 32) (a.v % 2 ^ 32) c.loop-r.q c.loop-r.r c.loop-r.invariant.0 w.if-q-v0.false
+      | else-q-lt4294967296 w ↦ long a.h a.l (a.v / 2 ^ 32) (a.v % 2 ^ 32) c.loop-r.q (omega arith) c.requires.2 w.if-q-lt4294967296.false
+    ] in
     omega (arith, above_pos _ _ _ _ _ t)
 
 pub loop-r-preserved : goal.loop-r-preserved
@@ -75,8 +77,9 @@ loop-r-preserved c =
     let a = c.args in
     let t : Above a.h a.l (a.v / 2 ^ 32) (a.v % 2 ^ 32) c.loop-r.q =
     elim c.if-q-lt4294967296.branch [
-      then-q-lt4294967296+else-q-v0 w ↦ refuted a.h a.l (a.v / 2 ^ 32) (a.v % 2 ^ 32) c.loop-r.q c.loop-r.r c.loop-r.invariant.0 w.if-q-v0.false
-    | else-q-lt4294967296 w ↦ long a.h a.l (a.v / 2 ^ 32) (a.v % 2 ^ 32) c.loop-r.q (omega arith) c.requires.2 w.if-q-lt4294967296.false ] in
+      | then-q-lt4294967296+else-q-v0 w ↦ refuted a.h a.l (a.v / 2 ^ 32) (a.v % 2 ^ 32) c.loop-r.q c.loop-r.r c.loop-r.invariant.0 w.if-q-v0.false
+      | else-q-lt4294967296 w ↦ long a.h a.l (a.v / 2 ^ 32) (a.v % 2 ^ 32) c.loop-r.q (omega arith) c.requires.2 w.if-q-lt4294967296.false
+    ] in
     again _ _ _ _ _ _ c.loop-r.invariant.0 t
 
 pub returns-after-loop-r : goal.returns-after-loop-r

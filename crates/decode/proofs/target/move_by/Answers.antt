@@ -1,5 +1,5 @@
 -- `move_by` meets its contract: its test tells the sign of 4 × the count, and each side applies the magnitude that the sign gives.
-use Rattle.model.proofs.Prelude.{◌<◌, ◌^◌, Bool, ℤ, ◌≡◌, arith, false, lt_z, mag, pos, true, w64}
+use Rattle.model.proofs.Prelude.{◌<◌, ◌^◌, ℤ, ◌≡◌, arith, false, lt_z, mag, pos, true, w64}
 use mir.Val.{to_z, of_z}
 use Rattle.decode.proofs.Counts.{fourfold, fourfold_small, Back, back, applied_back, Ahead, ahead, applied_ahead, moved}
 use Rattle.decode.proofs.target.move_by.Goals as goal
