@@ -56,4 +56,4 @@ returns c =
     took_done _ _ _
     (take_two _ _ _ (granted _ _ c.is_admissible.ensures (ap not c.if-not-is_admissible.false)) 0
     (two_open _ _ _ _ _ c.windows_refusal-number.ensures c.if-number-ne0.false (omega arith) (omega arith)))
-    (omega arith) (omega arith) (a.name * room_length + room_length - a.name * room_length) c.fill.new.0 (omega arith) c.fill.ensures
+    (omega arith) (omega arith) (a.name * room_length + room_length - a.name * room_length) c.fill.new.room (omega arith) c.fill.ensures
