@@ -1,5 +1,5 @@
 -- What is printed, line by line, and the theorem that turns print it however the text is split.
-use Rattle.model.proofs.Prelude.{suc, ℕ, ◌*◌, ◌+◌, ◌-◌, ◌<◌, ◌≤◌, cond, false, true, append_assoc, List, [], ◌++◌, ◌∷◌, inl, inr, ◌⊎◌, ⊎_elim, ap, refl, sym}
+use Rattle.model.proofs.Prelude.{suc, ℕ, ◌*◌, ◌+◌, ◌<◌, ◌≤◌, cond, false, true, append_assoc, List, [], ◌++◌, ◌∷◌, inl, inr, ◌⊎◌, ⊎_elim, ap, refl, sym}
 use Rattle.model.proofs.Prelude.{◌∙◌, ◌≡◌, dec_lt, add-one, arith, leb, drop, length, length-append, take, append_snoc, drop_at, length-take-le, split_at}
 use Rattle.model.proofs.Prelude.{take_all, take_at, take-suc, leb-true, ne_eqb, written, and_left, and_right, flag, length_written}
 use Rattle.point_lines.proofs.Prelude.{line_length, pieces, bad_text, length_line, line_append, line_front, newline_there, pieces_last, pieces_line}

@@ -6,8 +6,16 @@ ghost use Rattle.std.specs.Prelude.{◌≡◌, ◌+◌, ◌≤◌, ◌<◌, ◌^
 ghost use Rattle.point_lines.specs.Line.{longest_line};
 ghost use Rattle.point_lines_program.specs.Chunk.{input_length, held_length, turns_most, at_start, Standing, Shows, Ends, Fed, Refills, Turns, Finishes};
 
-use libc::{STDERR_FILENO, STDIN_FILENO, STDOUT_FILENO};
 use point_lines::stream::{HELD_LEN, Turn};
+use std::io::{Eprint, Print, Read, Write};
+use std::process::ExitCode;
+use std::{io, str};
+
+/// Bytes of the input that are read at once.
+const INPUT_LEN: usize = 65536;
+
+/// The longest text of an error that is told.
+const ERROR_MOST: usize = 128;
 
 /// Where the program stands: the bytes of the input buffer from `at` to `end` are not looked at yet, and `count` bytes are held of line `number`.
 #[derive(Clone, Copy)]
@@ -27,6 +35,12 @@ enum After {
     Last(usize, Place),
     /// There is no text: a read or a write has failed, and was told.
     Failed,
+}
+
+fn input_buffer() -> [u8; INPUT_LEN]
+    ensures { input_length ≡ length result }
+{
+    [0; INPUT_LEN]
 }
 
 fn held_buffer() -> [u8; HELD_LEN]
@@ -119,42 +133,58 @@ fn fed(k: usize, input: &[u8], held: &mut [u8], place: Place) -> After
     After::On(0, next)
 }
 
+/// What failed is told on standard error, and why, without the number that errno has.
+fn fail<R: Eprint>(rt: &R, what: &str, error: io::Error) {
+    let mut text = [0u8; ERROR_MOST];
+    let mut rest = &mut text[..];
+    let _ = write!(rest, "{error}");
+    let n = ERROR_MOST.saturating_sub(rest.len());
+    let why = str::from_utf8(&text[..n]).unwrap_or("");
+    let words = match why.split_once(" (os error ") {
+        Some((words, _)) => words,
+        None => why,
+    };
+    let _ = eprintln!(rt; "{what}: {words}");
+}
+
 /// The input is read once, over a buffer of which nothing is left.
-fn refill(input: &mut [u8], held: &mut [u8], place: Place) -> After
+fn refill<I: Read, R: Eprint>(reader: &mut I, rt: &R, input: &mut [u8], held: &mut [u8], place: Place) -> After
     requires { Standing input.old held.old place × (place.at ≡ place.end) }
     ensures { Refills input.old held.old place input.new held.new result }
 {
-    let got = libc::read(STDIN_FILENO, input);
-    if got < 0 {
-        os::fail(b"standard input");
-        return After::Failed;
+    match reader.read(input) {
+        Ok(k) => fed(k, input, held, place),
+        Err(error) => {
+            fail(rt, "standard input", error);
+            After::Failed
+        }
     }
-    let k = io::count(got, input);
-    fed(k, input, held, place)
 }
 
 /// A turn: within the input buffer, or a read where nothing of it is left.
-fn turn(input: &mut [u8], held: &mut [u8], place: Place) -> After
+fn turn<I: Read, R: Eprint>(reader: &mut I, rt: &R, input: &mut [u8], held: &mut [u8], place: Place) -> After
     requires { Standing input.old held.old place × (place.number + 1 < 2 ^ 64) }
     ensures { Turns input.old held.old place input.new held.new result }
 {
     if place.at < place.end {
         return show_one(input, held, place);
     }
-    refill(input, held, place)
+    refill(reader, rt, input, held, place)
 }
 
 /// A text is written; false where that fails, which is told.
-fn print(text: &[u8]) -> bool {
-    if io::write_all(STDOUT_FILENO, text) {
-        return true;
+fn print<R: Print + Eprint>(rt: &R, text: &[u8]) -> bool {
+    match rt.write_all(text) {
+        Ok(()) => true,
+        Err(error) => {
+            fail(rt, "standard output", error);
+            false
+        }
     }
-    os::fail(b"standard output");
-    false
 }
 
 /// Turns from the first on, each text but the last printed.
-fn run(input: &mut [u8], held: &mut [u8]) -> After
+fn run<I: Read, R: Print + Eprint>(reader: &mut I, rt: &R, input: &mut [u8], held: &mut [u8]) -> After
     requires { (length input.old ≡ input_length) × (longest_line < length held.old) }
     ensures { Finishes held.new result }
 {
@@ -162,10 +192,10 @@ fn run(input: &mut [u8], held: &mut [u8]) -> After
     let mut place = start();
     while left > 0 {
         left -= 1;
-        let after = turn(input, held, place);
+        let after = turn(reader, rt, input, held, place);
         match after {
             After::On(text, next) => {
-                if !print(&held[..text]) {
+                if !print(rt, &held[..text]) {
                     return After::Failed;
                 }
                 place = next;
@@ -178,15 +208,21 @@ fn run(input: &mut [u8], held: &mut [u8]) -> After
             }
         }
     }
-    io::write_all(STDERR_FILENO, b"standard input: too long\n");
+    let _ = eprintln!(rt; "standard input: too long");
     After::Failed
 }
 
-fn main() {
-    let mut input = io::large_buffer();
+fn main(rt: HostRuntime) -> ExitCode {
+    let mut input = input_buffer();
     let mut held = held_buffer();
-    let after = run(&mut input, &mut held);
-    if let After::Last(text, end) = after {
-        print(&held[..text]);
+    let after = run(&mut rt.stdin(), &rt, &mut input, &mut held);
+    match after {
+        After::Last(text, _) => {
+            if print(&rt, &held[..text]) {
+                return ExitCode::SUCCESS;
+            }
+            ExitCode::FAILURE
+        }
+        _ => ExitCode::FAILURE,
     }
 }
