@@ -1,4 +1,4 @@
-//! The C library: what a relay host calls, on numbers and byte slices. 0 is done; 1 to 33 are the refusals. `mmix_version` alone answers another number.
+//! What the C library does: what a relay host calls, on numbers and byte slices, which crate `mmix_c` exports. 0 is done; 1 to 33 are the refusals. `mmix_version` alone answers another number.
 #![tactic(auto)]
 
 ghost use Rattle.std.specs.Prelude.{◌≡◌};
@@ -27,16 +27,14 @@ const VERSION_MAJOR: u64 = 6;
 const VERSION_MINOR: u64 = 1;
 
 /// 65536 × major + minor.
-#[unsafe(no_mangle)]
-pub extern "C" fn mmix_version() -> u64
+pub fn mmix_version() -> u64
     ensures { result ≡ version }
 {
     65536 * VERSION_MAJOR + VERSION_MINOR
 }
 
 /// The image becomes that of the fresh state; 1 where it is as long as neither image.
-#[unsafe(no_mangle)]
-pub extern "C" fn mmix_initialize(image: &mut [u8]) -> u64
+pub fn mmix_initialize(image: &mut [u8]) -> u64
     ensures { Initialized image.old result image.new }
 {
     let fresh = State::initialize();
@@ -44,8 +42,7 @@ pub extern "C" fn mmix_initialize(image: &mut [u8]) -> u64
 }
 
 /// The same with the register stack at another address, any number: r_o and r_s are `stack_start`.
-#[unsafe(no_mangle)]
-pub extern "C" fn mmix_initialize_at(image: &mut [u8], stack_start: u64) -> u64
+pub fn mmix_initialize_at(image: &mut [u8], stack_start: u64) -> u64
     ensures { InitializedAt stack_start image.old result image.new }
 {
     let fresh = State::initialize_at(stack_start);
@@ -53,8 +50,7 @@ pub extern "C" fn mmix_initialize_at(image: &mut [u8], stack_start: u64) -> u64
 }
 
 /// The lent state becomes that of the image; 1 where it is as long as neither image, and then the state is left as it was.
-#[unsafe(no_mangle)]
-pub extern "C" fn mmix_decode(image: &[u8], state: &mut State) -> u64
+pub fn mmix_decode(image: &[u8], state: &mut State) -> u64
     ensures { Decoded image.now state.old result state.new }
 {
     let out = image::decode(image, *state);
@@ -63,16 +59,14 @@ pub extern "C" fn mmix_decode(image: &[u8], state: &mut State) -> u64
 }
 
 /// The image becomes that of the lent state; 1 where it has no room for it, an old one for a mask, and then it is left as it was.
-#[unsafe(no_mangle)]
-pub extern "C" fn mmix_encode(state: &State, image: &mut [u8]) -> u64
+pub fn mmix_encode(state: &State, image: &mut [u8]) -> u64
     ensures { Encoded state.now image.old result image.new }
 {
     image::encode(*state, image)
 }
 
 /// One step on an image and the two windows. Where it touches few general registers, these alone are decoded and encoded.
-#[unsafe(no_mangle)]
-pub extern "C" fn mmix_step(
+pub fn mmix_step(
     base_a: u64,
     base_b: u64,
     op: u8,
@@ -182,8 +176,7 @@ pub fn step(
 }
 
 /// One step on a lent state, changed in place.
-#[unsafe(no_mangle)]
-pub extern "C" fn mmix_step_lent(
+pub fn mmix_step_lent(
     base_a: u64,
     base_b: u64,
     op: u8,
@@ -203,8 +196,7 @@ pub extern "C" fn mmix_step_lent(
 }
 
 /// A run on an image and the two windows: up to `grant` instructions, fetched at PC. `done` is how many were done.
-#[unsafe(no_mangle)]
-pub extern "C" fn mmix_run(
+pub fn mmix_run(
     base_a: u64,
     base_b: u64,
     grant: u64,
@@ -257,8 +249,7 @@ pub extern "C" fn mmix_run(
 
 /// Several tasks on their images and the two windows, by turns of up to `q` instructions: `parts` has start and length of each task's part of B. `counts` becomes how
 /// many each did, `refusals` the number that stopped it, or 0.
-#[unsafe(no_mangle)]
-pub extern "C" fn mmix_tasks(
+pub fn mmix_tasks(
     base_a: u64,
     base_b: u64,
     q: u64,
@@ -281,8 +272,7 @@ pub extern "C" fn mmix_tasks(
 }
 
 /// One exception on an image: of the general registers $255 alone is decoded and encoded.
-#[unsafe(no_mangle)]
-pub extern "C" fn mmix_exceptions(
+pub fn mmix_exceptions(
     flags: u8,
     op: u8,
     x: u8,
@@ -337,8 +327,7 @@ pub extern "C" fn mmix_exceptions(
 }
 
 /// PUT for a whole set on an image: 16 bytes a pair, its register's number and the value. `place` becomes that of the first pair that fails, or 0.
-#[unsafe(no_mangle)]
-pub extern "C" fn mmix_put_set(image: &mut [u8], pairs: &[u8], place: &mut u64) -> u64
+pub fn mmix_put_set(image: &mut [u8], pairs: &[u8], place: &mut u64) -> u64
     ensures { SetImage image.old (pairs_in pairs.now) result place.new image.new }
 {
     if !image::is_image(&*image) {
@@ -376,8 +365,7 @@ pub extern "C" fn mmix_put_set(image: &mut [u8], pairs: &[u8], place: &mut u64) 
 }
 
 /// One step in place on the parts of a state, for a host that steps millions of times.
-#[unsafe(no_mangle)]
-pub extern "C" fn mmix_step_parts(
+pub fn mmix_step_parts(
     base_a: u64,
     base_b: u64,
     op: u8,
@@ -408,8 +396,7 @@ pub extern "C" fn mmix_step_parts(
 }
 
 /// A run in place on the parts of a state, for a host that runs programs: state and windows are judged once a call.
-#[unsafe(no_mangle)]
-pub extern "C" fn mmix_run_parts(
+pub fn mmix_run_parts(
     base_a: u64,
     base_b: u64,
     grant: u64,
@@ -438,8 +425,7 @@ pub extern "C" fn mmix_run_parts(
 }
 
 /// One exception in place on the parts of a state.
-#[unsafe(no_mangle)]
-pub extern "C" fn mmix_exceptions_parts(
+pub fn mmix_exceptions_parts(
     flags: u8,
     op: u8,
     x: u8,
@@ -465,8 +451,7 @@ pub extern "C" fn mmix_exceptions_parts(
 }
 
 /// PUT for a whole set in place on the parts of a state: `pairs` are numbers of registers, each with its value behind it. PC stays as it is.
-#[unsafe(no_mangle)]
-pub extern "C" fn mmix_put_set_parts(
+pub fn mmix_put_set_parts(
     general: &mut [u64; 256],
     special: &mut [u64; 32],
     pc: &mut u64,
@@ -487,8 +472,7 @@ pub extern "C" fn mmix_put_set_parts(
 
 /// Where the context saved at `address` lies: in which window, 0 for A and 1 for B, its first byte's index there and its length, all 0
 /// where it is refused.
-#[unsafe(no_mangle)]
-pub extern "C" fn mmix_context(
+pub fn mmix_context(
     base_a: u64,
     base_b: u64,
     address: u64,
@@ -514,8 +498,7 @@ pub extern "C" fn mmix_context(
 }
 
 /// State and windows are kept in the store under a name, 0 to 15.
-#[unsafe(no_mangle)]
-pub extern "C" fn mmix_take(
+pub fn mmix_take(
     base_a: u64,
     base_b: u64,
     name: u64,
@@ -536,8 +519,7 @@ pub extern "C" fn mmix_take(
 }
 
 /// State and windows become those that the store keeps under a name.
-#[unsafe(no_mangle)]
-pub extern "C" fn mmix_go_back(
+pub fn mmix_go_back(
     base_a: u64,
     base_b: u64,
     name: u64,
@@ -581,8 +563,7 @@ fn tell_reach(reach: Reach, backward: &mut u8, field: &mut u32) -> u64
 }
 
 /// Which field YZ, of which direction, goes from an instruction's address to another.
-#[unsafe(no_mangle)]
-pub extern "C" fn mmix_branch_field(from: u64, to: u64, backward: &mut u8, field: &mut u32) -> u64
+pub fn mmix_branch_field(from: u64, to: u64, backward: &mut u8, field: &mut u32) -> u64
     ensures { FieldTold (answer_of (field_of branch_fields from to)) result backward.new field.new }
 {
     let reach = decode::field::branch_field(from, to);
@@ -590,8 +571,7 @@ pub extern "C" fn mmix_branch_field(from: u64, to: u64, backward: &mut u8, field
 }
 
 /// Which field XYZ, of which direction, goes from an instruction's address to another.
-#[unsafe(no_mangle)]
-pub extern "C" fn mmix_jump_field(from: u64, to: u64, backward: &mut u8, field: &mut u32) -> u64
+pub fn mmix_jump_field(from: u64, to: u64, backward: &mut u8, field: &mut u32) -> u64
     ensures { FieldTold (answer_of (field_of jump_fields from to)) result backward.new field.new }
 {
     let reach = decode::field::jump_field(from, to);

@@ -75,6 +75,6 @@ read_same s l vs n e f r i t g =
     let q : put_set_of s (pairs_of (loaded_octas l 0 vs)) ≡ put_set_of s (pairs_in l) = ap (λ (o : List ℕ). put_set_of s (pairs_of o)) (read_all l vs n e f) ∙ cut_same s l n f in
     record {
       reply_is = g.reply_is ∙ ap (λ (o : SetOutcome). o.reply) q;
-      place_is = g.place-is ∙ ap (λ (o : SetOutcome). o.place) q;
+      place_is = g.place_is ∙ ap (λ (o : SetOutcome). o.place) q;
       state_is = g.state_is ∙ ap (λ (o : SetOutcome). o.state) q;
     }

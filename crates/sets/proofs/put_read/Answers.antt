@@ -3,4 +3,4 @@ use Rattle.sets.proofs.Answers.{of_read}
 use Rattle.sets.proofs.put_read.Goals as goal
 
 pub returns : goal.returns
-returns c = λ pc. of_read _ _ _ c.load-octas.ensures _ _ _ (c.put_set.ensures pc)
+returns c = λ pc. of_read _ _ _ c.load_octas.ensures _ _ _ (c.put_set.ensures pc)

@@ -28,7 +28,7 @@ returns-in-Done c =
     λ pc.
     let s = made a.general.now a.special.now pc a.halt.now a.marks a.mask in
     all_put s (pairs_of a.pairs.now) (record { generals = c.counted.ensures.0; specials = c.counted.ensures.1 })
-    (granted _ _ (c.admissible.ensures a.general.now pc a.halt.now) c.if1.false)
+    (granted _ _ (c.admissible.ensures a.general.now pc a.halt.now) (ap not c.if-not-admissible.false))
     (omega (arith, pairs_count a.pairs.now))
     _ c.judge-verdict.ensures.0 c.in-Done.in-Done-own.keys1 _ (c.put_all.ensures s)
 
@@ -39,6 +39,6 @@ returns-in_default c =
     λ pc.
     let s = made a.general.now a.special.now pc a.halt.now a.marks a.mask in
     none_put s (pairs_of a.pairs.now) (record { generals = c.counted.ensures.0; specials = c.counted.ensures.1 })
-    (granted _ _ (c.admissible.ensures a.general.now pc a.halt.now) c.if1.false)
+    (granted _ _ (c.admissible.ensures a.general.now pc a.halt.now) (ap not c.if-not-admissible.false))
     (omega (arith, pairs_count a.pairs.now))
     _ c.judge-verdict.ensures.0 c.in_default.in_default-own.keys2 _ c.judge-verdict.ensures.1

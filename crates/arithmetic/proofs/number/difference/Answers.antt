@@ -7,4 +7,4 @@ made : (y z v : ℕ) → v < 2 ^ 64 → z < 2 ^ 64 → (v + z) % 2 ^ 64 ≡ y �
 made y z v hv hz e = rw (octa_difference y z hz) (omega arith)
 
 pub returns : goal.returns
-returns c = made _ _ _ (omega arith) (omega arith) c.wrapping_sub_u64.ensures
+returns c = made _ _ _ (omega arith) (omega arith) c.wrapping_sub_u64.ensures.value

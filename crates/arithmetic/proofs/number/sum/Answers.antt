@@ -4,4 +4,4 @@ use Rattle.arithmetic.proofs.number.sum.Goals as goal
 
 pub returns : goal.returns
 unfolding octa_of
-returns c = c.wrapping_add_u64.ensures
+returns c = c.wrapping_add_u64.ensures.value

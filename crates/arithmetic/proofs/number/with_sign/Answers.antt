@@ -6,7 +6,7 @@ negated : (n r : ℕ) → n < 2 ^ 64 → r < 2 ^ 64 → (r + n) % 2 ^ 64 ≡ 0 �
 negated n r hn hr e = rw octa_neg (omega arith)
 
 pub returns-then-negative : goal.returns-then-negative
-returns-then-negative c = rw c.if-negative.true (negated _ _ (omega arith) (omega arith) c.wrapping_sub_u64.ensures)
+returns-then-negative c = rw c.if-negative.true (negated _ _ (omega arith) (omega arith) c.wrapping_sub_u64.ensures.value)
 
 pub returns : goal.returns
 returns c = rw c.if-negative.false (sym (octa_pos _ (omega arith)))

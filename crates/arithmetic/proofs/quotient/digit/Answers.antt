@@ -18,17 +18,21 @@ remainder h l v q r x hp hv hx e eq t =
     same h l (v / 2 ^ 32) (v % 2 ^ 32) q r x (N % v) e
     (ap (λ (y : ℕ). q * y + N % v) (split v 32) ∙ ap (λ (y : ℕ). y * v + N % v) eq ∙ div-add-mod' N v) hx (omega (arith, mod-lt N hp)) t
 
--- the digit at the place after `estimate`
-digit_is : (n : tie.After-estimate) → n.estimate.result.quotient ≡ (n.before.args.h * 2 ^ 32 + n.before.args.l) / n.before.args.v
-digit_is n = quotient _ _ _ _ n.estimate.ensures.0 n.estimate.ensures.1
-
-digit_small : (n : tie.After-estimate) → n.estimate.result.quotient < 2 ^ 32
-digit_small n = quotient_digit _ _ _ _ n.before.requires.1 n.before.requires.2 (digit_is n)
+-- the digit is one: h is below v
+small : (h l v q : ℕ) → h < v → l < 2 ^ 32 → q * v ≤ h * 2 ^ 32 + l → h * 2 ^ 32 + l < (q + 1) * v → q < 2 ^ 32
+small h l v q hh hl a b = quotient_digit h l v q hh hl (quotient h l v q a b)
 
 pub overflow_mul-q : goal.overflow_mul-q
 overflow_mul-q c =
-    omega (arith, digit_product c.estimate-e.result.quotient (c.args.v % 2 ^ 32) (digit_small n) (omega arith))
+    let a = c.args in
+    let q = c.estimate-e.result.quotient in
+    let e = c.estimate-e.ensures in
+    omega (arith, digit_product q (a.v % 2 ^ 32) (small a.h a.l a.v q c.requires.1 c.requires.2 e.0 e.1) (omega arith))
 
 pub returns : goal.returns
 returns c =
-    (digit_is n, remainder _ _ c.args.v _ c.estimate-e.result.remainder _ (omega arith) (omega arith) (omega arith) c.estimate-e.ensures.2 (digit_is n) c.wrapping_sub_u64.ensures)
+    let a = c.args in
+    let q = c.estimate-e.result.quotient in
+    let e = c.estimate-e.ensures in
+    let is = quotient a.h a.l a.v q e.0 e.1 in
+    (is, remainder a.h a.l a.v q c.estimate-e.result.remainder _ (omega arith) (omega arith) (omega arith) e.2 is c.wrapping_sub_u64.ensures.value)

@@ -1,7 +1,8 @@
-use Rattle.model.proofs.Prelude.{suc, zero, ℕ, ◌%◌, ◌*◌, ◌+◌, ◌-◌, ◌/◌, ◌<◌, ◌^◌, ◌≤◌, ⊎_elim, subst, ◌≡◌, div-add-mod', le_of_lt, lt_of_mul-lt-mul_right}
+use Rattle.model.proofs.Prelude.{suc, zero, ℕ, ◌%◌, ◌*◌, ◌+◌, ◌-◌, ◌/◌, ◌<◌, ◌^◌, ◌≤◌, subst, ◌≡◌, div-add-mod', le_of_lt, lt_of_mul-lt-mul_right}
 use Rattle.model.proofs.Prelude.{mod-lt, mul-le-mul_right, sub-one, arith, split}
 use Rattle.arithmetic.proofs.Digits.{digit_product, factor_pos}
 use Rattle.arithmetic.proofs.quotient.estimate.Goals as goal
+use Rattle.arithmetic.proofs.quotient.estimate.Goals.{then-q-lt4294967296+else-q-v0, else-q-lt4294967296}
 
 -- v1 * 2^32 + v0 is the divisor, h * 2^32 + l the dividend
 abbrev Holds : (h l v1 v0 q r : ℕ) → Type 0
@@ -45,17 +46,6 @@ exact : (h l v q r : ℕ) → Holds h l (v / 2 ^ 32) (v % 2 ^ 32) q r → NotAbo
 exact h l v q r i t =
     (subst (λ (x : ℕ). q * x ≤ h * 2 ^ 32 + l) (split v 32) t, subst (λ (x : ℕ). h * 2 ^ 32 + l < (q + 1) * x) (split v 32) i.1, i.0)
 
--- the two ways to a turn's second half
-above : (c : tie.Joined1 invariant_loop decreases_loop)
-    → let a = c.before.before.before.args in Above a.h a.l (a.v / 2 ^ 32) (a.v % 2 ^ 32) c.before.before.loop.q
-above c =
-    let n = c.before.before in
-    let a = n.before.args in
-    ⊎_elim
-    (λ w. refuted a.h a.l (a.v / 2 ^ 32) (a.v % 2 ^ 32) n.loop.q n.loop.r n.loop.invariant.0 w.1.left)
-    (λ w. long a.h a.l (a.v / 2 ^ 32) (a.v % 2 ^ 32) n.loop.q (omega arith) n.before.requires.2 w.left)
-    c.if1.branch
-
 pub loop-r-init : goal.loop-r-init
 loop-r-init c = start c.args.h c.args.l (c.args.v / 2 ^ 32) (c.args.v % 2 ^ 32) (omega arith) c.requires.2
 
@@ -63,13 +53,34 @@ pub overflow_mul-q : goal.overflow_mul-q
 overflow_mul-q c = omega (arith, digit_product c.loop-r.q (c.args.v % 2 ^ 32) (omega arith) (omega arith))
 
 pub overflow_sub-q : goal.overflow_sub-q
-overflow_sub-q c = above_pos _ _ _ _ _ (above c)
+overflow_sub-q c =
+    let a = c.args in
+    let t : Above a.h a.l (a.v / 2 ^ 32) (a.v % 2 ^ 32) c.loop-r.q =
+    elim c.if-q-lt4294967296.branch [
+      | then-q-lt4294967296+else-q-v0 w ↦ refuted a.h a.l (a.v / 2 ^ 32) (a.v % 2 ^ 32) c.loop-r.q c.loop-r.r c.loop-r.invariant.0 w.if-q-v0.false
+      | else-q-lt4294967296 w ↦ long a.h a.l (a.v / 2 ^ 32) (a.v % 2 ^ 32) c.loop-r.q (omega arith) c.requires.2 w.if-q-lt4294967296.false
+    ] in
+    above_pos _ _ _ _ _ t
 
 pub loop-r-smaller : goal.loop-r-smaller
-loop-r-smaller c = omega (arith, above_pos _ _ _ _ _ (above c))
+loop-r-smaller c =
+    let a = c.args in
+    let t : Above a.h a.l (a.v / 2 ^ 32) (a.v % 2 ^ 32) c.loop-r.q =
+    elim c.if-q-lt4294967296.branch [
+      | then-q-lt4294967296+else-q-v0 w ↦ refuted a.h a.l (a.v / 2 ^ 32) (a.v % 2 ^ 32) c.loop-r.q c.loop-r.r c.loop-r.invariant.0 w.if-q-v0.false
+      | else-q-lt4294967296 w ↦ long a.h a.l (a.v / 2 ^ 32) (a.v % 2 ^ 32) c.loop-r.q (omega arith) c.requires.2 w.if-q-lt4294967296.false
+    ] in
+    omega (arith, above_pos _ _ _ _ _ t)
 
 pub loop-r-preserved : goal.loop-r-preserved
-loop-r-preserved c = again _ _ _ _ _ _ c.loop-r.invariant.0 (above c)
+loop-r-preserved c =
+    let a = c.args in
+    let t : Above a.h a.l (a.v / 2 ^ 32) (a.v % 2 ^ 32) c.loop-r.q =
+    elim c.if-q-lt4294967296.branch [
+      | then-q-lt4294967296+else-q-v0 w ↦ refuted a.h a.l (a.v / 2 ^ 32) (a.v % 2 ^ 32) c.loop-r.q c.loop-r.r c.loop-r.invariant.0 w.if-q-v0.false
+      | else-q-lt4294967296 w ↦ long a.h a.l (a.v / 2 ^ 32) (a.v % 2 ^ 32) c.loop-r.q (omega arith) c.requires.2 w.if-q-lt4294967296.false
+    ] in
+    again _ _ _ _ _ _ c.loop-r.invariant.0 t
 
 pub returns-after-loop-r : goal.returns-after-loop-r
 returns-after-loop-r c =

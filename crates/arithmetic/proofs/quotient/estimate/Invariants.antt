@@ -1,6 +1,6 @@
 -- `estimate` meets its contract. With v1 and v0 the halves of v, each turn keeps q * v1 + r ≡ h and lowers a q that is too large; the loop is left where q is
 -- not: by the test, or with r of more than a digit, where the test would pass. The measure is q.
-use Rattle.model.proofs.Prelude.{ℕ, ◌%◌, ◌*◌, ◌+◌, ◌-◌, ◌/◌, ◌<◌, ◌^◌, ◌≡◌}
+use Rattle.model.proofs.Prelude.{ℕ, ◌%◌, ◌*◌, ◌+◌, ◌/◌, ◌<◌, ◌^◌, ◌≡◌}
 use Rattle.arithmetic.proofs.quotient.estimate.Given as goal
 
 -- v1 * 2^32 + v0 is the divisor, h * 2^32 + l the dividend

@@ -1,5 +1,5 @@
 -- `add` meets its contract, by the signs of both and of what comes out.
-use Rattle.model.proofs.Prelude.{◌-◌, Bool, not, ◌&&◌, ap₂, ◌∙◌, arith, octa_of}
+use Rattle.model.proofs.Prelude.{Bool, not, ◌&&◌, ap₂, ◌∙◌, arith, octa_of}
 use Rattle.arithmetic.proofs.Sums.{sum_exact, exactly}
 use Rattle.arithmetic.proofs.signed.add.Goals as goal
 

@@ -1,5 +1,5 @@
 -- `sub` meets its contract, by the signs of both and of what comes out.
-use Rattle.model.proofs.Prelude.{◌-◌, Bool, ◌&&◌, ap₂, ◌∙◌, arith}
+use Rattle.model.proofs.Prelude.{Bool, ◌&&◌, ap₂, ◌∙◌, arith}
 use Rattle.arithmetic.proofs.Sums.{octa_difference, difference_exact, exactly}
 use Rattle.arithmetic.proofs.signed.sub.Goals as goal
 

@@ -7,10 +7,6 @@ use Rattle.stack.proofs.PushPopRegisters.{held_by, placed_by}
 use Rattle.stack.proofs.PushPopAnswers.{pop_one, pop_none, pop_rejected}
 use Rattle.stack.proofs.frame.pop_frame_judged.Goals as goal
 
--- r_g and r_l are placed
-good : (c : tie.Else1) (pc halt marks mask : ℕ) → placed (made c.before.before.before.before.before.before.before.before.before.before.args.general.now c.before.before.before.before.before.before.before.before.before.before.args.special.now pc halt marks mask) ≡ true
-good c pc halt marks mask = granted _ _ (c.before.is_placed.ensures (made c.before.before.before.before.before.before.before.before.before.before.args.general.now c.before.before.before.before.before.before.before.before.before.before.args.special.now pc halt marks mask) refl refl) c.if1.false
-
 pub returns-then-not-is_placed : goal.returns-then-not-is_placed
 returns-then-not-is_placed c =
     λ pc marks mask.
@@ -26,7 +22,7 @@ returns-then-ro-le-STACK_START c =
     let a = c.args in
     let s = made a.general.now a.special.now pc a.halt.now marks mask in
     let w = lent a.at a.a.now a.b.now in
-    pop_none w s a.x a.yz (good c.before pc a.halt.now marks mask) c.if-ro-le-STACK_START.true
+    pop_none w s a.x a.yz (granted _ _ (c.is_placed.ensures (made a.general.now a.special.now pc a.halt.now marks mask) refl refl) (ap not c.if-not-is_placed.false)) c.if-ro-le-STACK_START.true
 
 pub returns-then-is_misplaced : goal.returns-then-is_misplaced
 unfolding halted
@@ -35,13 +31,13 @@ returns-then-is_misplaced c =
     let a = c.args in
     let s = made a.general.now a.special.now pc a.halt.now marks mask in
     let w = lent a.at a.a.now a.b.now in
-    pop_rejected w s a.x a.yz (good c.before.before.before pc a.halt.now marks mask) c.if-ro-le-STACK_START.false (sym (c.is_misplaced.ensures s refl) ∙ c.if-is_misplaced.true)
+    pop_rejected w s a.x a.yz (granted _ _ (c.is_placed.ensures (made a.general.now a.special.now pc a.halt.now marks mask) refl refl) (ap not c.if-not-is_placed.false)) c.if-ro-le-STACK_START.false (sym (c.is_misplaced.ensures s refl) ∙ c.if-is_misplaced.true)
 
 pub pop_at-requires : goal.pop_at-requires
 pop_at-requires c =
     let a = c.args in
     let s = made a.general.now a.special.now 0 0 0 0 in
-    (held_by s (good c.before.before.before.before.before 0 0 0 0) (omega (arith, c.counted.ensures.1)), placed_by s c.if-ro-le-STACK_START.false (sym (c.is_misplaced.ensures s refl) ∙ c.if-is_misplaced.false))
+    (held_by s (granted _ _ (c.is_placed.ensures (made a.general.now a.special.now 0 0 0 0) refl refl) (ap not c.if-not-is_placed.false)) (omega (arith, c.counted.ensures.1)), placed_by s c.if-ro-le-STACK_START.false (sym (c.is_misplaced.ensures s refl) ∙ c.if-is_misplaced.false))
 
 pub returns : goal.returns
 returns c =

@@ -9,13 +9,6 @@ use Rattle.stack.proofs.Judged.{passed, failed, missing_by}
 use Rattle.stack.proofs.PushPopAnswers.{push_one, push_six, push_done}
 use Rattle.stack.proofs.push.push_frame_judged.Goals as goal
 
--- r_g and r_l are placed
-good : (c : tie.Else1) (pc halt marks mask : ℕ) → placed (made c.before.before.before.before.before.before.before.before.before.before.args.general.now c.before.before.before.before.before.before.before.before.before.before.args.special.now pc halt marks mask) ≡ true
-good c pc halt marks mask = granted _ _ (c.before.is_placed.ensures (made c.before.before.before.before.before.before.before.before.before.before.args.general.now c.before.before.before.before.before.before.before.before.before.before.args.special.now pc halt marks mask) refl refl) c.if1.false
-
-held : (c : tie.Else1) → Held c.before.before.before.before.before.before.before.before.before.before.args.special.now
-held c = held_by (made c.before.before.before.before.before.before.before.before.before.before.args.general.now c.before.before.before.before.before.before.before.before.before.before.args.special.now 0 0 0 0) (good c 0 0 0 0) (omega (arith, c.before.before.before.before.before.counted.ensures.1))
-
 pub returns-then-not-is_placed : goal.returns-then-not-is_placed
 returns-then-not-is_placed c =
     λ halt marks mask.
@@ -25,7 +18,7 @@ returns-then-not-is_placed c =
     push_one w s a.x (denied _ _ (c.is_placed.ensures s refl refl) (ap not c.if-not-is_placed.true))
 
 pub hole_of-h-requires : goal.hole_of-h-requires
-hole_of-h-requires c = let h = held c in omega (arith, h.g_high, h.l_g)
+hole_of-h-requires c = let a = c.args in let h = held_by (made a.general.now a.special.now 0 0 0 0) (granted _ _ (c.is_placed.ensures (made a.general.now a.special.now 0 0 0 0) refl refl) (ap not c.if-not-is_placed.false)) (omega (arith, c.counted.ensures.1)) in omega (arith, h.g_high, h.l_g)
 
 pub returns-then-number-ne0 : goal.returns-then-number-ne0
 returns-then-number-ne0 c =
@@ -34,14 +27,14 @@ returns-then-number-ne0 c =
     let a = c.args in
     let s = made a.general.now a.special.now a.pc halt marks mask in
     let w = lent a.at a.a.now a.b.now in
-    push_six w s a.x (good c.before.before.before.before.before.before a.pc halt marks mask) _ (c.hole-of.ensures.0 s refl refl)
+    push_six w s a.x (granted _ _ (c.is_placed.ensures (made a.general.now a.special.now a.pc halt marks mask) refl refl) (ap not c.if-not-is_placed.false)) _ (c.hole_of-h.ensures.0 s refl refl)
     (failed _ _ _ _ _ run.ensures c.if-number-ne0.true (omega arith)) _ (missing_by _ _ _ _ run.ensures c.if-number-ne0.true _ c.reply_of.ensures)
 
 pub store_frame-requires : goal.store_frame-requires
-store_frame-requires c = (c.hole-of.ensures.1, passed _ _ _ _ _ c.run-refusal.ensures (ap not c.if-not-is_placed.false) (omega arith))
+store_frame-requires c = (c.hole_of-h.ensures.1, passed _ _ _ _ _ c.run_refusal-number.ensures c.if-number-ne0.false (omega arith))
 
 pub enter-requires : goal.enter-requires
-enter-requires c = (held c.before.before.before.before.before.before.before.before.before.before.before.before.before.before.before, c.hole-of.ensures.1)
+enter-requires c = let a = c.args in (held_by (made a.general.now a.special.now 0 0 0 0) (granted _ _ (c.is_placed.ensures (made a.general.now a.special.now 0 0 0 0) refl refl) (ap not c.if-not-is_placed.false)) (omega (arith, c.counted.ensures.1)), c.hole_of-h.ensures.1)
 
 pub returns : goal.returns
 returns c =
@@ -49,6 +42,6 @@ returns c =
     let a = c.args in
     let s = made a.general.now a.special.now a.pc halt marks mask in
     let w = lent a.at a.a.now a.b.now in
-    push_done w s a.x (good c.before.before.before.before.before.before.before.before.before.before.before.before.before.before.before.before a.pc halt marks mask) _ (c.hole-of.ensures.0 s refl refl) _ _
-    (passed w _ _ _ _ c.run-refusal.ensures (ap not c.if-not-is_placed.false) (omega arith))
+    push_done w s a.x (granted _ _ (c.is_placed.ensures (made a.general.now a.special.now a.pc halt marks mask) refl refl) (ap not c.if-not-is_placed.false)) _ (c.hole_of-h.ensures.0 s refl refl) _ _
+    (passed w _ _ _ _ c.run_refusal-number.ensures c.if-number-ne0.false (omega arith))
     (c.store_frame.ensures a.special.now a.pc halt marks mask) (c.enter.ensures halt marks mask)

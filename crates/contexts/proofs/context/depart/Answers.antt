@@ -1,0 +1,7 @@
+-- `depart` meets its contract: r_l, r_o and r_s are written one after another.
+use Rattle.contexts.specs.ContextWork.{left_special}
+use Rattle.contexts.proofs.context.depart.Goals as goal
+
+pub returns : goal.returns
+unfolding left_special
+returns c = rw c.wrapping_add-new_ro.ensures

@@ -1,0 +1,17 @@
+use Rattle.model.proofs.Prelude.{◌-◌, refl, arith, out_all, out_none, out_turn}
+use Rattle.std.proofs.Common.{rules}
+use Rattle.points.proofs.room.copy_out.Goals as goal
+
+pub loop-i-init : goal.loop-i-init
+loop-i-init c = (omega arith, refl, out_none c.args.from.now c.args.to.now c.args.at)
+
+pub loop-i-preserved : goal.loop-i-preserved
+loop-i-preserved c =
+    let a = c.args in (
+      omega (arith, c.loop-i.invariant.1),
+      search rules,
+      out_turn a.from.now c.loop-i.to a.at c.loop-i.i (omega arith) c.loop-i.invariant.2,
+    )
+
+pub returns : goal.returns
+returns c = out_all _ _ _ c.loop-i.i _ (omega arith) (omega (arith, c.loop-i.invariant.1)) c.loop-i.invariant.2
