@@ -148,7 +148,13 @@ fn fail<R: Eprint>(rt: &R, what: &str, error: io::Error) {
 }
 
 /// The input is read once, over a buffer of which nothing is left.
-fn refill<I: Read, R: Eprint>(reader: &mut I, rt: &R, input: &mut [u8], held: &mut [u8], place: Place) -> After
+fn refill<I: Read, R: Eprint>(
+    reader: &mut I,
+    rt: &R,
+    input: &mut [u8],
+    held: &mut [u8],
+    place: Place,
+) -> After
     requires { Standing input.old held.old place × (place.at ≡ place.end) }
     ensures { Refills input.old held.old place input.new held.new result }
 {
@@ -162,7 +168,13 @@ fn refill<I: Read, R: Eprint>(reader: &mut I, rt: &R, input: &mut [u8], held: &m
 }
 
 /// A turn: within the input buffer, or a read where nothing of it is left.
-fn turn<I: Read, R: Eprint>(reader: &mut I, rt: &R, input: &mut [u8], held: &mut [u8], place: Place) -> After
+fn turn<I: Read, R: Eprint>(
+    reader: &mut I,
+    rt: &R,
+    input: &mut [u8],
+    held: &mut [u8],
+    place: Place,
+) -> After
     requires { Standing input.old held.old place × (place.number + 1 < 2 ^ 64) }
     ensures { Turns input.old held.old place input.new held.new result }
 {
@@ -184,7 +196,12 @@ fn print<R: Print + Eprint>(rt: &R, text: &[u8]) -> bool {
 }
 
 /// Turns from the first on, each text but the last printed.
-fn run<I: Read, R: Print + Eprint>(reader: &mut I, rt: &R, input: &mut [u8], held: &mut [u8]) -> After
+fn run<I: Read, R: Print + Eprint>(
+    reader: &mut I,
+    rt: &R,
+    input: &mut [u8],
+    held: &mut [u8],
+) -> After
     requires { (length input.old ≡ input_length) × (longest_line < length held.old) }
     ensures { Finishes held.new result }
 {
