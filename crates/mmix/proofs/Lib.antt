@@ -1,5 +1,4 @@
 -- The laws of this crate's definitions.
 pub mod Prelude
 pub mod Entries
-pub mod Lent
 pub mod FewStepped

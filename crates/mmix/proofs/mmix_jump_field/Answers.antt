@@ -1,0 +1,6 @@
+-- `mmix_jump_field` meets its contract: what `tell_reach` tells is told of the field that was found.
+use Rattle.mmix.proofs.Entries.{field_told}
+use Rattle.mmix.proofs.mmix_jump_field.Goals as goal
+
+pub returns : goal.returns
+returns c = field_told _ _ c.jump_field-reach.ensures _ _ _ c.tell_reach.ensures
