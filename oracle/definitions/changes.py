@@ -13,20 +13,20 @@ DEFINING = {"claims": ["OneCall", "CallsLeave"]}
 # Files that state theorems in records with parameters too, though their first line does not say so: of these only what is no Type.
 STATING = ["claims OneCall", "claims CallsLeave", "point_lines Stream"]
 # Definitions that are a computed example's own.
-EXAMPLES = ["script Script sample", "script Script sampleText"]
+EXAMPLES = ["script Script sample", "script Script sample_text"]
 
 # Where a name that a change brings in is imported from; MODEL stands for the specs of crate model.
 MODEL = "MODEL."
-HOMES = {"leb": "lib.Dec", "ltb": "lib.Dec", "eqb": "lib.Dec", "&&": "mathlib.Core.Bool", "||": "mathlib.Core.Bool",
-         "true": "mathlib.Core.Bool", "false": "mathlib.Core.Bool", "min": "Prim.Native.Nat", "max": "Prim.Native.Nat",
-         "bitAnd": "lib.Bits", "bitOr": "lib.Bits",
+HOMES = {**dict.fromkeys(["leb", "ltb", "eqb", "nat_le", "nat_lt", "nat_eq", "&&", "||", "true", "false", "min", "max", "bit_and", "bit_or"],
+                         "Rattle.std.specs.Prelude"),
          **dict.fromkeys(["forward", "backward", "register", "immediate", "byte", "wyde", "tetra", "octabyte", "signed", "unsigned"], MODEL + "Opcodes")}
 
 # What each word is changed to. A register's name becomes the next register's.
-WORDS = {"leb": ["ltb", "eqb"], "ltb": ["leb", "eqb"], "eqb": ["leb", "ltb"], "&&": ["||"], "||": ["&&"], "min": ["max"],
+WORDS = {"leb": ["ltb", "eqb"], "ltb": ["leb", "eqb"], "eqb": ["leb", "ltb"], "==": ["leb", "ltb"],
+         "nat_le": ["nat_lt", "nat_eq"], "nat_lt": ["nat_le", "nat_eq"], "nat_eq": ["nat_le", "nat_lt"], "&&": ["||"], "||": ["&&"], "min": ["max"],
          "max": ["min"], "not": [""], "true": ["false"], "false": ["true"], "suc": [""], "zero": ["(suc zero)"],
          "forward": ["backward"], "backward": ["forward"], "register": ["immediate"], "immediate": ["register"],
-         "bitAnd": ["bitOr"], "bitOr": ["bitAnd"], "signed": ["unsigned"], "unsigned": ["signed"], "byte": ["wyde"],
+         "bit_and": ["bit_or"], "bit_or": ["bit_and"], "signed": ["unsigned"], "unsigned": ["signed"], "byte": ["wyde"],
          "wyde": ["byte"], "tetra": ["octabyte"], "octabyte": ["tetra"]}
 
 NUMBER = re.compile(r"0x[0-9A-Fa-f]+|\d+")
@@ -65,12 +65,37 @@ class Change:
     def applied(self, source):
         lines = source.split("\n")
         text = lines[self.line - 1]
-        lines[self.line - 1] = text[:self.at] + self.new + text[self.at + len(self.old):]
-        home = HOMES.get(self.new) or (MODEL + "Registers" if re.fullmatch(r"r[A-Z]{1,2}", self.new) else None)
+        lines[self.line - 1] = (between if self.old == "==" else replaced)(text, self.at, self.old, self.new)
+        home = HOMES.get(self.new) or (MODEL + "Registers" if re.fullmatch(r"r_[a-z]{1,2}", self.new) else None)
         if home and (self.crate, MODEL + self.file) != ("model", home):
-            home = home.replace(MODEL, "Rattle·model·specs.specs." if self.crate == "model" else "Rattle·model.specs.")
-            import_name(lines, home, self.new if self.new.isalnum() else f"_{self.new}_")
+            home = home.replace(MODEL, "Rattle.model.specs.")
+            import_name(lines, home, f"◌{self.new}◌" if self.new in ("&&", "||") else self.new)
         return "\n".join(lines)
+
+
+def replaced(text, at, old, new):
+    return text[:at] + new + text[at + len(old):]
+
+
+def between(text, at, old, new):
+    """An infix test by the name of another: `a == b` becomes `leb (a) (b)`. What it compares goes to the parenthesis, && or || on each side."""
+    depth, left = 0, at
+    while left > 0:
+        c = text[left - 1]
+        if depth == 0 and (c in "(,;" or text[left - 2:left] in ("&&", "||", "= ", "→ ", ". ") and text[left - 3:left] != "== "):
+            break
+        depth += {")": 1, "(": -1}.get(c, 0)
+        left -= 1
+    depth, right = 0, at + len(old)
+    while right < len(text):
+        c = text[right]
+        if depth == 0 and (c in "),;" or text[right:right + 2] in ("&&", "||")):
+            break
+        depth += {"(": 1, ")": -1}.get(c, 0)
+        right += 1
+    a, b = text[left:at].strip(), text[at + len(old):right].strip()
+    gap, end = text[left:at][:len(text[left:at]) - len(text[left:at].lstrip())], " " if right < len(text) and text[right] in "&|" else ""
+    return f"{text[:left]}{gap}{new} ({a}) ({b}){end}{text[right:]}"
 
 
 def import_name(lines, home, name):
@@ -119,7 +144,7 @@ def becomes(old, before, after, name, defining, registers):
         return []  # a record's field, beside its value
     if old in registers:
         return [registers[(registers.index(old) + 1) % len(registers)]]
-    if old == "eqb" and arguments(after)[1:2] == ["0"]:
+    if old == "eqb" and arguments(after)[1:2] == ["0"] or old == "==" and arguments(after)[:1] == ["0"]:
         return ["ltb"]  # e ≤ 0 is e = 0
     return WORDS.get(old, [])
 
@@ -180,7 +205,7 @@ def scanned(crate, file, source, registers):
 
 def all_changes(text_of):
     """The changes of all crates, each file as `text_of` gives it by its path from the root; it gives None where there is no such file."""
-    registers = re.findall(r"^abbrev pub (r[A-Z]{1,2}) : ℕ$", text_of("crates/model/specs/Registers.antt") or "", re.M)
+    registers = re.findall(r"^abbrev pub (r_[a-z]{1,2}) : ℕ$", text_of("crates/model/specs/Registers.antt") or "", re.M)
     found = []
     for crate in CRATES:
         for file in re.findall(r"^pub mod (\S+)", text_of(f"crates/{crate}/specs/Lib.antt") or "", re.M):
