@@ -1,15 +1,17 @@
 """Changes tried: a copy of a crate with a change in it, checked."""
 import glob
+import hashlib
 import os
 import re
 import shutil
 import subprocess
+import tempfile
 import threading
 
 from changes import ROOT, read
 
-# Copies of crates stand under target/, where `rt` looks for no crate; what was tried is kept in build/.
-WORK = os.path.join(ROOT, "target", "constants")
+# Copies of crates stand outside the checkout, in which `rt ci` wants no file that it does not read; what was tried is kept in build/.
+WORK = os.path.join(tempfile.gettempdir(), "cuqamish-constants-" + hashlib.sha256(ROOT.encode()).hexdigest()[:8])
 KEPT = os.path.join(ROOT, "build", "constants")
 
 # Of model some examples, one list of examples, all examples, laws and theorems, each in a repository of its own; of any other crate first what it has
@@ -18,12 +20,12 @@ WHOLE, SOME, EXAMPLES, LAWS = "whole", "some", "examples", "laws"
 # What all others rest on: some examples first.
 GROUND = ["Registers", "Memory", "Plan", "Octa", "Fill", "NoMemory", "Lists"]
 # The list of examples that is made for a file.
-OWN = {"Opcodes": "arithmeticStepExamples", "ArithmeticStep": "arithmeticStepExamples", "Arithmetic": "arithmeticExamples",
-       "Whole": "arithmeticExamples", "Field": "fieldExamples", "LoadStore": "loadStoreExamples"}
+OWN = {"Opcodes": "arithmetic_step_examples", "ArithmeticStep": "arithmetic_step_examples", "Arithmetic": "arithmetic_examples",
+       "Whole": "arithmetic_examples", "Field": "field_examples", "LoadStore": "load_store_examples"}
 # Examples are computed some at a time, each few in a file of their own, so that only those that a change reaches are computed again.
 FEW, CHUNKS, ONE_IN = 5, 80, 9
 
-ERROR = re.compile(r"^\S*?/crates/\w+/(\S+?):\d+:\d+: error: `([^`]+)`: (.*)$", re.M)
+ERROR = re.compile(r"^\./(\S+?):\d+:\d+: error: `([^`]+)`: (.*)$", re.M)
 UNPROVED = re.compile(r"^(?:fn|struct|enum) \w+::(\S+): (?:not proved|no proof)(?:: .*)?$", re.M)
 
 
@@ -32,9 +34,9 @@ def write(path, text):
         f.write(text)
 
 
-def rt(repository, *words, seconds=300):
-    """The status of `rt WORDS` in a repository, and what it printed."""
-    run = subprocess.Popen(["nice", "-n", "19", "rt", *words], cwd=repository, stdout=subprocess.PIPE, stderr=subprocess.STDOUT,
+def check(repository, crate, seconds=300):
+    """The status of `rt check` of a repository's crate, and what it printed."""
+    run = subprocess.Popen(["nice", "-n", "19", "rt", "check"], cwd=os.path.join(repository, "crates", crate), stdout=subprocess.PIPE, stderr=subprocess.STDOUT,
                            start_new_session=True)
     try:
         printed = run.communicate(timeout=seconds)[0]
@@ -69,8 +71,8 @@ def split_examples(crate, side):
     opened = re.search(r"^unfolding (.*)$", text, re.M)
     if not tests or not opened:
         return
-    uses = [line for line in text.split("\n") if line.startswith("use ") and not re.match(r"use (mathlib|lib\.ListN)", line)]
-    head = "\n".join(["use mathlib.Core.Path.{_≡_, refl}", "use mathlib.Core.Bool.{true}", "use lib.ListN.{take, drop}"] + uses)
+    uses = [line for line in text.split("\n") if line.startswith("use ") and not line.startswith("use Rattle.model.proofs.Logic")]
+    head = "\n".join(["use mathlib.Core.Path.{◌≡◌, refl}", "use mathlib.Core.Bool.{true}", "use lib.ListN.{take, drop}", "use lib.Count.{count_leading_zeros}"] + uses)
     names = []
     for test in tests:
         function, _, examples = test.partition(" ")
@@ -81,7 +83,7 @@ def split_examples(crate, side):
         for k, part in enumerate(parts):
             if side == SOME and k % ONE_IN:
                 continue
-            name = f"{examples or function}-{k}"
+            name = f"{examples or function}_{k}"
             names.append(f"Part{len(names)}")
             write(os.path.join(crate, "proofs", names[-1] + ".antt"),
                   f"-- few examples\n{head}\n\npub {name} : {part} ≡ true\nunfolding {opened.group(1)}\n{name} = refl\n")
@@ -121,8 +123,8 @@ def function_end(text, at):
     """Behind a function: its contract's clauses are blocks too."""
     while True:
         brace = text.index("{", at)
-        clause, at = re.search(r"(\w+)\s*$", text[at:brace]), block_end(text, brace)
-        if not clause or clause.group(1) not in ("requires", "ensures", "decreases"):
+        clause, at = re.search(r"\b(requires|ensures|decreases)\s*\*?\s*\w*\s*$", text[at:brace]), block_end(text, brace)
+        if not clause:
             return at
 
 
@@ -141,20 +143,22 @@ def without_functions(crate):
 
 
 def repository(path, crate, side):
-    """A repository with a copy of the crate, unchanged; the other crates, and the libraries that are proved, are the root's own."""
-    shutil.rmtree(os.path.join(path, "crates"), ignore_errors=True)
+    """A repository with copies of the crate and of those below it. What their checks in the checkout kept goes along, so that only the crate is checked."""
+    shutil.rmtree(path, ignore_errors=True)
     os.makedirs(os.path.join(path, "crates"))
-    os.makedirs(os.path.join(path, "target"), exist_ok=True)
-    shutil.copy(os.path.join(ROOT, "crates.txt"), path)
-    for other in os.listdir(os.path.join(ROOT, "crates")):
-        if other != crate:
-            os.symlink(os.path.join(ROOT, "crates", other), os.path.join(path, "crates", other))
-    for part in ("rlib", "stamp"):
-        os.makedirs(os.path.join(ROOT, "target", part), exist_ok=True)
-        if not os.path.lexists(os.path.join(path, "target", part)):
-            os.symlink(os.path.join(ROOT, "target", part), os.path.join(path, "target", part))
+    lines = [line for line in read(os.path.join(ROOT, "crates.txt")).split("\n") if ":" in line and not line.startswith("#")]
+    needs = {line.split(":")[0].split()[0]: line.split(":")[1].split() for line in lines}
+    wanted, waiting = [], [crate]
+    while waiting:
+        name = waiting.pop()
+        if name in needs and name not in wanted:
+            wanted.append(name)
+            waiting += needs[name]
+    write(os.path.join(path, "crates.txt"), "".join(line + "\n" for line in lines if line.split(":")[0].split()[0] in wanted))
+    for name in wanted:
+        left_out = ["must-fail"] + ["out"] * (name == crate)
+        shutil.copytree(os.path.join(ROOT, "crates", name), os.path.join(path, "crates", name), ignore=shutil.ignore_patterns(*left_out))
     copy = os.path.join(path, "crates", crate)
-    shutil.copytree(os.path.join(ROOT, "crates", crate), copy, ignore=shutil.ignore_patterns("must-fail"))
     if crate == "model":
         one_side(copy, side)
     elif side == LAWS:
@@ -195,7 +199,7 @@ class Bases:
         path = os.path.join(WORK, "base", f"{crate}-{side}")
         repository(path, crate, side)
         with self.checking:
-            status, printed = rt(path, "dev", crate, seconds=3600)
+            status, printed = check(path, crate, seconds=3600)
         if status == 0:
             return path
         print(printed + f"\ncrate {crate} is not proved as it is: nothing can be said of changes", flush=True)
@@ -238,16 +242,16 @@ class Trial:
         if path not in self.made:
             repository(path, change.crate, side)
             self.made.add(path)
-        kept = os.path.join(path, "target", "inc")
+        kept = os.path.join("crates", change.crate, "out")
         if self.from_nothing:
-            shutil.rmtree(kept, ignore_errors=True)
+            shutil.rmtree(os.path.join(path, kept), ignore_errors=True)
         else:
-            same_files(os.path.join(base, "target", "inc"), kept)
+            same_files(os.path.join(base, kept), os.path.join(path, kept))
         file = os.path.join(path, "crates", change.crate, "specs", change.file + ".antt")
         source = read(file)
         write(file, change.applied(source))
         try:
-            status, printed = rt(path, "dev", change.crate)
+            status, printed = check(path, change.crate)
         finally:
             write(file, source)
         if status == 0:
