@@ -1,4 +1,4 @@
-use Rattle.bench.proofs.Prelude.{ℕ, ◌-◌, ◌≤◌, List, refl, subst, ◌∙◌, ◌≡◌, arith, length, take}
+use Rattle.bench.proofs.Prelude.{ℕ, ◌≤◌, List, refl, subst, ◌∙◌, ◌≡◌, arith, length, take}
 use Rattle.bench.specs.Answer.{Joins, ReadWithin}
 use Rattle.bench.specs.declared.Input.{Input}
 use Rattle.bench.specs.declared.Input.TheVariants.{Read}
