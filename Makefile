@@ -1,7 +1,7 @@
 # Cuqamish. `make` lists the targets.
 
 SHELL = /bin/bash
-# With gawk and a UTF-8 locale rt's awk programs fail, and what the prover says is lost.
+# One order of sorting on every machine.
 export LC_ALL := C
 CASES ?= 200000
 DEFINED ?= 2000
@@ -12,21 +12,21 @@ PREFIX ?= /usr/local
 PROGRAMS ?= ../shared/programs
 PAPERS ?= ../shared/docs
 # The toolchain with which all was proved, as `rt version` prints it.
-KIT = rattle-kit-5b-plain logic 097e4c862dff5811
+KIT = rattle-kit-13f logic dac8208d650f15bf
 ORACLE = build/oracle/release
 RUST_SRC = $(or $(MMIX_RUST_SRC),../shared/docs/src)
 LIB_DIR = $(or $(MMIX_LIB_DIR),build)
 export MMIX_RUST_SRC := $(abspath $(RUST_SRC))
 export MMIX_LIB_DIR := $(abspath $(LIB_DIR))
 
-RATTLE = crates.txt $(shell find crates -name '*.rt' -o -name '*.antt')
-# All that `rt ci` goes by: files, folders (so that one taken away counts), the toolchain.
-CHECKED = crates.txt $(shell find crates) $(shell command -v rt)
+RATTLE = crates.txt $(shell find crates -path '*/out' -prune -o \( -name '*.rt' -o -name '*.antt' \) -print)
 WARNINGS = -Wall -Wextra -Wpedantic -Werror
+# Of what rt prints: which crate it has come to, and what became of it.
+TOLD = grep -a --line-buffered '^rt: [^n]\|^crate \|^logic='
 HEADERS = build/mmix.h build/mmix_text.h build/mmix_disassemble.h build/mmix_points.h
 VERSION = $(shell sed -n 's/^\#define MMIX_VERSION_[MI].* //p' include/mmix.h | paste -s -d .)
 
-.PHONY: help test quotes prove bench scripts-test points points-test lib shared install host host-test replay pop-watch counts programs oracle oracle-test differential guards mutants speed replay-list definitions constants clean need-rt need-gcc need-script need-points constants-keys
+.PHONY: help test quotes prove bench scripts-test points points-test lib shared install host host-test replay pop-watch counts programs oracle oracle-test differential guards mutants speed replay-list definitions constants clean checked programs-taken need-rt need-gcc need-script need-points constants-keys
 
 help:
 	@echo 'make bench SCRIPT=path       the bench program on a script (examples/scripts/first.script)'
@@ -59,9 +59,12 @@ need-rt:
 need-gcc:
 	@command -v gcc >/dev/null 2>&1 || { echo 'gcc is not on the PATH: install the package gcc' >&2; exit 1; }
 
-# The proofs and the edits from nothing, then all that runs on what was built. The last line of `rt ci` is kept for the end: it is
-# printed there only where the rest has passed too.
-test: need-rt need-gcc
+# The gate: `rt ci`, then the target `checked`. What it proved is kept, so that proofs and edits that nothing has changed for are not repeated.
+test:
+	@.ci/run
+
+# All that is no proof: the pages, then what runs on what was built.
+checked: need-rt need-gcc
 	@docs/check_traceability
 	@$(MAKE) --no-print-directory constants-keys
 	@docs/check_theorems
@@ -69,10 +72,7 @@ test: need-rt need-gcc
 	@docs/check_contracts
 	@docs/check_progress
 	@docs/check_stack
-	@if $(MAKE) --no-print-directory -q build/ci.log; then echo 'proofs and edits: nothing has changed since they passed; make clean to repeat them'; \
-	  else $(MAKE) --no-print-directory build/ci.log; fi
 	@$(MAKE) --no-print-directory host-test replay pop-watch counts programs scripts-test points-test oracle-test differential
-	@tail -n 1 build/ci.log
 
 # Only the papers are quoted. Without them, or python3, it says so, and fails only where CI is true.
 quotes:
@@ -80,14 +80,8 @@ quotes:
 	  elif ! [ -f '$(PAPERS)/01-scope.md' ]; then echo 'no check of the quotations: set PAPERS to the folder that has the papers'; [ "$${CI:-}" != true ]; \
 	  else docs/check_quotes '$(PAPERS)'; fi
 
-# It is there only where `rt ci` has passed.
-build/ci.log: $(CHECKED)
-	@mkdir -p build; rm -f $@
-	@set -o pipefail; rt ci 2>&1 | tee build/ci.part | sed -u '$$d' | docs/progress || { tail -n 1 build/ci.part; exit 1; }
-	@mv build/ci.part $@
-
 prove: need-rt
-	@rt check
+	@rt all check
 
 # ---- the two programs: each as it is proved, and a few lines of shell that make a status of what it tells
 
@@ -95,9 +89,14 @@ CRATE_bench = bench
 CRATE_points = point_lines_program
 build/bench build/points: build/%: $(RATTLE) examples/scripts/bench
 	@mkdir -p build
-	@set -o pipefail; rt check $(CRATE_$*) 2>&1 | tee build/$*.log | grep --line-buffered '^rt:' | docs/progress $(CRATE_$*) || { cat build/$*.log; exit 1; }
-	@cp target/bin/$(CRATE_$*) $@-proved
+	@set -o pipefail; (cd crates/$(CRATE_$*) && rt run < /dev/null) 2>&1 | tee build/$*.log | $(TOLD) | docs/progress $(CRATE_$*) || { cat build/$*.log; exit 1; }
+	@cp crates/$(CRATE_$*)/out/$(CRATE_$*) $@-proved
 	@cp examples/scripts/bench $@
+
+# As `rt ci` has just built them.
+programs-taken:
+	@cp crates/$(CRATE_bench)/out/$(CRATE_bench) build/bench-proved && cp examples/scripts/bench build/bench
+	@cp crates/$(CRATE_points)/out/$(CRATE_points) build/points-proved && cp examples/scripts/bench build/points
 
 bench: need-rt need-script build/bench
 	@build/bench < '$(SCRIPT)'
@@ -135,8 +134,8 @@ lib: build/libmmix.a $(HEADERS)
 build/libmmix.a: $(RATTLE)
 	@$(MAKE) --no-print-directory need-rt
 	@mkdir -p build
-	@set -o pipefail; rt staticlib mmix 2>&1 | tee build/lib.log | grep --line-buffered '^rt:' | docs/progress --one mmix || { cat build/lib.log; exit 1; }
-	@cp target/staticlib/libmmix.a $@
+	@set -o pipefail; (cd crates/mmix_c && rt lib) 2>&1 | tee build/lib.log | $(TOLD) | docs/progress mmix_c || { cat build/lib.log; exit 1; }
+	@cp crates/mmix_c/out/libmmix_c.a $@
 
 # The whole archive: no other object asks for its functions.
 shared: need-gcc build/libmmix.so
@@ -247,9 +246,9 @@ replay-list: oracle
 # WRONG=17 the reply of case 17 is written down wrong, and the check must end with an error at `case-17-agrees`.
 definitions: need-rt
 	$(call HARNESS,build)
-	@mkdir -p target/definitions/crates && rm -rf target/definitions/crates/model && cp -R crates/model target/definitions/crates/
-	$(call RUN,$(ORACLE)/definitions target/definitions $(DEFINED) $(SEED) $(if $(WRONG),--wrong $(WRONG)) && cd target/definitions \
-	  && rt check definitions > definitions.log 2>&1 && grep '^rt:' definitions.log || { grep 'error\|^rt:' definitions.log; exit 1; })
+	$(call RUN,log=$$PWD/build/definitions.log; at=$$(mktemp -d) && trap 'rm -rf "$$at"' EXIT && mkdir $$at/crates && cp -R crates/model $$at/crates/ && rm -rf $$at/crates/model/out \
+	  && $(ORACLE)/definitions $$at $(DEFINED) $(SEED) $(if $(WRONG),--wrong $(WRONG)) && cd $$at/crates/definitions \
+	  && rt check > $$log 2>&1 && grep '^logic=' $$log || { grep 'error\|^rt:\|^logic=' $$log; exit 1; })
 
 # Each number, comparison and the like in the definitions, changed in turn (oracle/definitions/constants.txt has what refuses it).
 constants: need-rt
@@ -267,4 +266,4 @@ speed: oracle
 	$(call RUN,$(ORACLE)/speed && $(ORACLE)/stack_use)
 
 clean:
-	@rm -rf build target
+	@rm -rf build
