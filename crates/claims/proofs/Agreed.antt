@@ -1,5 +1,5 @@
 -- Two memories that agree outside F: a run of one item, and items of one task, that touch nothing of F do the same on both.
-use Rattle.model.proofs.Prelude.{suc, zero, ℕ, ◌+◌, ◌-◌, Bool, cond, false, true, List, [], ◌∷◌, ap, refl, subst, sym, ◌∙◌, ◌≡◌, arith, eqb, replicate}
+use Rattle.model.proofs.Prelude.{suc, zero, ℕ, ◌+◌, Bool, cond, false, true, List, [], ◌∷◌, ap, refl, subst, sym, ◌∙◌, ◌≡◌, arith, eqb, replicate}
 use Rattle.model.proofs.Prelude.{eqb-false, eqb-true, Machine, run_needs_by, step_on, both, Shapes, Windows, Agree, All, Off, more, run_for, Stopped, stopped_by}
 use Rattle.model.proofs.Prelude.{tried, Item, mmix, on, mmix_sound, run_touches, step_agree, touches_of, both_lawful, All_left, All_right, Same, Sound, run_done}
 use Rattle.model.proofs.Prelude.{run_refused}

@@ -1,5 +1,5 @@
 -- What each number of a set leaves of an image's bytes, and of a struct.
-use Rattle.model.proofs.Prelude.{ℕ, ◌<◌, Bool, false, true, List, inl, inr, ◌⊎◌, ⊎_elim, ap, refl, subst, sym, ◌∙◌, ◌≡◌, arith, get_or, Sized}
+use Rattle.model.proofs.Prelude.{ℕ, ◌<◌, Bool, false, true, List, inl, inr, ⊎_elim, ap, refl, subst, sym, ◌∙◌, ◌≡◌, arith, get_or, Sized}
 use Rattle.claims.proofs.Prelude.{State, image_as, is_image, state_of, if_other, of_image, keeps_length, round_trips, SetImage}
 use Rattle.sets.specs.Sets.{Pair, set_says, put_set_of, PutSet}
 use Rattle.sets.specs.SetMeant.{SetLeaves}

@@ -1,5 +1,5 @@
 -- Instances with mmix_tasks: one task, which holds the image of model's `caller 7` and is lent all of B, an instruction a turn. The image is by laws, all else computed.
-use Rattle.model.proofs.Prelude.{suc, zero, ℕ, ◌*◌, ◌+◌, ◌<◌, cond, ◌||◌, List, [], ◌++◌, ◌∷◌, inl, ap, refl, subst, sym, ◌∙◌, ◌≡◌, arith, eqb, length, start}
+use Rattle.model.proofs.Prelude.{suc, zero, ℕ, ◌*◌, ◌<◌, cond, ◌||◌, List, [], ◌++◌, ◌∷◌, inl, ap, refl, subst, sym, ◌∙◌, ◌≡◌, arith, eqb, length, start}
 use Rattle.model.proofs.Prelude.{target_of, indexed, over, tab, within, count_of, framed, hole, last_output, misplaced, no_frame, pop_frame, popped, pop_rule, pop_to}
 use Rattle.model.proofs.Prelude.{pushed, pushed_rule, push_frame, restored, slid, slide, unslide, image_length, old_image_length, needs_of, run_needs_by, runs, step_on}
 use Rattle.model.proofs.Prelude.{bytes_in, operand_in, unit_at, both, has, inside, octa_at, octa_bytes, offset, put_octa, ruled, ruled_one, shape_of, shapes_of, shares}

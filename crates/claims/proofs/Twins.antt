@@ -1,5 +1,5 @@
 -- Two lists that have the same answers: a run that ends alike; and items of one state, which stays admissible or not.
-use Rattle.model.proofs.Prelude.{suc, zero, ℕ, ◌+◌, ◌-◌, Bool, cond, false, true, head-eq_of_cons-eq, List, tail-eq_of_cons-eq, [], ◌++◌, ◌∷◌, ap, refl, subst}
+use Rattle.model.proofs.Prelude.{suc, zero, ℕ, ◌+◌, Bool, cond, false, true, head-eq_of_cons-eq, List, tail-eq_of_cons-eq, [], ◌++◌, ◌∷◌, ap, refl, subst}
 use Rattle.model.proofs.Prelude.{sym, ◌∙◌, ◌≡◌, arith, eqb, length, replicate, eqb-false, eqb-true, Machine, Ran, runs, step_on, both, Shapes, shapes_of, Windows}
 use Rattle.model.proofs.Prelude.{tell, Outcome, admissible, Sized, more, run_for, Stopped, stopped_by, tried, exception, exception_of, fetched, fetched_of, Item}
 use Rattle.model.proofs.Prelude.{item_plan, mmix, step, step_of, on, said_by_law, fetched_inadmissible, items_keep, runs_append, run_done, run_refused, splits}

@@ -1,5 +1,5 @@
 -- A host that holds one state is one with one task: its lists of calls (Calls), and what they asked for, as turns on the whole of B.
-use Rattle.std.specs.Prelude.{ℕ, ◌≡◌, List, [], ◌∷◌}
+use Rattle.std.specs.Prelude.{◌≡◌, List, [], ◌∷◌}
 use Rattle.model.specs.Memory.{Windows}
 use Rattle.model.specs.Invariants.{Bytes}
 use Rattle.claims.specs.OneCall.{Held, HeldFits, Made}

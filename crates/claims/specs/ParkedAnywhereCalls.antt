@@ -1,5 +1,5 @@
 -- Theorem. A parked context of the C functions wherever SAVE and UNSAVE fall among the turns that a list of calls tried.
-use Rattle.std.specs.Prelude.{ℕ, ◌<◌, ◌≡◌, List, [], length, get_or}
+use Rattle.std.specs.Prelude.{◌<◌, ◌≡◌, List, [], length, get_or}
 use Rattle.model.specs.Memory.{Windows}
 use Rattle.model.specs.Invariants.{Bytes}
 use Rattle.task_model.specs.Parked.{ComesBack, UnparksTo}

@@ -1,6 +1,6 @@
 -- What the contracts of the private functions of SAVE and UNSAVE cite: bounds, the context stored, the registers left, octabytes as code
 -- reads them, and the twelve special registers loaded one after another.
-use Rattle.std.specs.Prelude.{ℕ, zero, suc, ◌+◌, ◌*◌, ◌%◌, ◌^◌, ◌≤◌, ◌<◌, ◌≡◌, List, get_or, set}
+use Rattle.std.specs.Prelude.{ℕ, zero, suc, ◌+◌, ◌*◌, ◌%◌, ◌^◌, ◌≤◌, ◌≡◌, List, get_or, set}
 use Rattle.model.specs.Fill.{over, tab}
 use Rattle.model.specs.Memory.{Windows, shapes_of, both}
 use Rattle.model.specs.Plan.{worst, puts}

@@ -1,5 +1,6 @@
 //! TRIP, TRAP and the exceptions entry in place on lent registers (exceptions.rs, system.rs); no window is known here.
 #![tactic(auto)]
+
 ghost use Rattle.std.specs.Prelude.{◌≡◌, ◌&&◌, List, ℕ, ◌/◌, ◌%◌, ◌^◌, ◌<◌, ◌≤◌, eqb};
 ghost use Rattle.std.specs.Int.Bits.{bit_and};
 ghost use Rattle.model.specs.Trips.{interrupted, trip_to, vector_of, leftmost, with_added, raised};

@@ -1,6 +1,6 @@
 -- 01, 'Host': "a state image of 291 octabytes (general, special, PC, halt code, marks)", high byte first. 02: "The image grows at its end to 2,336 bytes; an
 -- old image is read with an empty mask and keeps its length".
-use Rattle.std.specs.Prelude.{ℕ, ◌+◌, ◌<◌, ◌≡◌, Bool, true, cond, ◌&&◌, ◌||◌, List, [], ◌∷◌, ◌++◌, eqb, length, get_or}
+use Rattle.std.specs.Prelude.{ℕ, ◌<◌, ◌≡◌, Bool, true, cond, ◌&&◌, ◌||◌, List, [], ◌∷◌, ◌++◌, eqb, length, get_or}
 use Rattle.model.specs.Octa.{part, value_of}
 use Rattle.model.specs.Kept.{image_length, old_image_length}
 use Rattle.model.specs.Registers.{Sized, Words}

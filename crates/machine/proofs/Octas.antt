@@ -1,6 +1,6 @@
 -- Octabytes of one window, as code reads and writes them, and of any memory. Two windows: BothOctas.
 use Rattle.model.proofs.Prelude.{suc, zero, ℕ, ◌%◌, ◌*◌, ◌+◌, ◌-◌, ◌<◌, ◌^◌, ◌≤◌, Bool, cond, false, true, List, ap, refl, sym, ◌∙◌, ◌≡◌, arith, length}
-use Rattle.model.proofs.Prelude.{leb-true, has, inside, octa_bytes, offset, one, Shape, shape_of, Store, Window, write_octa, bytes_of, octa, part, value_of, written}
+use Rattle.model.proofs.Prelude.{leb-true, has, octa_bytes, offset, one, Shape, shape_of, Store, Window, write_octa, bytes_of, octa, part, value_of, written}
 use Rattle.model.proofs.Prelude.{look, Lawful, one_lawful, length_written, look_mod, octa_mod, further}
 use Rattle.machine.specs.Octas.{read_by, written_by, written_run_by, lent_one, room_in}
 use Rattle.machine.proofs.RunTest.{room_has, room_offset}

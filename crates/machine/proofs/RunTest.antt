@@ -1,5 +1,5 @@
 -- Distances, the room from an address up, and which window holds an octabyte, as code asks for them. Runs: RunRefused.
-use Rattle.model.proofs.Prelude.{suc, zero, ℕ, ◌%◌, ◌*◌, ◌+◌, ◌-◌, ◌/◌, ◌<◌, ◌^◌, ◌≤◌, Bool, cond, false, true, ◌&&◌, ◌||◌, List, ◌≢◌, ◌⊎◌, ⊎_elim, refl, ◌∙◌}
+use Rattle.model.proofs.Prelude.{suc, zero, ℕ, ◌%◌, ◌*◌, ◌+◌, ◌-◌, ◌/◌, ◌<◌, ◌^◌, ◌≤◌, Bool, cond, false, true, ◌&&◌, ◌||◌, List, ◌≢◌, ⊎_elim, refl, ◌∙◌}
 use Rattle.model.proofs.Prelude.{◌≡◌, mod-eq_of_lt, arith, leb, ltb, length, le-leb, le-ltb, leb-false, leb-true, lt-leb, lt-ltb, ltb-true, has, holder, inside}
 use Rattle.model.proofs.Prelude.{offset, Shape, shape_of, Shapes, octa, refusing, and_left, and_right, lt_or_le, offset_next}
 use Rattle.machine.specs.Octas.{lent_one, room_in, held_range}

@@ -1,7 +1,7 @@
 -- Theorem: what is meant by the words of whole numbers.
 use Rattle.model.proofs.Logic.{suc, zero, ℕ, ◌%◌, ◌*◌, ◌+◌, ◌-◌, ◌<◌, ◌^◌, ◌≤◌, true, inl, inr, ◌⊎◌, ⊎_elim, ap, refl, sym, ◌∙◌, ◌≡◌, div-eq_of_lt}
 use Rattle.model.proofs.Logic.{eq-zero-or-pos, lt_of_lt_of_le, mod-lt, mul_assoc, mul-mod_left, zero-mul, arith, nat_abs, negsuc, neg_ℤ, pos, ℤ, +ℤ_comm}
-use Rattle.model.proofs.Logic.{◌*ℤ◌, -ℤ-+ℤ_cancel, ◌+ℤ◌, ◌-ℤ◌, pow-add, pow_mono, split, non_neg, leb-true, lt-ltb, ltb-true}
+use Rattle.model.proofs.Logic.{◌*ℤ◌, -ℤ-+ℤ_cancel, ◌+ℤ◌, pow-add, pow_mono, split, non_neg, leb-true, lt-ltb, ltb-true}
 use Rattle.model.specs.Whole.{signed_of, octa_of, is_signed, product_high, product_low, floor_by, floor_quotient, floor_remainder, power_of}
 use Rattle.model.specs.ArithmeticMeant.{Stands, Shifts, ArithmeticMeant}
 use Rattle.model.proofs.Whole.{by_order, by_sign, signed_low, signed_high, octa_pos, pos_minus_pos, power_near, power_far, octa_times, far, floor_same, floor_negatives, floor_below, floor_above, floor_zero}

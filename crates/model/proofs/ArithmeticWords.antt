@@ -1,5 +1,5 @@
 -- Laws of an operation's results: of octabytes they are octabytes, and at most one flag is raised.
-use Rattle.model.proofs.Logic.{ℕ, ◌%◌, ◌*◌, ◌+◌, ◌-◌, ◌/◌, ◌<◌, ◌^◌, ◌≤◌, inl, inr, refl, subst, div-le_of_le-mul, div-le_self, div-lt_iff_lt-mul}
+use Rattle.model.proofs.Logic.{ℕ, ◌%◌, ◌*◌, ◌+◌, ◌/◌, ◌<◌, ◌^◌, ◌≤◌, inl, inr, refl, subst, div-le_of_le-mul, div-le_self, div-lt_iff_lt-mul}
 use Rattle.model.proofs.Logic.{le_of_lt, mod-lt, mul_comm, mul-le-mul_left, mul-le-mul_right, arith, eqb, leb, negsuc, pos, ℤ, leb-false}
 use Rattle.model.specs.Whole.{octa_of, is_signed, wide_of, product_high, product_low, power_of}
 use Rattle.model.specs.Arithmetic.{flag_d, overflow_of, plain, exact, parted, divided, divided_wide, results_of}

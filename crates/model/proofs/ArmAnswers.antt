@@ -1,6 +1,6 @@
 -- A property R of every answer that an arm's plan may give: its reply, its state, the octabytes that it stores. `Meets` asks R of each state builder.
 -- W is a property of the numbers that a state comes to hold, Read of the octabytes that are read: both may say nothing. The step: StepAnswers.
-use Rattle.model.proofs.Logic.{ℕ, ◌%◌, ◌*◌, ◌+◌, ◌-◌, ◌<◌, ◌^◌, ◌≤◌, Bool, false, true, ◌&&◌, ◌||◌, List, [], ◌∷◌, inl, inr, ◌⊎◌, ⊎_elim, refl, ◌≡◌}
+use Rattle.model.proofs.Logic.{ℕ, ◌%◌, ◌*◌, ◌+◌, ◌<◌, ◌^◌, ◌≤◌, Bool, false, true, ◌&&◌, ◌||◌, List, [], ◌∷◌, inl, inr, ◌⊎◌, ⊎_elim, refl, ◌≡◌}
 use Rattle.model.proofs.Logic.{arith, leading_le, count_leading_zeros, eqb, leb, ltb, get_or, eqb-false, eqb-true, leb-true, ltb-false}
 use Rattle.model.specs.Fill.{tab}
 use Rattle.model.specs.Registers.{r_g, r_l, r_a, sp, reg, hides, goes, following, next, halted, with_special, set_register, put_locals, put_globals}

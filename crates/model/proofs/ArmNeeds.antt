@@ -5,7 +5,7 @@ use Rattle.model.specs.Fill.{tab}
 use Rattle.model.specs.Registers.{r_o, r_g, sp, goes, next, halted}
 use Rattle.model.specs.Memory.{Windows, shapes_of, inside, both}
 use Rattle.model.specs.Plan.{Plan, answer, read, ups, worst, missing, look, looks, needs}
-use Rattle.model.specs.Opcodes.{Width, Sign, go}
+use Rattle.model.specs.Opcodes.{Width, Sign}
 use Rattle.model.specs.NoMemory.{Said, refuse, tell}
 use Rattle.model.specs.Frames.{framed, pushed, push_frame, pop_to, pop_rule, no_frame, misplaced, pop_frame}
 use Rattle.model.specs.Contexts.{extent, saved, saved_state, save_context, below, unsaved, context_rest, context_count, context_at, unsave_context}

@@ -1,12 +1,12 @@
 -- Outside the departures the rules of plans are the plans. Rules has the laws of each rule.
-use Rattle.model.proofs.Logic.{suc, zero, ℕ, ◌+◌, ◌-◌, ◌<◌, ◌≤◌, Bool, false, true, [], ◌∷◌, inl, inr, ◌≢◌, ap, refl, subst, sym, ◌∙◌, ◌≡◌, arith}
+use Rattle.model.proofs.Logic.{suc, zero, ℕ, ◌+◌, ◌<◌, ◌≤◌, Bool, false, true, [], ◌∷◌, inl, inr, ◌≢◌, ap, refl, subst, sym, ◌∙◌, ◌≡◌, arith}
 use Rattle.model.proofs.Logic.{count_leading_zeros, eqb, leb, get_or, eqb-false, eqb-true, le-ltb, leb-true, lt-leb}
 use Rattle.model.specs.Fill.{tab}
 use Rattle.model.specs.Octa.{octa}
 use Rattle.model.specs.Registers.{r_o, r_g, sp, reg, hides, next}
 use Rattle.model.specs.Memory.{Windows, shapes_of, both}
 use Rattle.model.specs.Plan.{Plan, answer, read, Outcome, All, perform, map_plan, map_outcome}
-use Rattle.model.specs.Opcodes.{Width, Sign, Operand, register, immediate, Arm, go, unsave, stack}
+use Rattle.model.specs.Opcodes.{Width, Sign, Operand, register, immediate, Arm, unsave, stack}
 use Rattle.model.specs.NoMemory.{Said, say}
 use Rattle.model.specs.Control.{sum_of, operand_of, is_negative}
 use Rattle.model.specs.Frames.{hole, pop_rule, no_frame, misplaced, pop_frame}

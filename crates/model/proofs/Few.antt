@@ -1,5 +1,5 @@
 -- A step that touches few general registers: what is said, the arms, the theorem. FewStates has the state builders.
-use Rattle.model.proofs.Logic.{ℕ, ◌%◌, ◌+◌, ◌-◌, ◌/◌, ◌<◌, ◌^◌, Bool, false, not, true, true≢false, ◌&&◌, ◌||◌, [], ◌∷◌, refl, subst, sym, ◌≡◌, bit_and}
+use Rattle.model.proofs.Logic.{ℕ, ◌%◌, ◌+◌, ◌/◌, ◌<◌, ◌^◌, Bool, false, not, true, true≢false, ◌&&◌, ◌||◌, [], ◌∷◌, refl, subst, sym, ◌≡◌, bit_and}
 use Rattle.model.proofs.Logic.{eqb, leb, ltb, get_or}
 use Rattle.model.specs.Memory.{Windows, Shapes, shapes_of, both}
 use Rattle.model.specs.Plan.{map_outcome}

@@ -1,5 +1,5 @@
 -- Every step, exception and fetched instruction leaves registers that are octabytes and windows of bytes. The builders: WordsKept.
-use Rattle.model.proofs.Logic.{ℕ, ◌-◌, ◌<◌, ◌^◌, Bool, false, true, refl, ◌≡◌, arith, eqb}
+use Rattle.model.proofs.Logic.{ℕ, ◌<◌, ◌^◌, Bool, false, true, refl, ◌≡◌, arith, eqb}
 use Rattle.model.specs.Registers.{r_b, r_d, r_h, r_bb, r_a, r_r, r_w, r_x, r_y, r_z, r_ww, r_xx, r_yy, r_zz, reg, Words, claim_local}
 use Rattle.model.specs.Memory.{Windows, shapes_of, both}
 use Rattle.model.specs.Plan.{Plan, look}

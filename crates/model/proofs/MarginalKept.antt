@@ -1,5 +1,5 @@
 -- "Registers from r_l to r_g − 1 are marginal; once all zero, they stay zero through every step and every exception."
-use Rattle.model.proofs.Logic.{max, min, ℕ, ◌+◌, ◌-◌, ◌<◌, ◌≤◌, Bool, cond, false, true, ◌&&◌, List, ◌⊎◌, ⊎_elim, refl, ◌∙◌, ◌≡◌, arith, eqb, leb, ltb}
+use Rattle.model.proofs.Logic.{max, min, ℕ, ◌+◌, ◌-◌, ◌<◌, ◌≤◌, Bool, cond, false, true, ◌&&◌, List, ⊎_elim, refl, ◌∙◌, ◌≡◌, arith, eqb, leb, ltb}
 use Rattle.model.proofs.Logic.{length, length-set, get_or-set_other, eqb-false, eqb-true, le-ltb, leb-false, leb-true, lt-ltb, ltb-false, ltb-true}
 use Rattle.model.specs.Fill.{over}
 use Rattle.model.specs.Registers.{r_b, r_j, r_bb, r_o, r_s, r_g, r_l, r_a, r_w, r_x, r_y, r_z, r_ww, r_xx, r_yy, r_zz, sp, reg, following, goes, halted, with_special, cleared, claim_local, stored, set_register, put_locals, put_globals, spilled}

@@ -1,5 +1,5 @@
 -- The laws of a store; that a window has them; that two windows together have them.
-use Rattle.model.proofs.Logic.{ℕ, ◌+◌, ◌-◌, ◌<◌, ◌≤◌, Bool, cond, false, true, ◌≢◌, refl, sym, ◌∙◌, ◌≡◌, dec_le, arith, get_or, length, leb-true}
+use Rattle.model.proofs.Logic.{ℕ, ◌+◌, ◌<◌, ◌≤◌, Bool, cond, false, true, ◌≢◌, refl, sym, ◌∙◌, ◌≡◌, dec_le, arith, get_or, length, leb-true}
 use Rattle.model.specs.Octa.{octa, written, bytes_of}
 use Rattle.model.specs.Memory.{Store, Window, Shape, shape_of, offset, has, octa_bytes, write_octa, one, Windows, Shapes, shapes_of, holder, inside, octa_at, put_octa, both}
 use Rattle.model.proofs.Octa.{part_cong, length_written, written_below, written_above, part_written}

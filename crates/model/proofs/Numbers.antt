@@ -2,7 +2,6 @@
 use Rattle.model.proofs.Logic.{ℕ, ◌<◌, ◌≤◌, cond, true, List, [], ◌∷◌, inl, inr, ◌⊎◌, ap, refl, sym, ◌∙◌, ◌≡◌, arith, eqb, leb, get_or_eq_default}
 use Rattle.model.proofs.Logic.{eqb-false, eqb-true, le-leb, tag_of, has_key, Among}
 use borrow.Enum.Refused.{not_key, opened}
-use types.Run.{miss}
 use Rattle.model.specs.Numbers.{Halting, number_of, in_order, reply_of, RepliesNumbered}
 use Rattle.model.specs.declared.Reply.{Reply}
 use Rattle.model.specs.declared.Reply.TheVariants.{Done, NotAdmissible, WindowRule, NoArm, NamedTrap, NoSpecial, Missing, PutUnknown, PutPrivileged, PutIllegal, PutThreshold, PutStatus, Misplaced, SaveLocal, SavedThreshold, SavedStatus, SavedCount, SyncPrivileged, SyncIllegal, NotLoaded, Trapped, OutOfReach, Shared, Across, NotFetched, GrantTooLarge, StoreTooShort, NoPoint, OtherPoint, NoFrame, TooManyPairs, Hidden, Foreign, TasksRule}

@@ -1,5 +1,5 @@
 -- Laws of bytes: a part of a list, a part written, and that the eight bytes of an octabyte are its value.
-use Rattle.model.proofs.Logic.{suc, zero, ℕ, ◌%◌, ◌*◌, ◌+◌, ◌-◌, ◌/◌, ◌<◌, ◌^◌, ◌≤◌, List, [], ◌∷◌, ap, refl, sym, ◌∙◌, ◌≡◌, arith, get_or, length}
+use Rattle.model.proofs.Logic.{suc, zero, ℕ, ◌%◌, ◌*◌, ◌+◌, ◌/◌, ◌<◌, ◌^◌, ◌≤◌, List, [], ◌∷◌, ap, refl, sym, ◌∙◌, ◌≡◌, arith, get_or, length}
 use Rattle.model.proofs.Logic.{length-set, set, get_or-set_other, get_or-set_same, length-sets, sets}
 use Rattle.model.specs.Octa.{part, written, value_of, bytes_of}
 

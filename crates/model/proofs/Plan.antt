@@ -1,6 +1,6 @@
 -- Laws of plans, by induction over plans: for every step that will ever be added, over any lawful store.
 -- In order: lists of addresses; properties of answers; what a plan touches; equal memories; kept octabytes; the needs; runs of stores; plans under a map.
-use Rattle.model.proofs.Logic.{suc, zero, ℕ, ◌*◌, ◌+◌, ◌-◌, ◌≤◌, Bool, cond, false, true, List, [], ◌++◌, ◌∷◌, ap, refl, subst, sym, ◌∙◌, ◌≡◌}
+use Rattle.model.proofs.Logic.{suc, zero, ℕ, ◌*◌, ◌+◌, ◌≤◌, Bool, cond, false, true, List, [], ◌++◌, ◌∷◌, ap, refl, subst, sym, ◌∙◌, ◌≡◌}
 use Rattle.model.proofs.Logic.{ℕ_discrete, arith, eqb, length, eqb-true}
 use Rattle.model.specs.Octa.{octa}
 use Rattle.model.specs.Memory.{Store}

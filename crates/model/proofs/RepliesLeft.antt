@@ -3,7 +3,7 @@ use Rattle.model.proofs.Logic.{ℕ, true, inl, inr, ◌≢◌, ◌⊎◌, refl, 
 use Rattle.model.specs.Registers.{reg, Sized, admissible, goes, halted, with_special}
 use Rattle.model.specs.Memory.{Windows, shapes_of, put_octa, both}
 use Rattle.model.specs.Plan.{Plan, Outcome, perform, worst, clear, named, look, looks, puts}
-use Rattle.model.specs.Opcodes.{Width, Sign, signed, arm_of, memory}
+use Rattle.model.specs.Opcodes.{Width, Sign, signed, arm_of}
 use Rattle.model.specs.NoMemory.{Said, tell}
 use Rattle.model.specs.Control.{sum_of}
 use Rattle.model.specs.Trips.{interrupted, tripped, word_of, with_added}

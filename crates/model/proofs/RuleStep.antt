@@ -1,9 +1,9 @@
 -- Outside the departures the rule of each arm is its plan, and so Knuth's step is the step. Rules has the laws of each rule.
-use Rattle.model.proofs.Logic.{ℕ, ◌-◌, Bool, cond, false, true, [], ap, refl, sym, ◌≡◌, eqb, set, set-get_or}
+use Rattle.model.proofs.Logic.{ℕ, Bool, cond, false, true, [], ap, refl, sym, ◌≡◌, eqb, set, set-get_or}
 use Rattle.model.specs.Registers.{with_parts, r_o, r_s, sp, admissible, with_special, spilled}
 use Rattle.model.specs.Memory.{Windows, shapes_of, both}
 use Rattle.model.specs.Plan.{Plan, answer, Outcome, perform, map_plan, map_outcome}
-use Rattle.model.specs.Opcodes.{Arm, go, arm_of}
+use Rattle.model.specs.Opcodes.{Arm, arm_of}
 use Rattle.model.specs.Step.{unruled_by, refusing, guarded, from_three, step_plan, step_of}
 use Rattle.model.specs.Rules.{After, goes_on, interrupts}
 use Rattle.model.specs.StepRule.{rule_of, step_rule, spilled_after, spilled_by, settled_rule}

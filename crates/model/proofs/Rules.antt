@@ -7,7 +7,7 @@ use Rattle.model.specs.Octa.{octa}
 use Rattle.model.specs.Registers.{with_parts, r_o, r_g, r_l, stack_start, sp, reg, goes, next, halted, with_special, spilled, cleared, claim_local, is_marginal, MarginalZero}
 use Rattle.model.specs.Memory.{Windows, Shapes, shapes_of, inside, both}
 use Rattle.model.specs.Plan.{Plan, answer, read, Outcome, worst, clear, look, looks, perform, map_plan}
-use Rattle.model.specs.Opcodes.{go, pop, stack}
+use Rattle.model.specs.Opcodes.{pop, stack}
 use Rattle.model.specs.Frames.{hole, framed, framed_rule, pushed, push_frame, unslide, popped, pop_to, pop_rule, count_of, no_frame, misplaced}
 use Rattle.model.specs.Contexts.{below, unsaved_general, unsaved_special, unsaved_unspilled, unsaved, context_rest, context_count, context_at, unsave_context}
 use Rattle.model.specs.System.{got, got_rule}

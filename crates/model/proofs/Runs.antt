@@ -1,5 +1,5 @@
 -- A run of octabytes that is stored, kept and read below: the one fact behind POP after PUSH and UNSAVE after SAVE.
-use Rattle.model.proofs.Logic.{suc, zero, ℕ, ◌%◌, ◌*◌, ◌+◌, ◌-◌, ◌/◌, ◌<◌, ◌^◌, ◌≤◌, List, [], ◌∷◌, ◌≢◌, ap, refl, sym, ◌∙◌, ◌≡◌, dec_le, zero-add, arith}
+use Rattle.model.proofs.Logic.{suc, zero, ℕ, ◌%◌, ◌*◌, ◌+◌, ◌/◌, ◌<◌, ◌^◌, ◌≤◌, List, [], ◌∷◌, ◌≢◌, ap, refl, sym, ◌∙◌, ◌≡◌, dec_le, zero-add, arith}
 use Rattle.model.proofs.Logic.{eqb, get_or, length, eq-eqb, eqb-true}
 use Rattle.model.specs.Fill.{tab}
 use Rattle.model.specs.Octa.{octa, value_of, bytes_of}

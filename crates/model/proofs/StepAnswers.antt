@@ -1,10 +1,10 @@
 -- What a step and an exception answer, from what their arm's plan does: what 1 to 5 refuse, and what a plan comes to when it is performed. The arms: ArmAnswers.
-use Rattle.model.proofs.Logic.{max, suc, zero, ℕ, ◌+◌, ◌-◌, ◌<◌, ◌^◌, ◌≤◌, Bool, cond, false, true, List, [], inl, inr, ◌≢◌, ◌⊎◌, ⊎_elim, ap, refl, ◌∙◌}
+use Rattle.model.proofs.Logic.{max, suc, zero, ℕ, ◌+◌, ◌<◌, ◌^◌, ◌≤◌, Bool, cond, false, true, List, [], inl, inr, ◌≢◌, ◌⊎◌, ⊎_elim, ap, refl, ◌∙◌}
 use Rattle.model.proofs.Logic.{◌≡◌, arith, eqb, length, eqb-false, eqb-true}
 use Rattle.model.specs.Registers.{admissible}
 use Rattle.model.specs.Memory.{Windows, Shapes, shapes_of, ruled, shares, inside, both}
 use Rattle.model.specs.Plan.{Plan, answer, read, Outcome, perform, worst, clear, looks, puts, named}
-use Rattle.model.specs.Opcodes.{Arm, arm_of, memory}
+use Rattle.model.specs.Opcodes.{Arm, arm_of}
 use Rattle.model.specs.Row.{Refusal, begins, no_arm, named_trap, no_special, refusal_number, Row, quiet, touching, refusal_in}
 use Rattle.model.specs.Rows.{row_of}
 use Rattle.model.specs.NoMemory.{say, Said, tell}

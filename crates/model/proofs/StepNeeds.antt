@@ -4,7 +4,7 @@ use Rattle.model.specs.Fill.{tab}
 use Rattle.model.specs.Registers.{r_o, r_g, r_l, sp, admissible, goes, next, claim_local}
 use Rattle.model.specs.Memory.{Windows, shapes_of, inside, both}
 use Rattle.model.specs.Plan.{Plan, answer, read, Outcome, perform, ups, worst, clear, missing, looks, needs}
-use Rattle.model.specs.Opcodes.{forward, backward, register, immediate, go, arm_of}
+use Rattle.model.specs.Opcodes.{forward, backward, register, immediate, arm_of}
 use Rattle.model.specs.NoMemory.{Said, say, refuse, tell}
 use Rattle.model.specs.Control.{near, sum_of}
 use Rattle.model.specs.Frames.{hole, framed, pushed, push_frame}

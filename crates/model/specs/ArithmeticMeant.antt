@@ -1,6 +1,6 @@
 -- Theorem. What is meant by the words of Whole.antt: division rounds down, octabytes stand for signed numbers, halves make up a product, and a shift by 64 is
 -- one by any count above.
-use Rattle.std.specs.Prelude.{◌≡◌, ℕ, ◌+◌, ◌*◌, ◌/◌, ◌^◌, ◌<◌, true, ◌⊎◌, ℤ, pos, ◌+ℤ◌, ◌-ℤ◌, ◌*ℤ◌, unsigned_abs}
+use Rattle.std.specs.Prelude.{◌≡◌, ℕ, ◌*◌, ◌/◌, ◌^◌, ◌<◌, true, ◌⊎◌, ℤ, pos, ◌+ℤ◌, ◌-ℤ◌, ◌*ℤ◌, unsigned_abs}
 use Rattle.std.specs.Int.Signed.{non_neg}
 use Rattle.model.specs.Control.{is_negative}
 use Rattle.model.specs.Whole.{signed_of, octa_of, is_signed, wide_of, product_high, product_low, floor_by, floor_quotient, floor_remainder, power_of}

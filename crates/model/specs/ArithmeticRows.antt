@@ -1,8 +1,8 @@
 -- Whole-number arithmetic: one family for all operations. Arithmetic has what each operation leaves.
-use Rattle.std.specs.Prelude.{ℕ, List, ◌++◌}
+use Rattle.std.specs.Prelude.{ℕ, ◌++◌}
 use Rattle.model.specs.Plan.{Plan}
 use Rattle.model.specs.Opcodes.{Operand}
-use Rattle.model.specs.NoMemory.{Said, tell}
+use Rattle.model.specs.NoMemory.{tell}
 use Rattle.model.specs.Control.{operand_of}
 use Rattle.model.specs.Trips.{word_of}
 use Rattle.model.specs.ArithmeticStep.{results_in, with_results, arithmetic_says}

@@ -7,7 +7,6 @@ use Rattle.model.specs.NoMemory.{Said, say}
 use Rattle.model.specs.Control.{near, far, sum_of, holds}
 use Rattle.model.specs.Rules.{After, read_rule, sum_rule, done}
 use Rattle.model.specs.Row.{Of, Row, plain, sum_read}
-use Rattle.model.specs.declared.State.{State}
 
 abbrev pub control_says : ControlArm → Of Said
 control_says (branch c d) s op x y z = say 0 (cond (holds c (reg s x)) (goes s (near s d y z)) (next s))

@@ -1,7 +1,7 @@
 -- Theorem 8, "recorded differences apart": where the steps depart from Knuth's rules, step and rule are equal outside the condition that is
 -- named with each departure; and so, outside them all, is the whole step, the fetched instruction, and the whole exception.
 -- docs/DIFFERENCES.md has the smallest example of each; DepartureExamples computes them.
-use Rattle.std.specs.Prelude.{◌≡◌, ℕ, ◌+◌, ◌-◌, ◌/◌, ◌%◌, ◌^◌, Bool, true, false, cond, ◌&&◌, ◌≢◌, ◌==◌, nat_eq, nat_le, nat_lt}
+use Rattle.std.specs.Prelude.{◌≡◌, ℕ, ◌+◌, ◌/◌, ◌%◌, ◌^◌, Bool, true, false, cond, ◌&&◌, ◌≢◌, ◌==◌, nat_eq, nat_le, nat_lt}
 use Rattle.std.specs.Int.Count.{count_leading_zeros}
 use Rattle.model.specs.Octa.{octa}
 use Rattle.model.specs.Registers.{with_parts, r_c, r_o, r_s, r_i, r_u, r_g, r_l, r_k, sp, reg, hides, Sized, Words, MarginalZero, is_marginal, spilled}

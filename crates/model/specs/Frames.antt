@@ -3,7 +3,7 @@
 use Rattle.std.specs.Prelude.{ℕ, ◌+◌, ◌-◌, ◌*◌, ◌%◌, ◌^◌, min, Bool, cond, not, ◌&&◌, List, [], ◌==◌, nat_le, nat_lt, slice_index, slice_set}
 use Rattle.model.specs.Fill.{over, tab}
 use Rattle.model.specs.Plan.{Plan, answer, read}
-use Rattle.model.specs.NoMemory.{say, refuse, tell}
+use Rattle.model.specs.NoMemory.{refuse, tell}
 use Rattle.model.specs.Registers.{with_parts, r_j, r_o, r_g, r_l, stack_start, sp, reg, following, goes, with_special, claim_local, spilled}
 use Rattle.model.specs.declared.State.{State}
 

@@ -1,6 +1,6 @@
 -- What an arm is: a row. Of one that touches no memory, what it says; of one that does, its plan and what it needs; of each, what refuses it before it
 -- is begun, Knuth's rule, the registers that it reads, the flags that it raises. Rows has the row of each arm, the families' files the rows.
-use Rattle.std.specs.Prelude.{ℕ, Bool, true, false, cond, List, [], ◌∷◌, ◌==◌}
+use Rattle.std.specs.Prelude.{ℕ, Bool, false, cond, List, [], ◌∷◌, ◌==◌}
 use Rattle.model.specs.Memory.{Windows}
 use Rattle.model.specs.Plan.{Plan}
 use Rattle.model.specs.Registers.{next}

@@ -1,5 +1,5 @@
 -- Theorem 4. What a step needs, arm by arm, as 01 says it; and that bytes which an arm does not use are not looked at.
-use Rattle.std.specs.Prelude.{◌≡◌, ℕ, ◌+◌, ◌-◌, cond, ◌&&◌, List, [], ◌∷◌, ◌==◌}
+use Rattle.std.specs.Prelude.{◌≡◌, ℕ, ◌+◌, cond, ◌&&◌, List, [], ◌∷◌, ◌==◌}
 use Rattle.model.specs.Memory.{Windows, shapes_of, inside, both}
 use Rattle.model.specs.Plan.{ups}
 use Rattle.model.specs.Lists.{needs_of}

@@ -9,7 +9,6 @@ use Rattle.model.specs.System.{put_refusal, put_state, put_special, get_special,
 use Rattle.model.specs.Trips.{word_of, trip_to, trap_of, trip_rule, trap_rule}
 use Rattle.model.specs.Rules.{After, read_rule, operand_rule, going, done, interrupt}
 use Rattle.model.specs.Row.{Refusal, begins, no_arm, named_trap, no_special, Of, Row, Plain, plain, refusable, operand_read_law}
-use Rattle.model.specs.declared.State.{State}
 
 -- the Y that `TrapCode::from_u8` names
 abbrev pub is_named : ℕ → Bool

@@ -1,6 +1,6 @@
 -- 01, 'Steps', exceptions, TRIP and TRAP (exceptions.rs, `raise_exceptions`, `trip`; system.rs, `halt_unsimulated_trap`).
 -- Knuth: mmix-doc, 'Trips and traps'.
-use Rattle.std.specs.Prelude.{ℕ, ◌+◌, ◌-◌, ◌*◌, ◌/◌, ◌%◌, ◌^◌, Bool, cond, ◌&&◌, set, ◌==◌, bit_and, bit_or, slice_set}
+use Rattle.std.specs.Prelude.{ℕ, ◌+◌, ◌-◌, ◌*◌, ◌/◌, ◌%◌, ◌^◌, Bool, cond, ◌&&◌, ◌==◌, bit_and, bit_or, slice_set}
 use Rattle.std.specs.Int.Count.{count_leading_zeros}
 use Rattle.model.specs.NoMemory.{Said, say, refuse}
 use Rattle.model.specs.Registers.{with_parts, r_b, r_j, r_bb, r_k, r_t, r_a, r_w, r_x, r_y, r_z, r_ww, r_xx, r_yy, r_zz, sp, reg, following, goes, next, with_special}

@@ -1,5 +1,5 @@
 -- What take and go_back answer, from what their tests tell.
-use Rattle.model.proofs.Prelude.{ℕ, ◌%◌, ◌*◌, ◌+◌, ◌<◌, ◌^◌, ◌≤◌, Bool, false, true, ◌&&◌, List, ◌++◌, ⊎_elim, ap, refl, sym, ◌∙◌, ◌≡◌, arith, eqb, ltb, drop}
+use Rattle.model.proofs.Prelude.{ℕ, ◌%◌, ◌*◌, ◌<◌, ◌^◌, ◌≤◌, Bool, false, true, ◌&&◌, List, ◌++◌, ⊎_elim, ap, refl, sym, ◌∙◌, ◌≡◌, arith, eqb, ltb, drop}
 use Rattle.model.proofs.Prelude.{length, take, eq-eqb, eqb-true, le-ltb, leb-true, lt-ltb, ne_eqb, at_length, full, image_length, octas_in, Point, point_count}
 use Rattle.model.proofs.Prelude.{PointFits, point_in, ruled, ruled_one, Shape, shape_of, Shapes, shapes_of, window_max, part, written, admissible, unruled_by, Ruled}
 use Rattle.model.proofs.Prelude.{ruled_a, ruled_b, and_left, and_right, unruled_is, unruled_none, length_part, part_lent, part_within, written_lent}

@@ -1,5 +1,5 @@
 -- Lists of calls: what was taken last is given back.
-use Rattle.model.proofs.Prelude.{ℕ, ◌+◌, ◌/◌, ◌<◌, ◌≤◌, Bool, cond, false, true, ◌&&◌, List, [], ◌++◌, ◌∷◌, ⊎_elim, ap, refl, sym, ◌∙◌, ◌≡◌, arith, eqb, ltb}
+use Rattle.model.proofs.Prelude.{ℕ, ◌/◌, ◌<◌, ◌≤◌, Bool, cond, false, true, ◌&&◌, List, [], ◌++◌, ◌∷◌, ⊎_elim, ap, refl, sym, ◌∙◌, ◌≡◌, arith, eqb, ltb}
 use Rattle.model.proofs.Prelude.{get_or, length, eq-eqb, eqb-false, eqb-true, ltb-false, ltb-true, at_length, full, image_length, octas_in, old_image_length, Point}
 use Rattle.model.proofs.Prelude.{point_count, PointFits, point_in, shape_of, shapes_of, admissible, unruled_by, and_right, on, at_own, part_within}
 use Rattle.model.specs.declared.State.{State}

@@ -3,7 +3,7 @@ use Rattle.std.specs.Prelude.{ℕ, ◌+◌, ◌≤◌, ◌<◌, ◌≡◌, true,
 use Rattle.model.specs.Memory.{window_max}
 use Rattle.model.specs.Kept.{point_count, image_length, Point, at_length}
 use Rattle.image.specs.Image.{is_image, has_room, state_of}
-use Rattle.points.specs.Store.{a_at, b_at, room_length, store_length, filled, room_of, Took, GoneBack}
+use Rattle.points.specs.Store.{a_at, b_at, store_length, filled, room_of, Took, GoneBack}
 
 -- ---- one call
 

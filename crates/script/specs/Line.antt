@@ -1,6 +1,6 @@
 -- What a line of a script says. 01: "one bracketed form a line"; "Numbers in and out are lower-case hexadecimal, no leading zeros";
 -- "Spacing is as shown"; "a bad line, or a number too wide for its field".
-use Rattle.std.specs.Prelude.{ℕ, ◌-◌, ◌<◌, ◌^◌, ◌≡◌, Bool, false, cond, ◌&&◌, ◌||◌, not, List, [], ◌∷◌, leb, ltb, eqb, length, get_or, drop}
+use Rattle.std.specs.Prelude.{ℕ, ◌<◌, ◌^◌, ◌≡◌, Bool, false, cond, ◌&&◌, ◌||◌, not, List, [], ◌∷◌, leb, ltb, eqb, length, get_or, drop}
 use Rattle.std.proofs.Math.Option.{Option, none, some}
 use Rattle.text.specs.Digits.{digit_of, number_of}
 use Rattle.text.specs.Codes.{codes}

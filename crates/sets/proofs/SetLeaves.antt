@@ -1,5 +1,5 @@
 -- What each number of a set leaves, that no mask moves it, and what every set keeps.
-use Rattle.model.proofs.Prelude.{suc, ℕ, ◌+◌, ◌<◌, ◌^◌, ◌≤◌, true, List, [], ◌∷◌, inl, inr, ◌≢◌, ◌⊎◌, ⊎_elim, ap, refl, ◌∙◌, ◌≡◌, arith, eqb, ltb, length}
+use Rattle.model.proofs.Prelude.{suc, ℕ, ◌+◌, ◌<◌, ◌^◌, ◌≤◌, true, List, [], ◌∷◌, inl, inr, ◌≢◌, ⊎_elim, ap, refl, ◌∙◌, ◌≡◌, arith, eqb, ltb, length}
 use Rattle.model.proofs.Prelude.{eqb-false, eqb-true, admissible, cleared, halted, MarginalZero, masked, put_globals, put_locals, r_g, r_l, Sized, sp, with_special}
 use Rattle.model.proofs.Prelude.{Words, put_refusal, put_state, adm_of, Good, put_bound, put_global, Range, on, on_both, good_keeps, Keeps, globals_words}
 use Rattle.model.proofs.Prelude.{halted_words, locals_words, special_words}

@@ -1,5 +1,5 @@
 -- A call and its POP anywhere in a list of turns: the call is DemandCore's of task c on its part, the POP that of task c on another; two runs are Demand3Tasks.
-use Rattle.model.proofs.Prelude.{ℕ, ◌*◌, ◌+◌, ◌<◌, List, [], ◌⊎◌, ⊎_elim, ap, subst, sym, ◌∙◌, ◌≡◌, get_or, length, get_or-set_same, Alike, AtPop, Call, opcode_of}
+use Rattle.model.proofs.Prelude.{ℕ, ◌*◌, ◌+◌, ◌<◌, List, [], ⊎_elim, ap, subst, sym, ◌∙◌, ◌≡◌, get_or, length, get_or-set_same, Alike, AtPop, Call, opcode_of}
 use Rattle.model.proofs.Prelude.{SameOutside, Within, hole, run_needs_by, runs, both, Shapes, shapes_of, Windows, Agree, All, Off, Outcome, worst, fresh, r_o}
 use Rattle.model.proofs.Prelude.{Sized, sp, Words, Item, opcode_in, tetra_of, unruled_by, x_in, by_fetch, by_step, item_by, NamesBy, Way, x_by, adm, Good, agree_of}
 use Rattle.model.proofs.Prelude.{hole_alike, back_core, called_by, narrow, tetra_alike, runs_kept, run_touches, run_touches_agree, both_lawful, All_of, called}

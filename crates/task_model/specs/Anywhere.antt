@@ -1,11 +1,11 @@
 -- Theorem. Demand 3 wherever in a list of turns the call and its POP stand: of turns cut into those before a call of task c, the call, a list, a POP of task c
 -- and the rest. Call and POP are by step or fetched, each on a part of its own.
-use Rattle.std.specs.Prelude.{ℕ, suc, ◌+◌, ◌*◌, ◌<◌, ◌≡◌, ◌⊎◌, List, ◌∷◌, ◌++◌, length, get_or}
+use Rattle.std.specs.Prelude.{ℕ, ◌+◌, ◌*◌, ◌<◌, ◌≡◌, ◌⊎◌, List, ◌∷◌, ◌++◌, length, get_or}
 use Rattle.model.specs.Memory.{Windows, shapes_of, both}
 use Rattle.model.specs.Opcodes.{op_pop}
 use Rattle.model.specs.Plan.{Outcome, All, Off}
 use Rattle.model.specs.Lists.{Ran, step_on, runs, run_needs_by}
-use Rattle.model.specs.Registers.{r_o, sp, reg, Sized, Words, claim_local}
+use Rattle.model.specs.Registers.{r_o, sp, Sized, Words, claim_local}
 use Rattle.model.specs.Frames.{hole}
 use Rattle.model.specs.Split.{Splits}
 use Rattle.model.specs.Ways.{Way, by_step, by_fetch, item_by, NamesBy, x_by}

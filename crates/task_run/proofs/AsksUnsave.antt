@@ -7,7 +7,6 @@ use Rattle.machine.proofs.BothOctas.{read_mod}
 use Rattle.task_run.specs.Ask.{own_of, whole_of, is_foreign, asks, OwnOnly}
 use Rattle.task_run.specs.declared.ask.Whole.{Whole}
 use Rattle.task_run.proofs.Asks.{asks_last, one_foreign, one_missing, one_there}
-use Rattle.contexts.specs.declared.layout.Layout.TheVariants as layout
 
 module _ (h : Whole) (w : Windows) (o : OwnOnly h w) (p : ℕ) (r : Bool) (e : r ≡ is_foreign h p) where
   pub unsave_foreign : r ≡ true → true ≡ asks h (unsave_needs w p)

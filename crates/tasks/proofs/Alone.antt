@@ -1,5 +1,5 @@
 -- What every instruction keeps, a task's run keeps: its instructions are as on all of B, or 32 leaves everything. And a run that nothing refuses whole.
-use Rattle.model.proofs.Prelude.{ℕ, ◌≤◌, true, ◌⊎◌, ⊎_elim, ap, subst, sym, ◌∙◌, ◌≡◌, le-ltb, Bytes, Fits, step_on, both, Shapes, shapes_of, Windows, Outcome}
+use Rattle.model.proofs.Prelude.{ℕ, ◌≤◌, true, ⊎_elim, ap, subst, sym, ◌∙◌, ◌≡◌, le-ltb, Bytes, Fits, step_on, both, Shapes, shapes_of, Windows, Outcome}
 use Rattle.model.proofs.Prelude.{admissible, Sized, Words, grant_most, run_for, Stopped, fetched, mmix, unruled_by, items_keep, run_by, fetched_on, fetched_shapes}
 use Rattle.tasks.proofs.Prelude.{State, part_ruled, mmix_in, Own, run_in_law}
 use Rattle.task_model.proofs.Foreign.{foreign_meant}

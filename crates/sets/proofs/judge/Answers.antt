@@ -1,4 +1,4 @@
-use Rattle.model.proofs.Prelude.{◌-◌, ap, refl, ◌∙◌, arith, reply_of}
+use Rattle.model.proofs.Prelude.{ap, refl, ◌∙◌, arith, reply_of}
 use Rattle.sets.specs.Judged.{judge_pairs}
 use Rattle.sets.proofs.Pairs.{pairs_next, pairs_end, judged_at, judge_on, judge_stops, judge_none, told}
 use Rattle.sets.proofs.judge.Goals as goal

@@ -1,4 +1,4 @@
-use Rattle.model.proofs.Prelude.{◌-◌, ap, refl, sym, ◌∙◌, arith}
+use Rattle.model.proofs.Prelude.{ap, refl, sym, ◌∙◌, arith}
 use Rattle.sets.specs.Judged.{put_all}
 use Rattle.sets.proofs.Pairs.{pairs_next, pairs_end, put_next, put_none}
 use Rattle.sets.proofs.put_all.Goals as goal

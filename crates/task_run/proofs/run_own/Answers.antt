@@ -7,27 +7,26 @@ use Rattle.task_run.proofs.run_own.Goals as goal
 
 pub returns-then-not-is_lost : goal.returns-then-not-is_lost
 returns-then-not-is_lost c =
-    told_found _ _ _ _ ((record { generals = c.counted.ensures.0; specials = c.counted.ensures.1 })) c.requires.0 c.requires.1 c.requires.2 _ _ (made _ _ _ _ _ _) (lent _ _ _) c.run-number.ensures
+    told_found _ _ _ _ (record { generals = c.counted.ensures.0; specials = c.counted.ensures.1 }) c.requires.0 c.requires.1 c.requires.2 _ _ (made _ _ _ _ _ _) (lent _ _ _) c.run-number.ensures
     (denied _ _ c.is_lost.ensures (ap not c.if-not-is_lost.true))
 
 pub asks_foreign-requires : goal.asks_foreign-requires
-asks_foreign-requires c =
-    (
-      end_counted _ _ _ _ ((record { generals = c.counted.ensures.0; specials = c.counted.ensures.1 })) c.requires.0 c.requires.1 c.requires.2 _ _ (made _ _ _ _ _ _) (lent _ _ _) c.run-number.ensures,
-      end_own _ _ _ _ ((record { generals = c.counted.ensures.0; specials = c.counted.ensures.1 })) c.requires.0 c.requires.1 c.requires.2 _ _ (made _ _ _ _ _ _) (lent _ _ _) c.run-number.ensures,
-      end_fine _ _ _ _ ((record { generals = c.counted.ensures.0; specials = c.counted.ensures.1 })) c.requires.0 c.requires.1 c.requires.2 _ _ (made _ _ _ _ _ _) (lent _ _ _) c.run-number.ensures,
-    )
+asks_foreign-requires c = (
+  end_counted _ _ _ _ (record { generals = c.counted.ensures.0; specials = c.counted.ensures.1 }) c.requires.0 c.requires.1 c.requires.2 _ _ (made _ _ _ _ _ _) (lent _ _ _) c.run-number.ensures,
+  end_own _ _ _ _ (record { generals = c.counted.ensures.0; specials = c.counted.ensures.1 }) c.requires.0 c.requires.1 c.requires.2 _ _ (made _ _ _ _ _ _) (lent _ _ _) c.run-number.ensures,
+  end_fine _ _ _ _ (record { generals = c.counted.ensures.0; specials = c.counted.ensures.1 }) c.requires.0 c.requires.1 c.requires.2 _ _ (made _ _ _ _ _ _) (lent _ _ _) c.run-number.ensures,
+)
 
 pub returns-then-asks_foreign : goal.returns-then-asks_foreign
 returns-then-asks_foreign c =
-    told_foreign _ _ _ _ ((record { generals = c.counted.ensures.0; specials = c.counted.ensures.1 })) c.requires.0 c.requires.1 c.requires.2 _ _ (made _ _ _ _ _ _) (lent _ _ _) c.run-number.ensures
+    told_foreign _ _ _ _ (record { generals = c.counted.ensures.0; specials = c.counted.ensures.1 }) c.requires.0 c.requires.1 c.requires.2 _ _ (made _ _ _ _ _ _) (lent _ _ _) c.run-number.ensures
     (granted _ _ c.is_lost.ensures (ap not c.if-not-is_lost.false)) _
     (c.asks_foreign.ensures _ _ _
-    (end_admissible _ _ _ _ ((record { generals = c.counted.ensures.0; specials = c.counted.ensures.1 })) c.requires.0 c.requires.1 c.requires.2 _ _ (made _ _ _ _ _ _) (lent _ _ _) c.run-number.ensures)) c.if-asks_foreign.true
+    (end_admissible _ _ _ _ (record { generals = c.counted.ensures.0; specials = c.counted.ensures.1 }) c.requires.0 c.requires.1 c.requires.2 _ _ (made _ _ _ _ _ _) (lent _ _ _) c.run-number.ensures)) c.if-asks_foreign.true
 
 pub returns : goal.returns
 returns c =
-    told_lost _ _ _ _ ((record { generals = c.counted.ensures.0; specials = c.counted.ensures.1 })) c.requires.0 c.requires.1 c.requires.2 _ _ (made _ _ _ _ _ _) (lent _ _ _) c.run-number.ensures
+    told_lost _ _ _ _ (record { generals = c.counted.ensures.0; specials = c.counted.ensures.1 }) c.requires.0 c.requires.1 c.requires.2 _ _ (made _ _ _ _ _ _) (lent _ _ _) c.run-number.ensures
     (granted _ _ c.is_lost.ensures (ap not c.if-not-is_lost.false)) _
     (c.asks_foreign.ensures _ _ _
-    (end_admissible _ _ _ _ ((record { generals = c.counted.ensures.0; specials = c.counted.ensures.1 })) c.requires.0 c.requires.1 c.requires.2 _ _ (made _ _ _ _ _ _) (lent _ _ _) c.run-number.ensures)) c.if-asks_foreign.false
+    (end_admissible _ _ _ _ (record { generals = c.counted.ensures.0; specials = c.counted.ensures.1 }) c.requires.0 c.requires.1 c.requires.2 _ _ (made _ _ _ _ _ _) (lent _ _ _) c.run-number.ensures)) c.if-asks_foreign.false

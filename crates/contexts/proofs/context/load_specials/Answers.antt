@@ -1,4 +1,4 @@
-use Rattle.model.proofs.Prelude.{◌-◌, ap, refl, ◌∙◌, ◌≡◌, arith}
+use Rattle.model.proofs.Prelude.{ap, refl, ◌∙◌, ◌≡◌, arith}
 use Rattle.contexts.proofs.Prelude.{read_octa}
 use Rattle.contexts.specs.ContextWork.{loaded}
 use Rattle.contexts.proofs.UnsaveLoads.{loaded_more}
@@ -19,7 +19,7 @@ loop-i-preserved c = (
   omega arith,
   loaded_more _ _ _ _ _ _ c.loop-i.invariant.1 c.save_special-k.ensures.0
       (c.read_octa-octa.ensures.0 ∙ ap (read_octa _) c.wrapping_add-place.ensures),
-    )
+)
 
 pub returns : goal.returns
 returns c =

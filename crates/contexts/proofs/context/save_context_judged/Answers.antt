@@ -1,7 +1,7 @@
 -- `save_context_judged` meets its contract: each way out is one of the plan: 1, 13, 6, done.
 use Rattle.model.proofs.Prelude.{not}
 use Rattle.model.proofs.Prelude.{ap}
-use Rattle.model.proofs.Prelude.{true, ◌∙◌, arith, admissible, halted, denied, granted}
+use Rattle.model.proofs.Prelude.{◌∙◌, arith, halted, denied, granted}
 use Rattle.contexts.proofs.Prelude.{missing_by}
 use Rattle.contexts.specs.ContextWork.{Ranged}
 use Rattle.contexts.proofs.SaveStores.{departed}
@@ -13,26 +13,26 @@ returns-then-not-admissible c = λ pc. save_state _ _ _ (denied _ _ (c.admissibl
 
 pub returns-then-named-rg : goal.returns-then-named-rg
 unfolding halted
-returns-then-named-rg c = λ pc. save_local _ _ _ ((granted _ _ (c.admissible.ensures c.args.general.now pc _) (ap not c.if-not-admissible.false))) c.if-named-rg.true
+returns-then-named-rg c = λ pc. save_local _ _ _ (granted _ _ (c.admissible.ensures c.args.general.now pc _) (ap not c.if-not-admissible.false)) c.if-named-rg.true
 
 pub overflow_add-rl : goal.overflow_add-rl
-overflow_add-rl c = let e : Ranged c.args.special.now = ranged _ _ 0 0 _ _ ((granted _ _ (c.admissible.ensures c.args.general.now 0 0) (ap not c.if-not-admissible.false))) in omega arith
+overflow_add-rl c = let e : Ranged c.args.special.now = ranged _ _ 0 0 _ _ (granted _ _ (c.admissible.ensures c.args.general.now 0 0) (ap not c.if-not-admissible.false)) in omega arith
 
 pub returns-then-number-ne0 : goal.returns-then-number-ne0
 returns-then-number-ne0 c =
     λ pc.
     let run = c.run_refusal-number in
-    save_missing _ _ _ ((granted _ _ (c.admissible.ensures c.args.general.now pc _) (ap not c.if-not-admissible.false))) c.if-named-rg.false (λ z. c.if-number-ne0.true (run.ensures ∙ z)) _ (missing_by _ _ _ _ run.ensures c.if-number-ne0.true _ c.reply_of.ensures)
+    save_missing _ _ _ (granted _ _ (c.admissible.ensures c.args.general.now pc _) (ap not c.if-not-admissible.false)) c.if-named-rg.false (λ z. c.if-number-ne0.true (run.ensures ∙ z)) _ (missing_by _ _ _ _ run.ensures c.if-number-ne0.true _ c.reply_of.ensures)
 
 pub put_away-requires : goal.put_away-requires
-put_away-requires c = (ranged _ _ 0 0 _ _ ((granted _ _ (c.admissible.ensures c.args.general.now 0 0) (ap not c.if-not-admissible.false))))
+put_away-requires c = (ranged _ _ 0 0 _ _ (granted _ _ (c.admissible.ensures c.args.general.now 0 0) (ap not c.if-not-admissible.false)))
 
 pub depart-requires : goal.depart-requires
-depart-requires c = (ranged _ _ 0 0 _ _ ((granted _ _ (c.admissible.ensures c.args.general.now 0 0) (ap not c.if-not-admissible.false))))
+depart-requires c = (ranged _ _ 0 0 _ _ (granted _ _ (c.admissible.ensures c.args.general.now 0 0) (ap not c.if-not-admissible.false)))
 
 pub returns : goal.returns
 returns c =
     λ pc.
     let stored = c.put_away.ensures in
-    save_done _ _ _ ((granted _ _ (c.admissible.ensures c.args.general.now pc _) (ap not c.if-not-admissible.false))) c.if-named-rg.false (omega (arith, c.run_refusal-number.ensures, c.if-number-ne0.false)) _ _
+    save_done _ _ _ (granted _ _ (c.admissible.ensures c.args.general.now pc _) (ap not c.if-not-admissible.false)) c.if-named-rg.false (omega (arith, c.run_refusal-number.ensures, c.if-number-ne0.false)) _ _
     (departed _ _ _ _ _ c.counted.ensures.1 stored.1 c.depart.ensures pc _ _ _) stored.0

@@ -11,9 +11,9 @@ returns-then-number-ne0 c =
     (missing_by _ _ _ _ run.ensures c.if-number-ne0.true _ c.reply_of.ensures)
 
 pub returns-then-rg-count : goal.returns-then-rg-count
-returns-then-rg-count c = layout_excess _ _ _ _ c.wrapping_sub-marker.ensures _ ((sym c.run_refusal-number.ensures ∙ c.if-number-ne0.false)) c.read_octa-octa.ensures.0 c.if-rg-count.true
+returns-then-rg-count c = layout_excess _ _ _ _ c.wrapping_sub-marker.ensures _ (sym c.run_refusal-number.ensures ∙ c.if-number-ne0.false) c.read_octa-octa.ensures.0 c.if-rg-count.true
 
 pub returns : goal.returns
 returns c =
-    layout_found _ _ _ _ c.wrapping_sub-marker.ensures _ ((sym c.run_refusal-number.ensures ∙ c.if-number-ne0.false)) c.read_octa-octa.ensures.0 _
+    layout_found _ _ _ _ c.wrapping_sub-marker.ensures _ (sym c.run_refusal-number.ensures ∙ c.if-number-ne0.false) c.read_octa-octa.ensures.0 _
     c.if-rg-count.false c.wrapping_sub-locals_base.ensures

@@ -19,14 +19,14 @@ overflow_sub-octas c =
 
 pub held_part-requires : goal.held_part-requires
 held_part-requires c =
-    let l = context_lent _ _ ((sym c.windows_refusal-refusal.ensures ∙ c.if-refusal-ne0.false)) _ c.locate-located.ensures _ c.in-Found.is in
+    let l = context_lent _ _ (sym c.windows_refusal-refusal.ensures ∙ c.if-refusal-ne0.false) _ c.locate-located.ensures _ c.in-Found.is in
     (l.0, l.1, (sym c.windows_refusal-refusal.ensures ∙ c.if-refusal-ne0.false), l.2)
 
 pub returns-in-Found : goal.returns-in-Found
-returns-in-Found c = place_part _ _ ((sym c.windows_refusal-refusal.ensures ∙ c.if-refusal-ne0.false)) _ c.locate-located.ensures _ c.in-Found.is _ c.held_part.ensures
+returns-in-Found c = place_part _ _ (sym c.windows_refusal-refusal.ensures ∙ c.if-refusal-ne0.false) _ c.locate-located.ensures _ c.in-Found.is _ c.held_part.ensures
 
 pub returns-in-Bad : goal.returns-in-Bad
-returns-in-Bad c = place_bad _ _ ((sym c.windows_refusal-refusal.ensures ∙ c.if-refusal-ne0.false)) _ c.locate-located.ensures _ c.in-Bad.is _ c.nowhere-in-Bad.ensures
+returns-in-Bad c = place_bad _ _ (sym c.windows_refusal-refusal.ensures ∙ c.if-refusal-ne0.false) _ c.locate-located.ensures _ c.in-Bad.is _ c.nowhere-in-Bad.ensures
 
 pub returns-in-Lost : goal.returns-in-Lost
-returns-in-Lost c = place_lost _ _ ((sym c.windows_refusal-refusal.ensures ∙ c.if-refusal-ne0.false)) _ c.locate-located.ensures _ c.in-Lost.is _ c.nowhere-in-Lost.ensures
+returns-in-Lost c = place_lost _ _ (sym c.windows_refusal-refusal.ensures ∙ c.if-refusal-ne0.false) _ c.locate-located.ensures _ c.in-Lost.is _ c.nowhere-in-Lost.ensures

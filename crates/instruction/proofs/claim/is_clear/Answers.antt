@@ -1,4 +1,4 @@
-use Rattle.model.proofs.Prelude.{ℕ, ◌-◌, ⊎_elim, ap, ◌∙◌, ◌≡◌, arith, get_or, lt_or_le}
+use Rattle.model.proofs.Prelude.{ℕ, ⊎_elim, ap, ◌∙◌, ◌≡◌, arith, get_or, lt_or_le}
 use Rattle.instruction.proofs.claim.is_clear.Goals as goal
 
 pub loop-i-init : goal.loop-i-init

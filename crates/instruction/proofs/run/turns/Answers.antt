@@ -1,4 +1,4 @@
-use Rattle.model.proofs.Prelude.{◌-◌, refl, ◌∙◌, arith, lent, made}
+use Rattle.model.proofs.Prelude.{refl, ◌∙◌, arith, lent, made}
 use Rattle.instruction.proofs.RunTurned.{first_turn, next_shapes, next_turn, same_lengths, run_refused, run_spent}
 use Rattle.instruction.proofs.run.turns.Goals as goal
 

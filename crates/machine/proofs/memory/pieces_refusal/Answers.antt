@@ -1,4 +1,4 @@
-use Rattle.model.proofs.Prelude.{◌-◌, refl, sym, ◌≡◌, arith, worst}
+use Rattle.model.proofs.Prelude.{refl, sym, ◌≡◌, arith, worst}
 use Rattle.machine.proofs.RunRefused.{lacks, enough, passes}
 use Rattle.machine.proofs.memory.pieces_refusal.Goals as goal
 
@@ -21,12 +21,11 @@ pub loop-i-smaller : goal.loop-i-smaller
 loop-i-smaller c = omega (arith, c.next_piece-next.ensures.some)
 
 pub loop-i-preserved : goal.loop-i-preserved
-loop-i-preserved c =
-    (
-      omega arith,
-      passes _ _ c.loop-i.i _ _ _ _ c.loop-i.invariant.1 c.loop-i.invariant.2 c.next_piece-next.ensures c.if-next-eq-IN_NEITHER.false (omega arith),
-      omega (arith, c.wrapping_add-place.ensures, c.loop-i.invariant.2),
-    )
+loop-i-preserved c = (
+  omega arith,
+  passes _ _ c.loop-i.i _ _ _ _ c.loop-i.invariant.1 c.loop-i.invariant.2 c.next_piece-next.ensures c.if-next-eq-IN_NEITHER.false (omega arith),
+  omega (arith, c.wrapping_add-place.ensures, c.loop-i.invariant.2),
+)
 
 pub returns : goal.returns
 returns c =

@@ -1,4 +1,4 @@
-use Rattle.model.proofs.Prelude.{◌-◌, refl, arith, length-set}
+use Rattle.model.proofs.Prelude.{refl, arith, length-set}
 use Rattle.machine.proofs.OctabyteRuns.{octas_turn, octas_all}
 use Rattle.machine.proofs.octabytes.load_all.Goals as goal
 
@@ -10,7 +10,7 @@ loop-i-preserved c = (
   simp length-set (omega arith),
   simp length-set c.loop-i.invariant.1,
   octas_turn _ _ _ _ _ c.loop-i-test.true c.loop-i.invariant.2 c.load.ensures,
-    )
+)
 
 pub returns : goal.returns
 returns c = octas_all _ _ _ _ _ c.loop-i.invariant.2 (omega arith) (omega arith)

@@ -1,4 +1,4 @@
-use Rattle.model.proofs.Prelude.{◌-◌, refl, arith, length-set}
+use Rattle.model.proofs.Prelude.{refl, arith, length-set}
 use Rattle.machine.proofs.OctabyteRuns.{octas_none, octas_four}
 use Rattle.machine.proofs.octabytes.load_fours.Goals as goal
 

@@ -1,4 +1,4 @@
-use Rattle.model.proofs.Prelude.{ℕ, ◌+◌, ◌-◌, ◌<◌, ◌^◌, ap, sym, ◌∙◌, ◌≡◌, arith, part, value_of, grow, small, value_more, value_none}
+use Rattle.model.proofs.Prelude.{ℕ, ◌+◌, ◌<◌, ◌^◌, ap, sym, ◌∙◌, ◌≡◌, arith, part, value_of, grow, small, value_more, value_none}
 use Rattle.machine.proofs.octabytes.load_tetra.Goals as goal
 
 pub loop-k-init : goal.loop-k-init

@@ -1,4 +1,4 @@
-use Rattle.model.proofs.Prelude.{◌-◌, refl, arith}
+use Rattle.model.proofs.Prelude.{refl, arith}
 use Rattle.machine.proofs.OctabyteRuns.{flat_none, flat_four}
 use Rattle.std.proofs.Common.{rules}
 use Rattle.machine.proofs.octabytes.store_fours.Goals as goal

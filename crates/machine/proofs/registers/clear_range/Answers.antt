@@ -1,4 +1,4 @@
-use Rattle.model.proofs.Prelude.{ℕ, ◌-◌, ap, refl, sym, ◌∙◌, arith, over, over_end, over_none}
+use Rattle.model.proofs.Prelude.{ℕ, ap, refl, sym, ◌∙◌, arith, over, over_end, over_none}
 use Rattle.machine.proofs.RegisterRanges.{over_next, over_cut}
 use Rattle.machine.proofs.registers.clear_range.Goals as goal
 

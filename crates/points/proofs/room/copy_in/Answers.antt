@@ -1,4 +1,4 @@
-use Rattle.model.proofs.Prelude.{◌-◌, refl, arith, in_all, in_none, in_turn}
+use Rattle.model.proofs.Prelude.{refl, arith, in_all, in_none, in_turn}
 use Rattle.std.proofs.Common.{rules}
 use Rattle.points.proofs.room.copy_in.Goals as goal
 

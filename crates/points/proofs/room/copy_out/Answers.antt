@@ -1,4 +1,4 @@
-use Rattle.model.proofs.Prelude.{◌-◌, refl, arith, out_all, out_none, out_turn}
+use Rattle.model.proofs.Prelude.{refl, arith, out_all, out_none, out_turn}
 use Rattle.std.proofs.Common.{rules}
 use Rattle.points.proofs.room.copy_out.Goals as goal
 

@@ -1,8 +1,7 @@
 -- `pop_frame_judged` meets its contract: what it judges is what the definition judges, in that order.
 use Rattle.model.proofs.Prelude.{not}
 use Rattle.model.proofs.Prelude.{ap}
-use Rattle.model.proofs.Prelude.{ℕ, true, refl, sym, ◌∙◌, ◌≡◌, arith, lent, made, halted, denied, granted}
-use Rattle.stack.specs.GivenBack.{placed}
+use Rattle.model.proofs.Prelude.{refl, sym, ◌∙◌, arith, lent, made, halted, denied, granted}
 use Rattle.stack.proofs.PushPopRegisters.{held_by, placed_by}
 use Rattle.stack.proofs.PushPopAnswers.{pop_one, pop_none, pop_rejected}
 use Rattle.stack.proofs.frame.pop_frame_judged.Goals as goal

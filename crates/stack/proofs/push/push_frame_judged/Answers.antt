@@ -1,9 +1,7 @@
 -- `push_frame_judged` meets its contract: what it asks is what the definition asks, and what its calls leave is what PUSH does.
 use Rattle.model.proofs.Prelude.{not}
 use Rattle.model.proofs.Prelude.{ap}
-use Rattle.model.proofs.Prelude.{ℕ, true, refl, ◌≡◌, arith, lent, made, denied, granted}
-use Rattle.stack.specs.GivenBack.{placed}
-use Rattle.stack.specs.PushPop.{Held}
+use Rattle.model.proofs.Prelude.{refl, arith, lent, made, denied, granted}
 use Rattle.stack.proofs.PushPopRegisters.{held_by}
 use Rattle.stack.proofs.Judged.{passed, failed, missing_by}
 use Rattle.stack.proofs.PushPopAnswers.{push_one, push_six, push_done}

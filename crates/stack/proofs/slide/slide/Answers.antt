@@ -1,4 +1,4 @@
-use Rattle.model.proofs.Prelude.{ℕ, ◌+◌, ◌-◌, ap, sym, ◌∙◌, ◌≡◌, arith, get_or, over, over_after, over_none}
+use Rattle.model.proofs.Prelude.{ℕ, ◌+◌, ap, sym, ◌∙◌, ◌≡◌, arith, get_or, over, over_after, over_none}
 use Rattle.machine.proofs.RegisterRanges.{over_next}
 use Rattle.stack.proofs.slide.slide.Goals as goal
 

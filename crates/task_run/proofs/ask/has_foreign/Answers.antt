@@ -1,4 +1,4 @@
-use Rattle.model.proofs.Prelude.{◌-◌, sym, ◌∙◌, arith}
+use Rattle.model.proofs.Prelude.{sym, ◌∙◌, arith}
 use Rattle.task_run.proofs.Asks.{scan_none, scan_end, scan_found, scan_next}
 use Rattle.task_run.proofs.ask.has_foreign.Goals as goal
 

@@ -1,6 +1,6 @@
 use Rattle.model.proofs.Prelude.{not}
 use Rattle.model.proofs.Prelude.{ap}
-use Rattle.model.proofs.Prelude.{◌-◌, true, refl, arith}
+use Rattle.model.proofs.Prelude.{refl, arith}
 use Rattle.tasks.proofs.Judged.{below_none}
 use Rattle.tasks.proofs.ImageParts.{ends_before, few_bytes, ends_few, all_short, admitted_fails, admitted_more, admitted_all}
 use Rattle.std.proofs.Common.{rules}
@@ -35,12 +35,11 @@ returns-then-not-is_admissible c =
     admitted_fails _ _ _ (c.each_len-each.ensures _ refl) c.if-images-n.false c.loop-k.k (omega arith) _ c.is_admissible.ensures (ap not c.if-not-is_admissible.true)
 
 pub loop-k-preserved : goal.loop-k-preserved
-loop-k-preserved c =
-    (
-      omega arith,
-      admitted_more c.args.n c.args.images.now _ (c.each_len-each.ensures _ refl) c.if-images-n.false c.loop-k.k (omega arith) _
-          c.is_admissible.ensures (ap not c.if-not-is_admissible.false) c.loop-k.invariant.1,
-    )
+loop-k-preserved c = (
+  omega arith,
+  admitted_more c.args.n c.args.images.now _ (c.each_len-each.ensures _ refl) c.if-images-n.false c.loop-k.k (omega arith) _
+      c.is_admissible.ensures (ap not c.if-not-is_admissible.false) c.loop-k.invariant.1,
+)
 
 pub returns : goal.returns
 returns c =

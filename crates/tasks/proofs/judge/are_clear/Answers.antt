@@ -1,6 +1,6 @@
 use Rattle.model.proofs.Prelude.{not}
 use Rattle.model.proofs.Prelude.{ap}
-use Rattle.model.proofs.Prelude.{◌-◌, true, sym, arith, denied, granted}
+use Rattle.model.proofs.Prelude.{sym, arith, denied, granted}
 use Rattle.tasks.proofs.Prelude.{part_clear}
 use Rattle.tasks.proofs.Judged.{below_none, below_more, below_fails, below_all}
 use Rattle.tasks.proofs.judge.are_clear.Goals as goal

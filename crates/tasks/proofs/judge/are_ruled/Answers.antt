@@ -1,6 +1,6 @@
 use Rattle.model.proofs.Prelude.{not}
 use Rattle.model.proofs.Prelude.{ap}
-use Rattle.model.proofs.Prelude.{◌-◌, true, arith}
+use Rattle.model.proofs.Prelude.{arith}
 use Rattle.tasks.proofs.Judged.{below_none, ruled_fails, ruled_more, ruled_all}
 use Rattle.tasks.proofs.judge.are_ruled.Goals as goal
 
@@ -13,12 +13,11 @@ returns-then-not-is_part c =
     c.args.n (omega arith) (ap not c.if-not-is_part.true)
 
 pub loop-k-preserved : goal.loop-k-preserved
-loop-k-preserved c =
-    (
-      omega arith,
-      ruled_more c.args.b_len c.args.parts.now c.loop-k.k _ c.part_at-own.ensures _ c.is_part.ensures
-          (ap not c.if-not-is_part.false) c.loop-k.invariant.1,
-    )
+loop-k-preserved c = (
+  omega arith,
+  ruled_more c.args.b_len c.args.parts.now c.loop-k.k _ c.part_at-own.ensures _ c.is_part.ensures
+      (ap not c.if-not-is_part.false) c.loop-k.invariant.1,
+)
 
 pub returns : goal.returns
 returns c =

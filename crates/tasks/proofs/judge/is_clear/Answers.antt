@@ -1,4 +1,4 @@
-use Rattle.model.proofs.Prelude.{◌-◌, true, arith}
+use Rattle.model.proofs.Prelude.{arith}
 use Rattle.tasks.proofs.Judged.{below_none, clear_fails, clear_more, clear_all}
 use Rattle.tasks.proofs.judge.is_clear.Goals as goal
 

@@ -1,4 +1,4 @@
-use Rattle.model.proofs.Prelude.{◌-◌, arith}
+use Rattle.model.proofs.Prelude.{arith}
 use Rattle.tasks.proofs.Rounds.{none_first, none_more, one_runs, none_runs}
 use Rattle.tasks.proofs.schedule.any_runs.Goals as goal
 

@@ -1,6 +1,6 @@
 use Rattle.model.proofs.Prelude.{not}
 use Rattle.model.proofs.Prelude.{ap}
-use Rattle.model.proofs.Prelude.{◌-◌, refl, arith}
+use Rattle.model.proofs.Prelude.{refl, arith}
 use Rattle.tasks.proofs.Played.{rounds_start, rounds_more, ends_spent, ends_none, ends_full}
 use Rattle.std.proofs.Common.{rules}
 use Rattle.tasks.proofs.schedule.rounds.Goals as goal
@@ -25,14 +25,13 @@ pub round-left-requires : goal.round-left-requires
 round-left-requires c = c.loop-i.invariant.3.ready
 
 pub loop-i-preserved : goal.loop-i-preserved
-loop-i-preserved c =
-    (
-      omega arith,
-      search rules,
-      search rules,
-      rounds_more _ _ _ _ _ _ _ _ _ _ _ _ c.loop-i.i c.loop-i.invariant.3 c.if-left-eq0.false _
-          c.any_runs.ensures (ap not c.if-not-any_runs.false) _ _ _ _ _ c.round-left.ensures,
-    )
+loop-i-preserved c = (
+  omega arith,
+  search rules,
+  search rules,
+  rounds_more _ _ _ _ _ _ _ _ _ _ _ _ c.loop-i.i c.loop-i.invariant.3 c.if-left-eq0.false _
+      c.any_runs.ensures (ap not c.if-not-any_runs.false) _ _ _ _ _ c.round-left.ensures,
+)
 
 pub returns : goal.returns
 returns c = ends_full _ _ _ _ _ _ _ _ _ _ _ _ c.loop-i.i c.loop-i.invariant.3 _ (omega arith)

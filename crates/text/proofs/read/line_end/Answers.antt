@@ -1,4 +1,4 @@
-use Rattle.model.proofs.Prelude.{◌-◌, refl, arith}
+use Rattle.model.proofs.Prelude.{refl, arith}
 use Rattle.text.proofs.Pieces.{line_there, line_past, line_further}
 use Rattle.text.proofs.read.line_end.Goals as goal
 

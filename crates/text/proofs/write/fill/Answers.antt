@@ -1,4 +1,4 @@
-use Rattle.model.proofs.Prelude.{◌-◌, refl, ◌∙◌, arith, get_or}
+use Rattle.model.proofs.Prelude.{refl, ◌∙◌, arith, get_or}
 use Rattle.text.proofs.Writes.{leads_whole, leads_on, leads_end, filled_at, filled_past, marks_small, most_piece}
 use Rattle.text.proofs.write.fill.Goals as goal
 

@@ -1,0 +1,9 @@
+-- `read_all` meets its contract: each turn reads after what is read already, so that it stays, and leaves less of the buffer.
+use Rattle.bench.proofs.Prelude.{◌-◌, ◌≤◌, ◌≡◌, length}
+use Rattle.bench.proofs.read_all.Given as goal
+
+abbrev pub invariant-loop-done : goal.invariant-loop-done
+invariant-loop-done g l = (l.done ≤ length l.buf) × (length l.buf ≡ length l.initial.buf)
+
+abbrev pub decreases-loop-done : goal.decreases-loop-done
+decreases-loop-done g l = length l.initial.buf - l.done
