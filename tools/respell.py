@@ -22,6 +22,7 @@ MADE = re.compile(r"(?:Need|After|In|At|Goes|Lts)-")
 CLAUSE = re.compile(r"(?:requires|ensures)\s*\*?\s*(?:\w+\s*)?\{|ghost\s*(?:\w+\s*(?::\s*(?:(?:owns|lends)\s*)?|=\s*))?\{")
 GHOST_USE = re.compile(r"ghost\s+use\b[^;]*;")
 USE = re.compile(r"\buse\s+([A-Za-z0-9_'.+·]+)\.\{([^}]*)\}")
+SPECIAL = re.compile(r"r[A-Z]{1,2}$")
 SPAN = re.compile(r"`[^`\n]+`")
 
 
@@ -119,8 +120,9 @@ def turn(text, names, dotted_primes):
         return new
 
     def comment(t):
-        t = SPAN.sub(lambda s: WORD.sub(lambda m: re.sub(r"[^`…]+", lambda p: names.get(p[0], p[0]), m[0]), s[0]), t)
-        return re.sub(r"(?<![\w`-])[a-z]\w*[A-Z]\w*(?![\w-])", lambda m: names.get(m[0], m[0]), t)
+        # a special register has Knuth's name in prose, as rL
+        t = SPAN.sub(lambda s: WORD.sub(lambda m: re.sub(r"[^`…]+", lambda p: p[0] if SPECIAL.match(p[0]) else names.get(p[0], p[0]), m[0]), s[0]), t)
+        return re.sub(r"(?<![\w`-])[a-z]\w*[A-Z]\w*(?![\w-])", lambda m: m[0] if SPECIAL.match(m[0]) else names.get(m[0], m[0]), t)
 
     out, at = [], 0
     for m in QUIET.finditer(text):

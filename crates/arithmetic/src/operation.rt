@@ -1,4 +1,4 @@
-// One operation: $X, r_h, r_r and the flags of its operands.
+// One operation: $X, rH, rR and the flags of its operands.
 ghost use Rattle.std.specs.Prelude.{◌≡◌};
 ghost use Rattle.model.specs.Arithmetic.{plain, results_of};
 

@@ -29,7 +29,7 @@ fn multiply(y: u64, z: u64) -> Product
     }
 }
 
-/// MULU: r_h gets the upper octabyte.
+/// MULU: rH gets the upper octabyte.
 pub fn mulu(a: Operands) -> Results
     ensures { result ≡ multiplied a }
 {
@@ -42,7 +42,7 @@ pub fn mulu(a: Operands) -> Results
     }
 }
 
-/// MUL: r_h is left.
+/// MUL: rH is left.
 pub fn mul(a: Operands) -> Results
     ensures { result ≡ exact a (signed_of a.y *ℤ signed_of a.z) }
 {

@@ -11,7 +11,7 @@ pub struct Quotient {
     pub remainder: u64,
 }
 
-/// DIVU: r_d and $Y by $Z; r_d and $Y themselves where the quotient has more than 64 bits.
+/// DIVU: rD and $Y by $Z; rD and $Y themselves where the quotient has more than 64 bits.
 pub fn divu(a: Operands) -> Results
     ensures { result ≡ divided_wide a }
 {

@@ -8,7 +8,7 @@ ghost use Rattle.arms.specs.Arms.{call_to, return_of};
 use model::{Bases, Reply};
 use stack::frame::PopFrame;
 
-/// Does not judge 2 or 22, nor 1 beyond r_l ≤ r_g ≤ 255: the caller has. A call of `target` with the hole that x makes.
+/// Does not judge 2 or 22, nor 1 beyond rL ≤ rG ≤ 255: the caller has. A call of `target` with the hole that x makes.
 pub fn push_to_judged(
     general: &mut [u64; 256],
     special: &mut [u64; 32],
@@ -35,7 +35,7 @@ pub fn push_to_judged(
     reply
 }
 
-/// Does not judge 2 or 22, nor 1 beyond r_l ≤ r_g ≤ 255: the caller has. POP.
+/// Does not judge 2 or 22, nor 1 beyond rL ≤ rG ≤ 255: the caller has. POP.
 pub fn pop_to_judged(
     general: &mut [u64; 256],
     special: &mut [u64; 32],

@@ -1,4 +1,4 @@
-// Whole-number arithmetic in a step: the operation and its operands by the opcode, then $X, r_h, r_r and the flag.
+// Whole-number arithmetic in a step: the operation and its operands by the opcode, then $X, rH, rR and the flag.
 ghost use Rattle.std.specs.Prelude.{◌≡◌, List, ℕ};
 ghost use Rattle.model.specs.Opcodes.{first_of, last_of};
 ghost use Rattle.model.specs.Control.{operand_of};

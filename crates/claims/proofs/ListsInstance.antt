@@ -265,7 +265,7 @@ demand3_task_calls_met : Back
 unfolding held_state task_last_held task_last_window
 demand3_task_calls_met = both_back (kept.first_back (at_pop_law 1 _ _ by_step.0.7)) (kept.second_back (at_pop_law 1 _ _ by_step.0.7))
 
--- ---- r_c is hidden, and is 1 in the one and 2 in the other
+-- ---- rC is hidden, and is 1 in the one and 2 in the other
 
 hidden_calls_met : SameToBoth (holds (hiding 1)) (holds (hiding 2)) lent (runs_of 2 (hiding 1)) (runs_of 2 (hiding 2))
 unfolding task_entries

@@ -71,7 +71,7 @@ pub record StoreCallLeaves (l : List ℕ) (w : Windows) (op x y z : ℕ) (m : Li
   pub image_is : m ≡ replaced l ((at_special r_a, sp (with_added (state_of l) flag_v) r_a) ∷ trip_octas (state_of l) (word_of op x y z) (sum_of (state_of l) last y z) (reg (state_of l) x))
   pub window_is : v ≡ put_octa w (sum_of (state_of l) last y z) (merged width (sum_of (state_of l) last y z) (look both w (sum_of (state_of l) last y z)) (reg (state_of l) x))
 
--- 19 of an operation leaves $X, r_h and r_r as written
+-- 19 of an operation leaves $X, rH and rR as written
 pub record ArithmeticCallLeaves (l : List ℕ) (w : Windows) (op x y z : ℕ) (m : List ℕ) (v : Windows) : Type 0 where
   pub operation : Operation
   pub first : Operand
@@ -143,7 +143,7 @@ pub record RunCallLeaves (l : List ℕ) (w : Windows) (grant r n : ℕ) (m : Lis
   pub refused : is_image l ≡ true → CallPasses w (state_of l) grant → r ≢ 0 → LastCallLeaves l w r n m v
   pub spent : r ≡ 0 → halt_bytes m ≡ halt_bytes l
 
--- what mmix_exceptions leaves; with 19, r_a's additions too
+-- what mmix_exceptions leaves; with 19, rA's additions too
 pub record ExceptionCallLeaves (l : List ℕ) (f op x y z u v r : ℕ) (m : List ℕ) : Type 0 where
   pub among : (r ≡ 0) ⊎ ((r ≡ 1) ⊎ (r ≡ 19))
   pub refused : r ≡ 1 → m ≡ l

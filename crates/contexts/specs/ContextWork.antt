@@ -19,7 +19,7 @@ pub record Ranged (special : List ℕ) : Type 0 where
   pub l_g : get_or special r_l 0 ≤ get_or special r_g 0
   pub a_high : get_or special r_a 0 ≤ 0x3FFFF
 
--- v is w with the context of these registers stored from r_o up, where it lies inside
+-- v is w with the context of these registers stored from rO up, where it lies inside
 pub record StoresContext (general special : List ℕ) (w v : Windows) : Type 0 where
   pub stores : (pc halt marks mask : ℕ) → worst (refusing (shapes_of w)) (get_or special r_o 0) (extent (made general special pc halt marks mask)) ≡ 0
       → v ≡ puts both w (get_or special r_o 0) (tab 0 (extent (made general special pc halt marks mask)) (saved (made general special pc halt marks mask)))

@@ -72,7 +72,7 @@ pub record LayoutIs (w : Windows) (p g : ℕ) (r : Layout) : Type 0 where
   pub answer_is : r ≡ layout_answer p g (look both w (below p (count_below g))) (count_reply w p g)
   pub number_is : layout_number r ≡ count_reply w p g
 
--- where a context is: its first local's address, r_g, r_a and local count; all 0 where it is refused
+-- where a context is: its first local's address, rG, rA and local count; all 0 where it is refused
 unfoldable pub spot : ℕ → ℕ → ℕ → ℕ → SavedContext
 spot o g a l = record { first = o; rg = g; ra = a; count = l }
 

@@ -15,7 +15,7 @@ use super::layout::{
 use model::replies::reply_of;
 use model::{Bases, Reply, State};
 
-/// The special register that is number i of the twelve (`SAVE_SPECIALS`): r_b to r_r, which are 0 to 6, then r_p to r_z, 23 to 27.
+/// The special register that is number i of the twelve (`SAVE_SPECIALS`): rB to rR, which are 0 to 6, then rP to rZ, 23 to 27.
 fn save_special(i: usize) -> usize
     requires { i < context_specials }
     ensures { (result ≡ saved_special i) × (result < 32) }
@@ -60,7 +60,7 @@ fn store_run(
     machine::ranges::store_range(general, a, b, at, addr, from, to);
 }
 
-/// The context, stored from r_o up.
+/// The context, stored from rO up.
 fn store_context(general: &[u64; 256], special: &[u64; 32], a: &mut [u8], b: &mut [u8], at: Bases)
     requires { Ranged special.now }
     ensures { StoresContext general.now special.now
@@ -81,7 +81,7 @@ fn store_context(general: &[u64; 256], special: &[u64; 32], a: &mut [u8], b: &mu
     machine::memory::write_octa(a, b, at, packed, rg * PACKED_RG + ra);
 }
 
-/// The context is stored; then the registers below r_g become 0 and $x gets the context's address.
+/// The context is stored; then the registers below rG become 0 and $x gets the context's address.
 fn put_away(
     general: &mut [u64; 256],
     special: &[u64; 32],
@@ -104,7 +104,7 @@ fn put_away(
     general[x as usize] = address;
 }
 
-/// The special registers after it: r_l is 0, and r_o and r_s follow the context.
+/// The special registers after it: rL is 0, and rO and rS follow the context.
 fn depart(special: &mut [u64; 32])
     requires { Ranged special.old }
     ensures { special.new ≡ left_special special.old }
@@ -118,7 +118,7 @@ fn depart(special: &mut [u64; 32])
     special[State::RS] = new_ro;
 }
 
-/// Does not judge 2 or 22: the caller has; 1 is judged. SAVE $x: the context goes to the windows at r_o.
+/// Does not judge 2 or 22: the caller has; 1 is judged. SAVE $x: the context goes to the windows at rO.
 pub fn save_context_judged(
     general: &mut [u64; 256],
     special: &mut [u64; 32],

@@ -16,7 +16,7 @@ pub const AT_PACKED: u64 = 269;
 
 pub const CONTEXT_OCTAS: u64 = 270;
 
-/// The packed octabyte is r_g times this, and r_a.
+/// The packed octabyte is rG times this, and rA.
 pub const PACKED_RG: u64 = 0x100000000000000;
 
 /// Below a saved context's packed octabyte: how many locals it has, and the address of the first. (The Rust's other fields serve nobody here.)
@@ -31,13 +31,13 @@ pub struct SaveContextLayout {
 pub enum Layout {
     /// The context's parts.
     Found(SaveContextLayout),
-    /// The local count is above the saved r_g (16).
+    /// The local count is above the saved rG (16).
     Excess(u64),
     /// The local count is in neither window: the reply that says so.
     Outside(Reply),
 }
 
-/// A context each octabyte of which is lent, by one window or the other: the address of its first local, its r_g, r_a and local count.
+/// A context each octabyte of which is lent, by one window or the other: the address of its first local, its rG, rA and local count.
 #[derive(Clone, Copy)]
 pub struct SavedContext {
     pub first: u64,
@@ -57,7 +57,7 @@ pub enum Located {
     Lost(Reply),
 }
 
-/// The parts of the context whose packed octabyte is at `packed_addr`, for its r_g; the count is compared at full width.
+/// The parts of the context whose packed octabyte is at `packed_addr`, for its rG; the count is compared at full width.
 pub fn save_context_layout(a: &[u8], b: &[u8], at: Bases, packed_addr: u64, rg_saved: u8) -> Layout
     ensures { LayoutIs (lent at a.now b.now) packed_addr rg_saved result }
 {

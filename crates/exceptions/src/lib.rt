@@ -190,7 +190,7 @@ fn leftmost_flag(flags: u8) -> u8
     0x80 >> u8::leading_zeros(flags)
 }
 
-/// The flags raised but the taken one are added to r_a, enabled or not.
+/// The flags raised but the taken one are added to rA, enabled or not.
 fn add_untaken(special: &mut [u64; 32], flags: u8)
     ensures { (general : List ℕ) (pc halt marks mask : ℕ) → made general special.new pc halt marks mask
         ≡ with_added (made general special.old pc halt marks mask) flags }

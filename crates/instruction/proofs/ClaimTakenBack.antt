@@ -1,4 +1,4 @@
--- A claim as code makes it and takes it back, over plain variables: r_l alone where what is cleared is zero, and else all general registers too. What a
+-- A claim as code makes it and takes it back, over plain variables: rL alone where what is cleared is zero, and else all general registers too. What a
 -- refusal leaves of the registers; then the instruction that a tetra says, with a claim and without.
 use Rattle.model.proofs.Prelude.{ℕ, ◌+◌, ◌<◌, ◌^◌, ◌≤◌, Bool, false, not, true, ◌&&◌, List, inl, inr, ◌≢◌, ⊎_elim, ap, refl, sym, ◌∙◌, ◌≡◌, arith, eqb, get_or}
 use Rattle.model.proofs.Prelude.{length, set, ext_get_or, set-get_or, set-set, eqb-false, over, StepLeaves, shapes_of, Windows, among, arm_of, first_branch}
@@ -30,7 +30,7 @@ claim_clear s x m z =
     rw m (ap (λ (g : List ℕ). made g (set s.special r_l (x + 1)) s.pc s.halt s.marks s.mask)
     (sym (zeros_stay s.general (sp s r_l) (x + 1) (λ k a b. z k a (omega arith)))))
 
--- a claim's special registers, with r_l put back
+-- a claim's special registers, with rL put back
 special_back : (s : State) (x : ℕ) → set (claim_local s x).special r_l (sp s r_l) ≡ s.special
 unfolding claim_local with_special cleared
 special_back s x =

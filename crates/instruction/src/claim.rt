@@ -56,7 +56,7 @@ fn is_clear(general: &[u64; 256], from: u64, x: u8) -> bool
     true
 }
 
-/// The claim where what it clears is zero: r_l alone is set, and put back.
+/// The claim where what it clears is zero: rL alone is set, and put back.
 fn claimed_clear(
     general: &mut [u64; 256],
     special: &mut [u64; 32],
@@ -96,7 +96,7 @@ fn claimed_clear(
     number
 }
 
-/// The claim where it clears something: the general registers are kept, and put back with r_l.
+/// The claim where it clears something: the general registers are kept, and put back with rL.
 fn claimed_kept(
     general: &mut [u64; 256],
     special: &mut [u64; 32],

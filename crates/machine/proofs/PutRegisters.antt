@@ -1,4 +1,4 @@
--- Laws of PUT as code has it: the registers that r_l and r_g clear, the special register that is put, what PUT answers, and the refusal of each special register.
+-- Laws of PUT as code has it: the registers that rL and rG clear, the special register that is put, what PUT answers, and the refusal of each special register.
 use Rattle.model.proofs.Prelude.{max, min, ℕ, ◌<◌, ◌≤◌, Bool, cond, false, true, ◌&&◌, ◌||◌, List, inl, inr, ◌⊎◌, ap, refl, sym, ◌∙◌, ◌≡◌, arith, eqb, leb, ltb}
 use Rattle.model.proofs.Prelude.{get_or, length, set, set_out, le-leb, le-ltb, lt-leb, lt-ltb, ne_eqb, tag_of, Among, over, reply_of, cleared, put_globals}
 use Rattle.model.proofs.Prelude.{put_locals, r_g, r_l, sp, with_parts, with_special, is_illegal, is_privileged, put_refusal, put_state, put_most, at_each, each}
@@ -114,7 +114,7 @@ module _ (s : State) (x v : ℕ) where
   unfolding put_refusal
   put_privileged_one e = rw e
 
-  -- PUT r_g, PUT r_l, PUT r_a
+  -- PUT rG, PUT rL, PUT rA
   pub threshold_low : x ≡ 19 → v < 32 → put_refusal s x v ≡ 10
   unfolding put_refusal
   threshold_low e h = rw e (simp (lt-ltb v 32 h))

@@ -11,12 +11,12 @@ ghost use Rattle.machine.specs.Put.{PutGives};
 
 use model::{Reply, State};
 
-/// r_g is from the first to the second.
+/// rG is from the first to the second.
 pub const THRESHOLD_MIN: u64 = 32;
 
 pub const THRESHOLD_MAX: u64 = 255;
 
-/// The largest r_a: 18 bits.
+/// The largest rA: 18 bits.
 pub const STATUS_MAX: u64 = 0x3FFFF;
 
 /// Marks of nine vectors are below this.
@@ -45,7 +45,7 @@ const RU: u64 = State::RU as u64;
 
 const RV: u64 = State::RV as u64;
 
-/// The bits that a mask may have: those of r_bb, r_c, r_n, r_i, r_t, r_tt, r_k, r_q, r_u, r_v, r_f, r_ww, r_xx, r_yy and r_zz.
+/// The bits that a mask may have: those of rBB, rC, rN, rI, rT, rTT, rK, rQ, rU, rV, rF, rWW, rXX, rYY and rZZ.
 const HIDEABLE: u64 = 0xF047_F380;
 
 const RG: u64 = State::RG as u64;
@@ -112,7 +112,7 @@ pub fn clear_range(general: &mut [u64; 256], from: u64, to: u64)
     }
 }
 
-/// $reg is to be written: a marginal one becomes local, and it and those down to r_l become 0.
+/// $reg is to be written: a marginal one becomes local, and it and those down to rL become 0.
 pub fn claim_local(general: &mut [u64; 256], special: &mut [u64; 32], reg: u8)
     ensures { (s : State) → with_parts s general.new special.new
         ≡ claim_local (with_parts s general.old special.old) reg }
@@ -139,7 +139,7 @@ pub fn set_register(general: &mut [u64; 256], special: &mut [u64; 32], reg: u8, 
     general[reg as usize] = v;
 }
 
-/// PUT r_l: it is only ever lowered, and what is dropped becomes 0.
+/// PUT rL: it is only ever lowered, and what is dropped becomes 0.
 pub fn put_rl(general: &mut [u64; 256], special: &mut [u64; 32], value: u64)
     ensures { (s : State) → with_parts s general.new special.new
         ≡ put_locals (with_parts s general.old special.old) value }
@@ -150,7 +150,7 @@ pub fn put_rl(general: &mut [u64; 256], special: &mut [u64; 32], value: u64)
     special[State::RL] = low;
 }
 
-/// PUT r_g of a value that it may have: what lies between the two thresholds becomes 0.
+/// PUT rG of a value that it may have: what lies between the two thresholds becomes 0.
 pub fn put_rg(general: &mut [u64; 256], special: &mut [u64; 32], value: u64)
     ensures { (s : State) → with_parts s general.new special.new
         ≡ put_globals (with_parts s general.old special.old) value }
@@ -162,7 +162,7 @@ pub fn put_rg(general: &mut [u64; 256], special: &mut [u64; 32], value: u64)
     special[State::RG] = value;
 }
 
-/// What PUT of `value` to special register x answers where r_l is `rl`: one of 7 to 11, or Done. It judges by nothing else of a state.
+/// What PUT of `value` to special register x answers where rL is `rl`: one of 7 to 11, or Done. It judges by nothing else of a state.
 pub fn put_refusal(rl: u64, x: u64, value: u64) -> Reply
     ensures { (s : State) → sp s r_l ≡ rl → result ≡ reply_of (put_refusal s x value) }
 {

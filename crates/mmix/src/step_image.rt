@@ -19,7 +19,7 @@ fn is_of_stack(op: u8) -> bool
     opcode::is_among(op, opcode::POP, opcode::UNSAVE)
 }
 
-// Whether an instruction is PUT of r_l or r_g.
+// Whether an instruction is PUT of rL or rG.
 fn puts_bound(op: u8, x: u8) -> bool
     ensures { result ≡ puts_bound op x }
 {

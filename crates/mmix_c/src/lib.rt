@@ -30,7 +30,7 @@ pub extern "C" fn mmix_initialize(image: &mut [u8]) -> u64
     mmix::mmix_initialize(image)
 }
 
-/// The same with the register stack at another address, any number: r_o and r_s are `stack_start`.
+/// The same with the register stack at another address, any number: rO and rS are `stack_start`.
 #[unsafe(no_mangle)]
 pub extern "C" fn mmix_initialize_at(image: &mut [u8], stack_start: u64) -> u64
     ensures { InitializedAt stack_start image.old result image.new }

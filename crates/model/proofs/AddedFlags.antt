@@ -1,4 +1,4 @@
--- What an exception adds to r_a: laws of the flags of a byte, of the taken flag and those added, and that of one flag alone at most one is raised and enabled.
+-- What an exception adds to rA: laws of the flags of a byte, of the taken flag and those added, and that of one flag alone at most one is raised and enabled.
 use Rattle.model.proofs.Logic.{min, suc, zero, ℕ, ◌%◌, ◌*◌, ◌+◌, ◌-◌, ◌/◌, ◌<◌, ◌^◌, ◌≤◌, Bool, true, inl, inr, ◌≢◌, ap, sym, ◌∙◌, ◌≡◌, arith, and_le_l}
 use Rattle.model.proofs.Logic.{and_le_r, and_step, bit_and, leading_top, count_leading_zeros, eqb, eqb-false, eqb-true}
 use Rattle.model.specs.Trips.{enables, enabled, vector_of, leftmost, taken, added, with_added, raised}

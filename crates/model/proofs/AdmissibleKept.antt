@@ -67,7 +67,7 @@ good_by s t eg es g l a e1 e2 e3 em ek b1 b2 b3 b4 h =
       admits = record { g_low = omega arith; g_high = omega arith; l_g = omega arith; a_high = omega arith; marks_high = omega arith; mask_in' = rw ek h.admits.mask_in' };
     }
 
--- where r_g and r_a are as before
+-- where rG and rA are as before
 pub good_l : (s t : State) → length t.general ≡ length s.general → length t.special ≡ length s.special
     → (l : ℕ) → sp t r_g ≡ sp s r_g → sp t r_l ≡ l → sp t r_a ≡ sp s r_a → t.marks ≡ s.marks → t.mask ≡ s.mask → l ≤ sp s r_g → Good s → Good t
 good_l s t eg es l e1 e2 e3 em ek b h =
@@ -163,7 +163,7 @@ pub popped_good : (s : State) (x h : ℕ) (ls : List ℕ) → Good s → Good (p
 unfolding popped
 popped_good s x h ls g = spilled_good _ (unslide_good s x h ls g)
 
--- SAVE's state but for r_s
+-- SAVE's state but for rS
 pub saved_unspilled_good : (s : State) (x : ℕ) → Good s → Good (saved_unspilled s x)
 unfolding saved_unspilled stored
 saved_unspilled_good s x g = let m : length s.special ≡ 32 = g.size.specials in
@@ -177,7 +177,7 @@ pub unsaved_special_law : (s : State) (o g a l : ℕ) (vs : List ℕ) (k : ℕ) 
     → get_or (over (unsaved_special s o g a l vs) 0 32 s.special) k 0 ≡ unsaved_special s o g a l vs k
 unsaved_special_law s o g a l vs k n b = over_in (unsaved_special s o g a l vs) 0 32 s.special k (omega arith) b (omega arith)
 
--- UNSAVE's state but for r_s
+-- UNSAVE's state but for rS
 pub unsaved_unspilled_good : (s : State) (o g a l : ℕ) (vs : List ℕ) → 32 ≤ g → g ≤ 255 → a ≤ 0x3FFFF → l ≤ g → Good s → Good (unsaved_unspilled s o g a l vs)
 unfolding unsaved_unspilled
 unsaved_unspilled_good s o g a l vs p q r u h =
@@ -199,7 +199,7 @@ pub trapped_good : (s : State) (word u v : ℕ) → Good s → Good (trapped s w
 unfolding interrupted
 trapped_good s word u v h = good_l s (trapped s word u v) (length-set s.general 255 (sp s r_j)) (simp length-set) (sp s r_l) (simp spec_other) (simp spec_other) (simp spec_other) refl refl h.admits.l_g h
 
--- what is added to r_a is a byte
+-- what is added to rA is a byte
 pub added_byte : (s : State) (f : ℕ) → added s f ≤ 255
 unfolding added
 added_byte s f = let c : bit_and (f % 256) (255 - taken s f) ≤ 255 - taken s f = and_le_r (f % 256) (255 - taken s f) in omega arith

@@ -48,7 +48,7 @@ pub record MeetsTrip (s : State) (W : ℕ → Type 0) (R : ℕ → State → Typ
   pub trips : (a : ℕ) → W a → R 0 (goes (tripped s n u v) a)
   pub trips_not : R 19 (halted (tripped s n u v))
 
--- of one that raises the flags f: what is added to r_a, then the trip
+-- of one that raises the flags f: what is added to rA, then the trip
 pub record MeetsRaise (s : State) (W : ℕ → Type 0) (R : ℕ → State → Type 0) (f n u v : ℕ) : Type 0 where
   pub adds : (a : ℕ) → W a → R 0 (goes (with_added s f) a)
   pub takes : MeetsTrip (with_added s f) W R n u v
@@ -118,7 +118,7 @@ module _ (s : State) (W : ℕ → Type 0) (R : ℕ → State → Type 0) (word :
   unfolding trip_to trip_rule
   trip_meets k n u v b m = on {A = Said} (Tells R) (is_loaded s k) (λ e. m.trips (16 * k) (word _ (omega arith))) (λ e. m.trips_not)
 
--- what is added to r_a, then the trip or @ + 4
+-- what is added to rA, then the trip or @ + 4
 pub raised_meets : (s : State) (W : ℕ → Type 0) (R : ℕ → State → Type 0) → ((n : ℕ) → n < 2 ^ 64 → W n)
     → (f n u v : ℕ) → MeetsRaise s W R f n u v → Tells R (raised s f n u v)
 unfolding raised

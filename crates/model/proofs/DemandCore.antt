@@ -1,7 +1,7 @@
 -- Demand 3 over any machine with a caller in it, whose list may hold all that the machine does. The idea:
 -- 1. a call from two states that are alike leaves one state and two memories that agree outside the frame's locals (`push_same`);
 -- 2. a list that touches none of them then does the same in both runs, and keeps the whole frame (`runs_agree`, `runs_kept` of Lists);
--- 3. a POP at the call's r_o finds the frame as it was pushed (`pop_is`, `pop_reg` of PushPop): `back_core`;
+-- 3. a POP at the call's rO finds the frame as it was pushed (`pop_is`, `pop_reg` of PushPop): `back_core`;
 -- 4. `pair_core` puts the two runs together, `call_private` says it of an item that calls.
 use Rattle.model.proofs.Logic.{ℕ, ◌%◌, ◌*◌, ◌+◌, ◌<◌, ◌^◌, ◌≤◌, true, List, ap, refl, subst, sym, ◌∙◌, ◌≡◌, arith, get_or}
 use Rattle.model.specs.Fill.{tab}

@@ -26,7 +26,7 @@ use Rattle.model.proofs.Demand.{target_of_call, call_plan, call_arm, hole_le, ho
 
 -- ---- the claim
 
--- it moves no special but r_l
+-- it moves no special but rL
 pub claim_other : (s : State) (x k : ℕ) → eqb k r_l ≡ false → sp (claim_local s x) k ≡ sp s k
 unfolding claim_local with_special cleared
 claim_other s x k e = on (λ (t : State). sp t k ≡ sp s k) (is_marginal s x) (λ m. spec_other s.special r_l k (x + 1) e) (λ m. refl)

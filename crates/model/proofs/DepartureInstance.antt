@@ -19,7 +19,7 @@ use Rattle.model.proofs.Computed.{below, ranged_state, ranged}
 use Rattle.model.proofs.Departures.{departures}
 use Rattle.model.proofs.Instance.{lent, caller}
 
--- ---- a call is none of the arms that a condition names: r_s moves with r_o there
+-- ---- a call is none of the arms that a condition names: rS moves with rO there
 
 abbrev moved : After → ℕ
 moved (goes_on t) = sp t r_s

@@ -20,7 +20,7 @@ use Rattle.model.proofs.RaisedRule.{added_same, trip_same, exception_same}
 use Rattle.model.proofs.RuleStep.{step_same, spilled_same, rule_settled}
 use Rattle.model.proofs.ArmRules.{pop_framed, unhidden}
 
--- ---- r_s moves with r_o
+-- ---- rS moves with rO
 
 spilled_special : (s : State) (k : ℕ) → k ≢ r_s → sp (spilled s) k ≡ sp s k
 unfolding spilled with_special

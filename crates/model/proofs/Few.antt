@@ -23,7 +23,7 @@ use Rattle.model.proofs.FewStates.{Touched, start, joined_is, sp_same, following
 
 -- ---- which arms
 
--- by two tests: m, $x is marginal; p, x is r_l or r_g
+-- by two tests: m, $x is marginal; p, x is rL or rG
 few : Bool → Bool → Arm → Bool
 few m p (control (branch c d)) = true
 few m p (control (jump d)) = true
@@ -103,7 +103,7 @@ module _ (x : ℕ) (o : State) where
   unfolding unless_hidden
   unless_left s t k d e h f = by_test Says (hides s.mask k) (hides t.mask k) (λ i. hides (h.mask_same i) k) (λ g. refused 31 s t h) (λ g. f)
 
-  -- PUT of neither r_l nor r_g
+  -- PUT of neither rL nor rG
   state_left : (s t : State) (k v : ℕ) → (eqb k r_l || eqb k r_g) ≡ false → R s t → R (put_state s k v) (put_state t k v)
   unfolding put_state
   state_left s t k v e h = rw (or_left (eqb k r_l) (eqb k r_g) e, or_right (eqb k r_l) (eqb k r_g) e) (with_left x o s t k v v refl h)

@@ -33,7 +33,7 @@ lent = record {
   b = record { base = stack_start; bytes = bytes_of 0 ++ (bytes_of 0 ++ (bytes_of 0 ++ (bytes_of 0 ++ (bytes_of 0 ++ bytes_of 0)))) };
 }
 
--- r_o one octabyte up, r_l 2, $0 is v, PC at the call
+-- rO one octabyte up, rL 2, $0 is v, PC at the call
 abbrev pub top : State
 top = goes (with_special (with_special (with_special start r_o (stack_start + 8)) r_s (stack_start + 8)) r_l 2) 4
 
@@ -141,7 +141,7 @@ demand3_fetched_met = by_fetched_claim after_needs demand3_fetched computed.2.2
 demand3_fetched_wider_met : Back fetched_in computed.2 (claimed 7) (claimed 8)
 demand3_fetched_wider_met = by_fetched_claim after_wider_needs demand3_fetched_wider computed.2.8
 
--- ---- r_c is hidden, and is 1 in the one and 2 in the other
+-- ---- rC is hidden, and is 1 in the one and 2 in the other
 
 abbrev pub hiding : ℕ → State
 hiding n = masked (with_special start r_c n) 0x100

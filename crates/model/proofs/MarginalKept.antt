@@ -1,4 +1,4 @@
--- "Registers from r_l to r_g − 1 are marginal; once all zero, they stay zero through every step and every exception."
+-- "Registers from rL to rG − 1 are marginal; once all zero, they stay zero through every step and every exception."
 use Rattle.model.proofs.Logic.{max, min, ℕ, ◌+◌, ◌-◌, ◌<◌, ◌≤◌, Bool, cond, false, true, ◌&&◌, List, ⊎_elim, refl, ◌∙◌, ◌≡◌, arith, eqb, leb, ltb}
 use Rattle.model.proofs.Logic.{length, length-set, get_or-set_other, eqb-false, eqb-true, le-ltb, leb-false, leb-true, lt-ltb, ltb-false, ltb-true}
 use Rattle.model.specs.Fill.{over}
@@ -160,7 +160,7 @@ unsaved_calm s o g a l vs b1 b2 b3 b4 c =
     (unsaved_special_law s o g a l vs r_l n (omega arith) ∙ (unfold unsaved_special in refl)) (unsaved_special_law s o g a l vs r_g n (omega arith) ∙ (unfold unsaved_special in refl))
     (λ i p q. over_in (unsaved_general g l vs) 0 256 s.general i (omega arith) (omega arith) (omega arith) ∙ unsaved_zero g l vs i p q))
 
--- under any numbers but r_g and r_l
+-- under any numbers but rG and rL
 interrupted_calm : (s : State) (b w x y z word u v : ℕ) → eqb r_g b ≡ false → eqb r_g w ≡ false → eqb r_g x ≡ false → eqb r_g y ≡ false → eqb r_g z ≡ false
     → eqb r_l b ≡ false → eqb r_l w ≡ false → eqb r_l x ≡ false → eqb r_l y ≡ false → eqb r_l z ≡ false
     → Good (interrupted s b w x y z word u v) → Calm s → Calm (interrupted s b w x y z word u v)

@@ -1,4 +1,4 @@
--- An instruction raises at most one flag, and is as it was before change 7. AddedFlags has what is added to r_a.
+-- An instruction raises at most one flag, and is as it was before change 7. AddedFlags has what is added to rA.
 use Rattle.model.proofs.Logic.{refl, ◌∙◌, count_leading_zeros}
 use Rattle.model.specs.Registers.{with_special, fresh}
 use Rattle.model.specs.Trips.{leftmost, added, raised}

@@ -128,7 +128,7 @@ unsave_fifteen : (w : Windows) (s : State) (x y z g a : ℕ) → Passes w s → 
 unfolding context_count
 unsave_fifteen w s x y z g a h p l m b = packed_open w s x y z g a h p ∙ rw (le-leb 32 g l, le-leb g 255 m, lt-leb a 0x3FFFF b) (said w s (halted s) 15)
 
--- r_g and r_a pass: the count
+-- rG and rA pass: the count
 count_open : (w : Windows) (s : State) (x y z g a : ℕ) → Passes w s → Packed w (reg s z) g a → 32 ≤ g → g ≤ 255 → a ≤ 0x3FFFF
     → step_of w s 0xFB x y z ≡ perform_on w s (read 6 (below (reg s z) (269 - g)) 1 (λ v. context_rest (halted s) (found s) (reg s z) g a (get_or v 0 0)))
 unfolding context_count

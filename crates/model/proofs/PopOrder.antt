@@ -32,7 +32,7 @@ module _ (s : State) (x h : ℕ) (ls : List ℕ) where
   unfolding popped unslide spilled with_special
   popped_general = refl
 
-  -- from the new r_l up POP leaves 0
+  -- from the new rL up POP leaves 0
   beyond : (k : ℕ) → low ≤ k → k < top → f k ≡ 0
   unfolding restored
   beyond k a b =

@@ -124,7 +124,7 @@ module _ {M Sh : Type 0} (st : Store M Sh) (law : Lawful st) where
           go (yes c) = record { place = k; place_below = c; named_by = refl }
           go (no c) = absurd (d (let z : 0 + k ≡ k = omega arith in rw z (unfold framed in (equal k (ltb k h) refl (omega arith)))))
 
-  -- (2) the POP: the frame was stored and kept, r_o is below, r_g reaches
+  -- (2) the POP: the frame was stored and kept, rO is below, rG reaches
   module _ (j : ℕ → ℕ) (s e : State) (h : ℕ) (m w : M) (small : h ≤ 255) (sound : Sound st j (st.shape m)) (fits : worst j (sp s r_o) (h + 1) ≡ 0)
       (words : (i : ℕ) → reg s i < 2 ^ 64) (kept : Kept st (Within (sp s r_o) (h + 1)) (puts st m (sp s r_o) (tab 0 (h + 1) (framed s h))) w)
       (at : sp e r_o ≡ sp s r_o + 8 * (h + 1)) (aligned : sp e r_o % 8 ≡ 0) (above : stack_start < sp e r_o) (beneath : sp e r_o < 0x8000000000000000) (g : h ≤ sp e r_g) (ge : sp e r_g ≤ 255) (ne : Sized e) where

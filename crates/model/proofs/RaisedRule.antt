@@ -1,4 +1,4 @@
--- Outside the departures Knuth's exception is the exception: what is added to r_a, the trip, both; and of one flag alone, V or D, which stores and operations raise.
+-- Outside the departures Knuth's exception is the exception: what is added to rA, the trip, both; and of one flag alone, V or D, which stores and operations raise.
 use Rattle.model.proofs.Logic.{ℕ, ◌%◌, ◌+◌, ◌/◌, Bool, cond, false, true, inl, inr, refl, ◌≡◌, count_leading_zeros, eqb}
 use Rattle.model.specs.Registers.{admissible, next, with_special}
 use Rattle.model.specs.NoMemory.{Said, say}

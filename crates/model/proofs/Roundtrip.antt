@@ -148,7 +148,7 @@ module _ (s : State) (x : ℕ) (good : Good s) (vs : List ℕ) (are : (i : ℕ) 
 save_address : (w : Windows) (s : State) (x y z : ℕ) → x < 256 → Sized s → (step_of w s 0xFA x y z).reply ≡ 0 → reg (step_of w s 0xFA x y z).state x ≡ context_address s
 save_address w s x y z l n h = rw (save_is w s x y z (save_done w s x y z h)) (parked_address s x n l)
 
--- for any r_o, misaligned too: X is a byte
+-- for any rO, misaligned too: X is a byte
 save_unsave : (w : Windows) (s : State) (x y z y' z' : ℕ) → x < 256 → Sized s → Words s → (step_of w s 0xFA x y z).reply ≡ 0
     → unsave_after (step_of w s 0xFA x y z) x y' z' ≡ record { reply = 0; state = unparked s; memory = (step_of w s 0xFA x y z).memory }
 save_unsave w s x y z y' z' l n words h =

@@ -35,7 +35,7 @@ step_same w s op x y z h = go (admissible s) (eqb (unruled_by (shapes_of w)) 0)
     go true false = sym (perform_map both goes_on (refusing (shapes_of w)) s (answer n s 0 []) w)
     go false c = sym (perform_map both goes_on (refusing (shapes_of w)) s (answer 1 s 0 []) w)
 
--- where r_s is r_o nothing is to be settled
+-- where rS is rO nothing is to be settled
 pub spilled_same : (s : State) → sp s r_s ≡ sp s r_o → spilled s ≡ s
 unfolding spilled with_special
 spilled_same s e = λ i. with_parts s s.general (same i)

@@ -86,7 +86,7 @@ frame_same s x h i = frame_reads s x i ∙ on_both (λ (a b : ℕ). a ≡ b) (lt
 
 -- ---- GET
 
--- claiming a local moves no special but r_l
+-- claiming a local moves no special but rL
 claim_special : (s : State) (x z : ℕ) → (eqb z r_l && is_marginal s x) ≡ false → sp s z ≡ sp (claim_local s x) z
 unfolding claim_local with_special cleared
 claim_special s x z h =
@@ -112,7 +112,7 @@ popped_same s x h ls a b = λ i. with_parts s (unslide s x h ls).general (same i
         ≡ set (set s.special r_l (min (h + count_of s x) (sp s r_g))) r_o (sp s r_o - 8 * (h + 1))
     same = rw (top_below s (h + 1) a b) (set-set (set s.special r_l (min (h + count_of s x) (sp s r_g))) r_o (sp s r_o - 8 * (h + 1)) (sp s r_o - 8 * (h + 1)))
 
--- r_o of a POP that has a frame at a place for one
+-- rO of a POP that has a frame at a place for one
 pop_top : (s : State) → no_frame s ≡ false → misplaced s ≡ false → (stack_start < sp s r_o) × (sp s r_o < 2 ^ 63)
 unfolding no_frame misplaced
 pop_top s a b = (leb-false _ _ a, ltb-true _ _ (and_right (eqb (sp s r_o % 8) 0) _ (not-false _ b)))

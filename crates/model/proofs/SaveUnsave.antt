@@ -26,7 +26,7 @@ use Rattle.model.proofs.Entry.{perform_on, Inside, said_by_law, answered, step_o
 abbrev pub octas_of : Windows → ℕ → ℕ → ℕ → List ℕ
 octas_of w p g l = looks both w (below p (l + 269 - g)) (l + 270 - g)
 
--- the judge j passes the whole of a context at p, of threshold g, r_a a and l locals, all in range
+-- the judge j passes the whole of a context at p, of threshold g, rA a and l locals, all in range
 pub record Context (j : ℕ → ℕ) (w : Windows) (p g a l : ℕ) : Type 0 where
   pub packed : worst j p 1 ≡ 0
   pub threshold_is : look both w p / 2 ^ 56 ≡ g

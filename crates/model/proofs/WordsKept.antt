@@ -90,7 +90,7 @@ unfolding cleared
 cleared_words s a b h =
     words_by (cleared s a b) (over_bound (2 ^ 64) (λ k. 0) a b s.general (omega arith) (generals s h) (λ k. omega arith)) (specials s h) h.pc_word h.halt_word h.marks_word h.mask_word
 
--- r_l after a claim is at most r_g
+-- rL after a claim is at most rG
 pub claim_words : (s : State) (x : ℕ) → Words s → Words (claim_local s x)
 unfolding claim_local
 claim_words s x h =

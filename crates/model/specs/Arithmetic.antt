@@ -23,11 +23,11 @@ plain a v = record { x = v; rh = a.rh; rr = a.rr; flags = 0 }
 abbrev pub exact : Operands → ℤ → Results
 exact a n = record { x = octa_of n; rh = a.rh; rr = a.rr; flags = overflow_of n }
 
--- MULU: r_h gets the upper octabyte
+-- MULU: rH gets the upper octabyte
 abbrev pub multiplied : Operands → Results
 multiplied a = record { x = product_low a.y a.z; rh = product_high a.y a.z; rr = a.rr; flags = 0 }
 
--- a quotient in $X and its remainder in r_r
+-- a quotient in $X and its remainder in rR
 abbrev pub parted : Operands → ℕ → ℕ → ℕ → Results
 parted a q r f = record { x = q; rh = a.rh; rr = r; flags = f }
 
@@ -35,11 +35,11 @@ parted a q r f = record { x = q; rh = a.rh; rr = r; flags = f }
 abbrev pub floored : Operands → ℤ → ℤ → Results
 floored a y z = parted a (octa_of (floor_quotient y z)) (octa_of (floor_remainder y z)) (overflow_of (floor_quotient y z))
 
--- DIV: by zero $X is 0, r_r is $Y, D
+-- DIV: by zero $X is 0, rR is $Y, D
 unfoldable pub divided : Operands → Results
 divided a = cond (a.z == 0) (parted a 0 a.y flag_d) (floored a (signed_of a.y) (signed_of a.z))
 
--- DIVU: divides r_d·2^64 + $Y; if r_d ≥ $Z, $X is r_d and r_r is $Y; it raises nothing, by zero neither
+-- DIVU: divides rD·2^64 + $Y; if rD ≥ $Z, $X is rD and rR is $Y; it raises nothing, by zero neither
 unfoldable pub divided_wide : Operands → Results
 divided_wide a = cond (nat_le a.z a.rd) (parted a a.rd a.y 0) (parted a (wide_of a.rd a.y / a.z) (wide_of a.rd a.y % a.z) 0)
 

@@ -9,14 +9,14 @@ use Rattle.model.specs.declared.Operation.{Operation}
 use Rattle.model.specs.declared.Operands.{Operands}
 use Rattle.model.specs.declared.Results.{Results}
 
--- what an operation takes: the operands u and v, read before the claim, and r_d, r_h, r_r
+-- what an operation takes: the operands u and v, read before the claim, and rD, rH, rR
 abbrev pub operands_of : State → ℕ → ℕ → Operands
 operands_of s u v = record { y = u; z = v; rd = sp s r_d; rh = sp s r_h; rr = sp s r_r }
 
 abbrev pub results_in : State → Operation → ℕ → ℕ → Results
 results_in s f u v = results_of f (operands_of s u v)
 
--- $X is written first (which claims), and r_h and r_r
+-- $X is written first (which claims), and rH and rR
 unfoldable pub with_results : State → ℕ → Results → State
 with_results s x r = with_special (with_special (set_register s x r.x) r_h r.rh) r_r r.rr
 

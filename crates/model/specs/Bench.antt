@@ -65,15 +65,15 @@ program = zeros 2048
 abbrev holding : Windows → ℕ → ℕ → Windows
 holding w k v = put_octa w (stack_start + 8 * k) v
 
--- r_o and r_s are k octabytes up the stack
+-- rO and rS are k octabytes up the stack
 abbrev grown : State → ℕ → State
 grown s k = with_special (with_special s r_o (stack_start + 8 * k)) r_s (stack_start + 8 * k)
 
--- r_l is 2, $0 is a and $1 is b
+-- rL is 2, $0 is a and $1 is b
 abbrev two : ℕ → ℕ → State
 two a b = stored (stored (with_special start r_l 2) 0 a) 1 b
 
--- r_l is 3 and $0 to $2 are 1, 2, 3
+-- rL is 3 and $0 to $2 are 1, 2, 3
 abbrev three : State
 three = stored (stored (stored (with_special start r_l 3) 0 1) 1 2) 2 3
 
@@ -88,7 +88,7 @@ does s i t = point s program (i ∷ []) (0 ∷ []) t program
 abbrev refuses : State → Item → ℕ → Point
 refuses s i n = point s program (i ∷ []) (n ∷ []) (halted s) program
 
--- what SAVE $255 stores of the start with $255 = v: octabytes 0 to 237, where 0 is r_l, 224 is $255 and 237 is r_g and r_a
+-- what SAVE $255 stores of the start with $255 = v: octabytes 0 to 237, where 0 is rL, 224 is $255 and 237 is rG and rA
 abbrev parked : Windows → ℕ → Windows
 parked w v = holding (holding w 224 v) 237 (32 * 2 ^ 56)
 
@@ -102,7 +102,7 @@ addressed = stored start 255 0x6000000000000768
 abbrev too_many : ℕ → Point
 too_many n = point addressed (counted n) (step 0xFB 0 0 255 ∷ []) (16 ∷ []) (halted addressed) (counted n)
 
--- P12 and P13 leave the same trip registers: $255 and r_j are 0, @ is 0 and the instruction is 0
+-- P12 and P13 leave the same trip registers: $255 and rJ are 0, @ is 0 and the instruction is 0
 abbrev after_trip : State → State
 after_trip s = with_special (with_special s r_w 4) r_x (2 ^ 63)
 
@@ -156,7 +156,7 @@ points =
     (goes (grown addressed 238) 4) (parked program 77)
     ∷ point (stored start 255 77) program (step 0xFA 255 0 0 ∷ step 0xFB 0 0 255 ∷ []) (0 ∷ 0 ∷ [])
     (goes (stored start 255 77) 8) (parked program 77)
-    -- "a wide local count cut to a byte before it is compared": 256, 256 + r_g, 2^32
+    -- "a wide local count cut to a byte before it is compared": 256, 256 + rG, 2^32
     ∷ too_many 256
     ∷ too_many 288
     ∷ too_many (2 ^ 32)

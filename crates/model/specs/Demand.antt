@@ -52,7 +52,7 @@ pub record SameOutside (F : ℕ → Type 0) (v w : Windows) : Type 0 where
   pub in_a : SameBytes F v.a w.a
   pub in_b : SameBytes F v.b w.b
 
--- "If r_o is then back at its value after the call, a multiple of 8 above 0x6000000000000000 and below 0x8000000000000000, and r_g is
+-- "If rO is then back at its value after the call, a multiple of 8 above 0x6000000000000000 and below 0x8000000000000000, and rG is
 -- at least the hole's number"
 pub record AtPop (h ro : ℕ) (s : State) : Type 0 where
   pub back : sp s r_o ≡ ro

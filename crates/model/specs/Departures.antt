@@ -52,7 +52,7 @@ context_taken w p =
 abbrev computed : State → Operation → Operand → Operand → ℕ → ℕ → ℕ → State
 computed s f p q x y z = with_results s x (results_in s f (operand_of s p y) (operand_of s q z))
 
--- No departure is met by arm a with X, Y, Z in state s on window w, but that r_s moves with r_o. One field a condition.
+-- No departure is met by arm a with X, Y, Z in state s on window w, but that rS moves with rO. One field a condition.
 pub record Outside (w : Windows) (s : State) (a : Arm) (x y z : ℕ) : Type 0 where
   -- no marginal register that is not zero is read
   pub reads : ReadsAlike s a x y z
@@ -69,7 +69,7 @@ pub record Outside (w : Windows) (s : State) (a : Arm) (x y z : ℕ) : Type 0 wh
   -- no hidden register is named: 31
   pub put_seen : (o : Operand) → a ≡ system (put o) → hides s.mask x ≡ false
   pub get_seen : a ≡ system get → hides s.mask z ≡ false
-  -- GET does not read r_l into a marginal register
+  -- GET does not read rL into a marginal register
   pub get_local : a ≡ system get → (z == r_l && is_marginal s x) ≡ false
   -- POP has a frame, at a place for one
   pub pop_frame' : a ≡ stack pop → no_frame s ≡ false
@@ -99,7 +99,7 @@ pub record OutsideException (s : State) (f : ℕ) : Type 0 where
   -- its vector is loaded
   pub loaded : nat_eq (enabled s f) 0 ≡ false → is_loaded s (count_leading_zeros 8 (enabled s f) + 1) ≡ true
 
--- r_s is r_o
+-- rS is rO
 unfoldable pub AtTop : After → Type 0
 AtTop (goes_on t) = sp t r_s ≡ sp t r_o
 AtTop interrupts = Unit {0}
@@ -116,7 +116,7 @@ fetched_rule s op o =
 -- ---- the theorem
 
 pub record Departures : Type 0 where
-  -- THE STEP is Knuth's, outside the conditions, r_s apart; and whole, where his r_s has caught up with r_o
+  -- THE STEP is Knuth's, outside the conditions, rS apart; and whole, where his rS has caught up with rO
   pub by_step : (w : Windows) (s : State) (op x y z : ℕ) → Outside w s (arm_of op) x y z
       → map_outcome goes_on (step_of w s op x y z) ≡ settled_rule w s op x y z
   pub by_step_whole : (w : Windows) (s : State) (op x y z : ℕ) → Outside w s (arm_of op) x y z → AtTop (step_rule w s op x y z).state
@@ -133,28 +133,28 @@ pub record Departures : Type 0 where
   pub reads_marginal : (s : State) (a : Arm) (x y z : ℕ) → MarginalZero s → ReadsAlike s a x y z
   pub push_reads : (s : State) (x i : ℕ) → framed_rule s x i ≡ cond (nat_lt i (hole s x)) (read_rule s i) (hole s x)
   pub push_marginal : (s : State) (x i : ℕ) → Sized s → MarginalZero s → framed s (hole s x) i ≡ framed_rule s x i
-  -- r_s moves with r_o, at PUSH and POP: only where r_s is not r_o; and nothing else moves
+  -- rS moves with rO, at PUSH and POP: only where rS is not rO; and nothing else moves
   pub spill : (s : State) → Sized s → sp s r_s ≡ sp s r_o → spilled s ≡ s
   pub spill_general : (s : State) → (spilled s).general ≡ s.general
   pub spill_special : (s : State) (k : ℕ) → k ≢ r_s → sp (spilled s) k ≡ sp s k
   pub spill_rest : (s : State) → ((spilled s).pc ≡ s.pc) × ((spilled s).halt ≡ s.halt) × ((spilled s).marks ≡ s.marks) × ((spilled s).mask ≡ s.mask)
-  -- POP without a frame, and with a misplaced r_o
+  -- POP without a frame, and with a misplaced rO
   pub pop_frame' : (s : State) (x t : ℕ) → no_frame s ≡ false → misplaced s ≡ false → pop_frame s x t ≡ pop_rule s x t
   -- UNSAVE: 14, 15 and 16, and the low bits of the address
   pub unsave_taken : (w : Windows) (s : State) (p : ℕ) → octa p ≡ p → context_taken w p ≡ true
       → perform both (refusing (shapes_of w)) s (unsave_context s p) w ≡ perform both (refusing (shapes_of w)) s (unsave_rule s p) w
   -- GET and PUT of a hidden register
   pub unhidden : (s : State) (k : ℕ) (d : Said) → hides s.mask k ≡ false → unless_hidden s k d ≡ d
-  -- GET of r_l into a marginal register
+  -- GET of rL into a marginal register
   pub get_local : (s : State) (x z : ℕ) → (z == r_l && is_marginal s x) ≡ false → got s x z ≡ got_rule s x z
   -- U without X: only where it is raised so
   pub added_inexact : (s : State) (f : ℕ) → exact_underflow s f ≡ false → added s f ≡ added_rule s f
   -- a trip through a vector that is not loaded
   pub trip_loaded : (s : State) (k word u v : ℕ) → is_loaded s k ≡ true → trip_to s k word u v ≡ say 0 (trip_rule s k word u v)
-  -- a trap halts: the registers that a handler would find are Knuth's, but r_k
+  -- a trap halts: the registers that a handler would find are Knuth's, but rK
   pub trap_general : (s : State) (word u v : ℕ) → (trap_of s word u v).state.general ≡ (trap_rule s word u v).general
   pub trap_special : (s : State) (word u v k : ℕ) → k ≢ r_k → sp (trap_of s word u v).state k ≡ sp (trap_rule s word u v) k
-  -- r_c, r_u and r_i do not count: only where time passes, and nothing else moves
+  -- rC, rU and rI do not count: only where time passes, and nothing else moves
   pub count_none : (s : State) → Sized s → Words s → counted 0 0 0 s ≡ s
   pub count_general : (s : State) (c u i : ℕ) → (counted c u i s).general ≡ s.general
   pub count_special : (s : State) (c u i k : ℕ) → k ≢ r_c → k ≢ r_u → k ≢ r_i → sp (counted c u i s) k ≡ sp s k

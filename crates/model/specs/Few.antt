@@ -15,7 +15,7 @@ use Rattle.model.specs.declared.State.{State}
 abbrev pub of_stack : ℕ → Bool
 of_stack op = among op_pushgo op_pushgoi op || (among op_pushj op_pushjb op || among op_pop op_unsave op)
 
--- PUT of r_l or r_g
+-- PUT of rL or rG
 abbrev pub puts_bound : ℕ → ℕ → Bool
 puts_bound op x = among op_put op_puti op && (x == r_l || x == r_g)
 

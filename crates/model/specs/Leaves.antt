@@ -46,7 +46,7 @@ pub record TripLeaves (w : Windows) (s : State) (op x y z : ℕ) (o : Outcome St
   pub registers : Tripped s o.state (word_of op x y z) (reg s y) (reg s z)
   pub window : o.memory ≡ w
 
--- 19 of a store "leaves the store made": r_y is its address, r_z $x
+-- 19 of a store "leaves the store made": rY is its address, rZ $x
 pub record StoreLeaves (w : Windows) (s : State) (op x y z : ℕ) (o : Outcome State Windows) : Type 0 where
   pub width : Width
   pub last : Operand
@@ -54,7 +54,7 @@ pub record StoreLeaves (w : Windows) (s : State) (op x y z : ℕ) (o : Outcome S
   pub registers : Tripped (with_added s flag_v) o.state (word_of op x y z) (sum_of s last y z) (reg s x)
   pub window : o.memory ≡ put_octa w (sum_of s last y z) (merged width (sum_of s last y z) (look both w (sum_of s last y z)) (reg s x))
 
--- 19 of an operation "leaves $X, r_h and r_r as written"; r_y and r_z are its operands
+-- 19 of an operation "leaves $X, rH and rR as written"; rY and rZ are its operands
 pub record ArithmeticLeaves (w : Windows) (s : State) (op x y z : ℕ) (o : Outcome State Windows) : Type 0 where
   pub operation : Operation
   pub first : Operand

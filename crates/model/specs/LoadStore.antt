@@ -58,7 +58,7 @@ load_from s d g x a = read 6 a 1 (λ v. answer 0 (next (set_register s x (extend
 abbrev pub flag_v : ℕ
 flag_v = 0x40
 
--- store it all the same and raise V through the exception step itself: r_y is the address, r_z $X
+-- store it all the same and raise V through the exception step itself: rY is the address, rZ $X
 unfoldable pub store_says : State → Width → Sign → ℕ → ℕ → ℕ → Said
 store_says s d g x a word = cond (fits d g (reg s x)) (say 0 (next s)) (raised s flag_v word a (reg s x))
 

@@ -19,7 +19,7 @@ run w a n rest = cond (clear (refusing (shapes_of w)) a n) (ups a n ++ rest) (mi
 abbrev pub hole_below : Windows → State → ℕ
 hole_below w s = look both w (sp s r_o - 8) % 256
 
--- "POP needs the one below r_o, then $i for each i below both H and r_g; with no frame, none"
+-- "POP needs the one below rO, then $i for each i below both H and rG; with no frame, none"
 unfoldable pub pop_needs : Windows → State → List ℕ
 pop_needs w s =
     cond (no_frame s) []

@@ -1,4 +1,4 @@
--- Theorem. Change 7 leaves loads, stores and arithmetic as they were: a step raises at most one flag, and what is added to r_a is as before wherever
+-- Theorem. Change 7 leaves loads, stores and arithmetic as they were: a step raises at most one flag, and what is added to rA is as before wherever
 -- at most one flag is raised and enabled. So every instruction is as before, stepped, fetched or run; exceptions alone are not.
 use Rattle.std.specs.Prelude.{◌≡◌, ℕ, ◌+◌, ◌-◌, ◌%◌, ◌<◌, cond, ◌≢◌, ◌⊎◌, ◌==◌, bit_and}
 use Rattle.model.specs.Plan.{Plan}
@@ -37,7 +37,7 @@ asked_by (raises f q) e p s op x y z = q e s op x y z
 unfoldable pub plan_by : Raise → State → Arm → ℕ → ℕ → ℕ → ℕ → Plan State
 plan_by e s a op x y z = asked_by (flags_in (row_of a)) e (plan_of s a op x y z) s op x y z
 
--- ---- the exception step before change 7, the Rust's: "Disabled ones are added to r_a. Enabled ones after the taken one leave no mark"
+-- ---- the exception step before change 7, the Rust's: "Disabled ones are added to rA. Enabled ones after the taken one leave no mark"
 
 unfoldable pub added_before : State → ℕ → ℕ
 added_before s f = bit_and (f % 256) (255 - enables s)
@@ -47,7 +47,7 @@ raised_before s f word u v =
     cond (enabled s f == 0) (say 0 (next (flagged s (added_before s f))))
     (trip_to (flagged s (added_before s f)) (vector_of (enabled s f)) word u v)
 
--- flags 0xC0 with r_a 0xC000, P13's
+-- flags 0xC0 with rA 0xC000, P13's
 abbrev both_enabled : State
 both_enabled = with_special fresh r_a 0xC000
 

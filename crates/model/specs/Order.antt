@@ -27,13 +27,13 @@ pub record Passes (w : Windows) (s : State) : Type 0 where
   pub windowed : ruled (shapes_of w) ≡ true
   pub apart : shares (shapes_of w) ≡ false
 
--- the packed octabyte at p is there, and so are its r_g and r_a as saved
+-- the packed octabyte at p is there, and so are its rG and rA as saved
 pub record Packed (w : Windows) (p g a : ℕ) : Type 0 where
   pub there : inside (shapes_of w) p ≡ true
   pub threshold : look both w p / 2 ^ 56 ≡ g
   pub status : look both w p % 2 ^ 56 ≡ a
 
--- r_g and r_a pass, and the local count l is there
+-- rG and rA pass, and the local count l is there
 pub record Counted (w : Windows) (p g a l : ℕ) : Type 0 where
   pub packed : Packed w p g a
   pub least : 32 ≤ g
@@ -59,12 +59,12 @@ pub record StepsInOrder : Type 0 where
   pub save_thirteen : (w : Windows) (s : State) (x y z : ℕ) → Passes w s → x < sp s r_g → step_of w s op_save x y z ≡ halted_by 13 w s
   pub save_six : (w : Windows) (s : State) (x y z : ℕ) → Passes w s → sp s r_g ≤ x → clear (refusing (shapes_of w)) (sp s r_o) (extent s) ≡ false
       → step_of w s op_save x y z ≡ refused_by 6 w s
-  -- POP: 29, though r_o be misplaced and the window empty; then 12, whatever lies in the window; then 6
+  -- POP: 29, though rO be misplaced and the window empty; then 12, whatever lies in the window; then 6
   pub pop_twenty_nine : (w : Windows) (s : State) (x y z : ℕ) → Passes w s → no_frame s ≡ true → step_of w s op_pop x y z ≡ halted_by 29 w s
   pub pop_twelve : (w : Windows) (s : State) (x y z : ℕ) → Passes w s → no_frame s ≡ false → misplaced s ≡ true → step_of w s op_pop x y z ≡ halted_by 12 w s
   pub pop_six : (w : Windows) (s : State) (x y z : ℕ) → Passes w s → no_frame s ≡ false → misplaced s ≡ false → inside (shapes_of w) (sp s r_o - 8) ≡ false
       → step_of w s op_pop x y z ≡ refused_by 6 w s
-  -- UNSAVE: 6 for the packed octabyte; 14, whatever r_a and the count are; 15, whatever the count is, though it be missing; 6 for the count; 16,
+  -- UNSAVE: 6 for the packed octabyte; 14, whatever rA and the count are; 15, whatever the count is, though it be missing; 6 for the count; 16,
   -- though the rest be missing; 6 for the rest
   pub unsave_packed : (w : Windows) (s : State) (x y z : ℕ) → Passes w s → inside (shapes_of w) (reg s z) ≡ false → step_of w s op_unsave x y z ≡ refused_by 6 w s
   pub unsave_fourteen : (w : Windows) (s : State) (x y z g a : ℕ) → Passes w s → Packed w (reg s z) g a → g < 32 → step_of w s op_unsave x y z ≡ halted_by 14 w s

@@ -126,7 +126,7 @@ following s = (s.pc + 4) % 2 ^ 64
 
 -- ---- the mask of hidden registers, "bit k for special k"
 
--- "Only r_bb, r_c, r_n, r_i, r_t, r_tt, r_k, r_q, r_u, r_v, r_f, r_ww, r_xx, r_yy and r_zz may be in it"
+-- "Only rBB, rC, rN, rI, rT, rTT, rK, rQ, rU, rV, rF, rWW, rXX, rYY and rZZ may be in it"
 unfoldable pub hideable : ℕ → Bool
 hideable k = is_one_of (r_bb ∷ r_c ∷ r_n ∷ r_i ∷ r_t ∷ r_tt ∷ r_k ∷ r_q ∷ r_u ∷ r_v ∷ r_f ∷ r_ww ∷ r_xx ∷ r_yy ∷ r_zz ∷ []) k
 
@@ -154,18 +154,18 @@ pub record Words (s : State) : Type 0 where
   pub marks_word : s.marks < 2 ^ 64
   pub mask_word : s.mask < 2 ^ 64
 
--- "It is admissible when 32 ≤ r_g ≤ 255, r_l ≤ r_g, r_a ≤ 0x3FFFF and no mark bit above 8 is set"; "any other bit of the mask's octabyte makes a state not
+-- "It is admissible when 32 ≤ rG ≤ 255, rL ≤ rG, rA ≤ 0x3FFFF and no mark bit above 8 is set"; "any other bit of the mask's octabyte makes a state not
 -- admissible"
 unfoldable pub admissible : State → Bool
 admissible s =
     nat_le 32 (sp s r_g) && (nat_le (sp s r_g) 255 && (nat_le (sp s r_l) (sp s r_g) && (nat_le (sp s r_a) 0x3FFFF
     && (nat_lt s.marks (2 ^ 9) && bit_and s.mask hideable_bits == s.mask))))
 
--- "Registers from r_l to r_g − 1 are marginal": the state in which they are all zero
+-- "Registers from rL to rG − 1 are marginal": the state in which they are all zero
 pub record MarginalZero (s : State) : Type 0 where
   pub zero_at : (i : ℕ) → sp s r_l ≤ i → i < sp s r_g → reg s i ≡ 0
 
--- "The fresh state is that of `initialize`: r_g 32, r_l 0, r_o and r_s 0x6000000000000000, r_n 2009, r_k, r_t, r_tt, r_v as written there,
+-- "The fresh state is that of `initialize`: rG 32, rL 0, rO and rS 0x6000000000000000, rN 2009, rK, rT, rTT, rV as written there,
 -- all else 0"
 unfoldable pub fresh : State
 fresh = record {
@@ -208,7 +208,7 @@ halted s = built s s.general s.special s.pc 1
 unfoldable pub with_special : State → ℕ → ℕ → State
 with_special s k v = with_parts s s.general (slice_set s.special k v)
 
--- the fresh state with the register stack at another address: r_o and r_s are a
+-- the fresh state with the register stack at another address: rO and rS are a
 unfoldable pub fresh_at : ℕ → State
 fresh_at a = with_special (with_special fresh r_o a) r_s a
 
@@ -220,11 +220,11 @@ stored s x v = with_parts s (slice_set s.general x v) s.special
 unfoldable pub cleared : State → ℕ → ℕ → State
 cleared s a b = with_parts s (over (λ k. 0) a b s.general) s.special
 
--- r_l ≤ x < r_g
+-- rL ≤ x < rG
 abbrev pub is_marginal : State → ℕ → Bool
 is_marginal s x = nat_le (sp s r_l) x && nat_lt x (sp s r_g)
 
--- "Writing $X with r_l ≤ X < r_g clears $r_l to $X and makes r_l X + 1 .."
+-- "Writing $X with rL ≤ X < rG clears $rL to $X and makes rL X + 1 .."
 unfoldable pub claim_local : State → ℕ → State
 claim_local s x = cond (is_marginal s x) (with_special (cleared s (sp s r_l) (x + 1)) r_l (x + 1)) s
 
@@ -232,15 +232,15 @@ claim_local s x = cond (is_marginal s x) (with_special (cleared s (sp s r_l) (x 
 unfoldable pub set_register : State → ℕ → ℕ → State
 set_register s x v = stored (claim_local s x) x v
 
--- "PUT r_l sets min(value, r_l) and clears what is dropped"
+-- "PUT rL sets min(value, rL) and clears what is dropped"
 unfoldable pub put_locals : State → ℕ → State
 put_locals s v = with_special (cleared s (min v (sp s r_l)) (sp s r_l)) r_l (min v (sp s r_l))
 
--- "PUT r_g clears every register from the lower threshold to the higher − 1"
+-- "PUT rG clears every register from the lower threshold to the higher − 1"
 unfoldable pub put_globals : State → ℕ → State
 put_globals s v = with_special (cleared s (min v (sp s r_g)) (max v (sp s r_g))) r_g v
 
--- all that was pushed is in memory, so that r_s, the end of what is in memory, is r_o. So mmix-sim's SAVE and UNSAVE end.
--- Departure from Knuth: PUSH and POP do so too. (Fascicle 1 keeps the topmost registers in the processor and lets r_s lag behind.)
+-- all that was pushed is in memory, so that rS, the end of what is in memory, is rO. So mmix-sim's SAVE and UNSAVE end.
+-- Departure from Knuth: PUSH and POP do so too. (Fascicle 1 keeps the topmost registers in the processor and lets rS lag behind.)
 unfoldable pub spilled : State → State
 spilled s = with_special s r_s (sp s r_o)

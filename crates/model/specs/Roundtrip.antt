@@ -10,7 +10,7 @@ use Rattle.model.specs.Reader.{Part, window_of, held_by, across, read_context}
 use Rattle.model.specs.Step.{step_of}
 use Rattle.model.specs.declared.State.{State}
 
--- the context whose packed octabyte is at p, as its own octabytes say it: r_g, the local count, and the octabytes from first local up
+-- the context whose packed octabyte is at p, as its own octabytes say it: rG, the local count, and the octabytes from first local up
 abbrev pub threshold_at : Windows → ℕ → ℕ
 threshold_at w p = look both w p / 2 ^ 56
 
@@ -37,8 +37,8 @@ pub record FromFirstToPacked (w : Windows) (p : ℕ) (q : Part) : Type 0 where
   pub within : q.start + q.size ≤ length (window_of w q.which).bytes
   pub octas : q.size ≡ 8 * octas_at w p
 
--- s after SAVE and then UNSAVE: r_l, r_g, r_a, r_o, the specials, the locals below r_l and all globals as before, the other locals 0,
--- r_s = r_o, and PC two instructions on
+-- s after SAVE and then UNSAVE: rL, rG, rA, rO, the specials, the locals below rL and all globals as before, the other locals 0,
+-- rS = rO, and PC two instructions on
 unfoldable pub unparked : State → State
 unparked s = built s (over (λ i. 0) (sp s r_l) (sp s r_g) s.general) (slice_set s.special r_s (sp s r_o)) ((s.pc + 8) % 2 ^ 64) s.halt
 
@@ -53,7 +53,7 @@ pub record ContextsKept : Type 0 where
       → (read_context w (reg s z)).reply
       ≡ cond ((step_of w s op_unsave x y z).reply == 0) (cond (across_at w (reg s z)) 23 0) (step_of w s op_unsave x y z).reply
   pub reader_part : (w : Windows) (p : ℕ) → (read_context w p).reply ≡ 0 → FromFirstToPacked w p (read_context w p).state
-  -- X is a byte; for any r_o, misaligned too
+  -- X is a byte; for any rO, misaligned too
   pub save_unsave : (w : Windows) (s : State) (x y z y' z' : ℕ) → x < 256 → Sized s → Words s → (step_of w s op_save x y z).reply ≡ 0
       → unsave_after (step_of w s op_save x y z) x y' z' ≡ record { reply = 0; state = unparked s; memory = (step_of w s op_save x y z).memory }
   pub save_address : (w : Windows) (s : State) (x y z : ℕ) → x < 256 → Sized s → (step_of w s op_save x y z).reply ≡ 0

@@ -51,7 +51,7 @@ pub record Touching : Type 0 where
   pub reads : State → ℕ → ℕ → ℕ → List ℕ
   pub flags : Raises
   pub needs : Windows → State → ℕ → ℕ → ℕ → List ℕ
-  -- r_s moves with r_o
+  -- rS moves with rO
   pub spills : Bool
 
 pub data Row : Type 0 where

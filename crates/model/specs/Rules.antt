@@ -46,27 +46,27 @@ done s = going (tell (say 0 s))
 abbrev pub interrupt : Plan After
 interrupt = answer 0 interrupts 0 []
 
--- ---- PUSH and POP: r_s stays
+-- ---- PUSH and POP: rS stays
 
--- a call of t with hole number X, or r_l
+-- a call of t with hole number X, or rL
 unfoldable pub push_rule : State → ℕ → ℕ → Plan State
 push_rule s x t = answer 0 (goes (pushed_rule s (hole s x)) t) (sp s r_o) (tab 0 (hole s x + 1) (framed_rule s x))
 
--- the address k octabytes below r_o
+-- the address k octabytes below rO
 unfoldable pub below_top : State → ℕ → ℕ
 below_top s k = (sp s r_o + (2 ^ 64 - 8 * k)) % 2 ^ 64
 
 unfoldable pub popped_rule : State → ℕ → ℕ → List ℕ → State
 popped_rule s x h ls = with_special (unslide s x h ls) r_o (below_top s (h + 1))
 
--- POP, whatever r_o is: the hole's number from the octabyte below r_o, then the locals below the hole
+-- POP, whatever rO is: the hole's number from the octabyte below rO, then the locals below the hole
 unfoldable pub pop_hole_rule : State → ℕ → ℕ → ℕ → Plan State
 pop_hole_rule s x t h = read 6 (below_top s (h + 1)) (min h (sp s r_g)) (λ ls. answer 0 (goes (popped_rule s x h ls) t) 0 [])
 
 unfoldable pub pop_any_rule : State → ℕ → ℕ → Plan State
 pop_any_rule s x t = read 6 (below_top s 1) 1 (λ v. pop_hole_rule s x t (slice_index v 0 % 256))
 
--- ---- UNSAVE: the address's low bits dropped, r_g taken as saved, r_a's low 18 bits, the count's low byte, r_l cut to r_g
+-- ---- UNSAVE: the address's low bits dropped, rG taken as saved, rA's low 18 bits, the count's low byte, rL cut to rG
 
 unfoldable pub unsaved_general_rule : ℕ → ℕ → List ℕ → ℕ → ℕ
 unsaved_general_rule g l vs i = cond (nat_lt i (min l g)) (slice_index vs i) (cond (nat_lt i g) 0 (slice_index vs (l + 1 + (i - g))))
@@ -125,7 +125,7 @@ exception_rule s f op x y z u v = cond (admissible s) (say 0 (raised_rule s f (w
 
 -- ---- the counters
 
--- what time does to a state: c cycles for r_c, i for the interval counter r_i, which counts down, u uses of what r_u counts. How many, an
+-- what time does to a state: c cycles for rC, i for the interval counter rI, which counts down, u uses of what rU counts. How many, an
 -- implementation says. Departure: here they never count, c, u and i are 0
 unfoldable pub counted : ℕ → ℕ → ℕ → State → State
 counted c u i s =

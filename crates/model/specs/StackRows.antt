@@ -17,7 +17,7 @@ abbrev pub stack_plan : StackArm → Of (Plan State)
 -- "PUSHGO takes its target before the push"
 stack_plan (push_jump d) s op x y z = push_frame s (hole s x) (near s d y z)
 stack_plan (push_go o) s op x y z = push_frame s (hole s x) (sum_of s o y z)
--- "PC is r_j + 4 × YZ"
+-- "PC is rJ + 4 × YZ"
 stack_plan pop s op x y z = pop_frame s x ((sp s r_j + 4 * yz_of y z) % 2 ^ 64)
 stack_plan save s op x y z = save_context s x
 stack_plan unsave s op x y z = unsave_context s (reg s z)
@@ -51,7 +51,7 @@ stack_needs pop w s x y z = pop_needs w s
 stack_needs save w s x y z = cond (nat_lt x (sp s r_g)) [] (run w (sp s r_o) (extent s) [])
 stack_needs unsave w s x y z = unsave_needs w (reg s z)
 
--- r_s moves with r_o
+-- rS moves with rO
 abbrev pub stack_spills : StackArm → Bool
 stack_spills (push_jump d) = true
 stack_spills (push_go o) = true

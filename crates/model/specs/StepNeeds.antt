@@ -35,7 +35,7 @@ pub record NeedsAre : Type 0 where
       → fetched_needs w s
       ≡ cond (admissible s && unruled_by (shapes_of w) == 0) (s.pc ∷ cond (inside (shapes_of w) s.pc) (tetra_needs w (tetra_of w s) (claimed_at w s)) []) []
   pub by_exception : (w : Windows) (s : State) (f op x y z u v : ℕ) → needs_of both mmix s w (exception f op x y z u v) ≡ []
-  -- a PUSH that is done: r_o + 8i for i ≤ H; a SAVE that is done: all r_l + 270 − r_g
+  -- a PUSH that is done: rO + 8i for i ≤ H; a SAVE that is done: all rL + 270 − rG
   pub push_done : (w : Windows) (s : State) (x y z : ℕ) → (step_of w s op_pushj x y z).reply ≡ 0 → step_needs w s op_pushj x y z ≡ ups (sp s r_o) (hole s x + 1)
   pub push_back_done : (w : Windows) (s : State) (x y z : ℕ) → (step_of w s op_pushjb x y z).reply ≡ 0 → step_needs w s op_pushjb x y z ≡ ups (sp s r_o) (hole s x + 1)
   pub push_go_done : (w : Windows) (s : State) (x y z : ℕ) → (step_of w s op_pushgo x y z).reply ≡ 0 → step_needs w s op_pushgo x y z ≡ ups (sp s r_o) (hole s x + 1)

@@ -18,7 +18,7 @@ rule_of s a op x y z = rule_in (row_of a) s op x y z
 unfoldable pub step_rule : Windows → State → ℕ → ℕ → ℕ → ℕ → Outcome After Windows
 step_rule w s op x y z = perform both (refusing (shapes_of w)) (goes_on s) (guarded (goes_on s) s (shapes_of w) (rule_of s (arm_of op) op x y z)) w
 
--- the same with r_s moved with r_o by PUSH and POP
+-- the same with rS moved with rO by PUSH and POP
 abbrev pub spilled_after : After → After
 spilled_after (goes_on t) = goes_on (spilled t)
 spilled_after interrupts = interrupts

@@ -4,15 +4,15 @@ use Rattle.model.specs.NoMemory.{Said, say, refuse}
 use Rattle.model.specs.Registers.{r_c, r_n, r_o, r_s, r_i, r_t, r_tt, r_k, r_q, r_u, r_v, r_g, r_l, r_a, is_one_of, sp, hides, next, with_special, claim_local, set_register, put_locals, put_globals}
 use Rattle.model.specs.declared.State.{State}
 
--- 8: "PUT r_c, r_i, r_k, r_q, r_t, r_u, r_v, r_tt"
+-- 8: "PUT rC, rI, rK, rQ, rT, rU, rV, rTT"
 abbrev pub is_privileged : ℕ → Bool
 is_privileged x = is_one_of (r_c ∷ r_i ∷ r_k ∷ r_q ∷ r_t ∷ r_u ∷ r_v ∷ r_tt ∷ []) x
 
--- 9: "PUT r_n, r_o, r_s"
+-- 9: "PUT rN, rO, rS"
 abbrev pub is_illegal : ℕ → Bool
 is_illegal x = is_one_of (r_n ∷ r_o ∷ r_s ∷ []) x
 
--- 7: "PUT above 31". 10: "PUT r_g below 32, below r_l or above 255". 11: "PUT r_a above 0x3FFFF"
+-- 7: "PUT above 31". 10: "PUT rG below 32, below rL or above 255". 11: "PUT rA above 0x3FFFF"
 unfoldable pub put_refusal : State → ℕ → ℕ → ℕ
 put_refusal s x v =
     cond (nat_lt 31 x) 7
@@ -42,7 +42,7 @@ unfoldable pub get_special : State → ℕ → ℕ → Said
 get_special s x z = unless_hidden s z (say 0 (next (got s x z)))
 
 -- Knuth's GET: mmix-sim makes $X a local before it reads special Z.
--- Departure: `got` reads first; they differ only for Z = r_l and a marginal X.
+-- Departure: `got` reads first; they differ only for Z = rL and a marginal X.
 unfoldable pub got_rule : State → ℕ → ℕ → State
 got_rule s x z = set_register s x (sp (claim_local s x) z)
 

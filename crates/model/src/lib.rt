@@ -70,7 +70,7 @@ pub enum Reply {
     StoreTooShort,
     NoPoint,
     OtherPoint,
-    // POP with r_o at the stack's start or below it: judged before 12, and sets the halt code to 1.
+    // POP with rO at the stack's start or below it: judged before 12, and sets the halt code to 1.
     NoFrame,
     // A set of more than 32 pairs of register and value: judged after 1, and leaves everything as it was.
     TooManyPairs,
@@ -141,7 +141,7 @@ pub enum Operation {
     Sru,
 }
 
-/// What an operation takes: $Y (of NEG and NEGU the constant Y), $Z or Z, and the special registers r_d, r_h and r_r.
+/// What an operation takes: $Y (of NEG and NEGU the constant Y), $Z or Z, and the special registers rD, rH and rR.
 #[derive(Clone, Copy)]
 pub struct Operands {
     pub y: u64,
@@ -151,7 +151,7 @@ pub struct Operands {
     pub rr: u64,
 }
 
-/// What it gives: $X, r_h, r_r and the exception flag: D (0x80), V (0x40) or none (0).
+/// What it gives: $X, rH, rR and the exception flag: D (0x80), V (0x40) or none (0).
 #[derive(Clone, Copy)]
 pub struct Results {
     pub x: u64,

@@ -73,7 +73,7 @@ keeping s ns = image_of s ++ flat ns
 abbrev suited : List ℕ → Bool
 suited ns = suits (keeping fresh ns) 16 32 2 3
 
--- a base or a length one more or one less is another; r_g 31 is not admissible
+-- a base or a length one more or one less is another; rG 31 is not admissible
 unfoldable pub suits_met : Bool
 suits_met =
     suited (16 ∷ 32 ∷ 2 ∷ 3 ∷ []) && not (suited (15 ∷ 32 ∷ 2 ∷ 3 ∷ []) || (suited (17 ∷ 32 ∷ 2 ∷ 3 ∷ []) || (suited (16 ∷ 31 ∷ 2 ∷ 3 ∷ []) || (suited (16 ∷ 33 ∷ 2 ∷ 3 ∷ [])
@@ -84,7 +84,7 @@ suits_met =
 abbrev lent_with : ℕ → Point
 lent_with n = point_in (replicate n 0) 16 32 (replicate 16 0) (replicate 24 0)
 
--- 27, 28 and 1, in this order; a hidden r_c is a mask that is not empty
+-- 27, 28 and 1, in this order; a hidden rC is a mask that is not empty
 unfoldable pub room_replies : List ℕ
 room_replies =
     room_reply (keeping fresh (16 ∷ 32 ∷ 2 ∷ 3 ∷ 1 ∷ [])) (lent_with 2336)

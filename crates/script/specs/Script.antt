@@ -25,7 +25,7 @@ done_line = codes "(# # # # (done) (pc #) (rG #) (rL #) (rO #))\n"
 unfoldable pub refused_line : List ℕ
 refused_line = codes "(# # # # (refused %) (pc #) (rG #) (rL #) (rO #))\n"
 
--- "opcode, X, Y, Z, reply (`(done)` or `(refused N)`), PC, r_g, r_l, r_o"
+-- "opcode, X, Y, Z, reply (`(done)` or `(refused N)`), PC, rG, rL, rO"
 unfoldable pub step_text : Instruction → ℕ → State → List ℕ
 step_text i n s =
     cond (eqb n 0)

@@ -1,4 +1,4 @@
--- Judging a set by r_l alone and then putting all of it is the set; and what its outcome is, case by case.
+-- Judging a set by rL alone and then putting all of it is the set; and what its outcome is, case by case.
 use Rattle.model.proofs.Prelude.{suc, ℕ, ◌<◌, ◌≤◌, false, true, List, [], ◌∷◌, ap, refl, sym, ◌∙◌, ◌≡◌, eqb, length, length-set, eqb-false, eqb-true, le-ltb}
 use Rattle.model.proofs.Prelude.{lt-ltb, ne_eqb, admissible, cleared, fresh, halted, put_globals, put_locals, r_g, r_l, Sized, sp, with_special, put_refusal}
 use Rattle.model.proofs.Prelude.{put_state, spec_other, spec_same, eqb_swap, on, on_both, length_over}

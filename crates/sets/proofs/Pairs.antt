@@ -43,7 +43,7 @@ pairs_count (x ∷ (y ∷ l)) = let e = pairs_count l in omega arith
 
 -- ---- judging
 
--- what PUT answers where r_l is l
+-- what PUT answers where rL is l
 pub judged_at : (l : ℕ) (p : Pair) (r : Reply) → ((s : State) → sp s r_l ≡ l → r ≡ reply_of (put_refusal s p.register p.value)) → r ≡ reply_of (refusal_at l p)
 unfolding refusal_at with_special fresh
 judged_at l p r f = f (with_special fresh r_l l) refl

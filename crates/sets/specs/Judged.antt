@@ -1,15 +1,15 @@
--- How the code goes about a set, and why that is the set: it is judged first, by r_l alone, which earlier pairs may have lowered; then all pairs are put, in place.
+-- How the code goes about a set, and why that is the set: it is judged first, by rL alone, which earlier pairs may have lowered; then all pairs are put, in place.
 use Rattle.std.specs.Prelude.{ℕ, suc, min, ◌≡◌, cond, List, [], ◌∷◌, eqb}
 use Rattle.model.specs.Registers.{r_l, sp, Sized, fresh, halted, with_special}
 use Rattle.model.specs.System.{put_refusal, put_state}
 use Rattle.model.specs.declared.State.{State}
 use Rattle.sets.specs.Sets.{Pair, SetOutcome, set_says, put_pairs, all_or_none}
 
--- PUT's number where r_l is l, whatever else the state is
+-- PUT's number where rL is l, whatever else the state is
 unfoldable pub refusal_at : ℕ → Pair → ℕ
 refusal_at l p = put_refusal (with_special fresh r_l l) p.register p.value
 
--- r_l after it
+-- rL after it
 unfoldable pub locals_after : ℕ → Pair → ℕ
 locals_after l p = cond (eqb p.register r_l) (min p.value l) l
 

@@ -1,4 +1,4 @@
--- 02, 'PUT for a whole set': "Loading a study sets r_g, r_l, r_a and others, and half a load is worse than none."
+-- 02, 'PUT for a whole set': "Loading a study sets rG, rL, rA and others, and half a load is worse than none."
 use Rattle.std.specs.Prelude.{ℕ, suc, ◌/◌, ◌≡◌, cond, List, [], ◌∷◌, ltb, eqb, length}
 use Rattle.model.specs.Registers.{admissible, halted}
 use Rattle.model.specs.System.{put_refusal, put_state}

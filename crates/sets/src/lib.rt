@@ -1,4 +1,4 @@
-//! PUT for a whole set of special registers, in place: each pair of a list takes effect, or none does. It is judged first, by r_l alone, and then put.
+//! PUT for a whole set of special registers, in place: each pair of a list takes effect, or none does. It is judged first, by rL alone, and then put.
 #![tactic(auto)]
 
 ghost use Rattle.std.specs.Prelude.{◌≡◌, ℕ};
@@ -29,7 +29,7 @@ struct Verdict {
     place: u64,
 }
 
-/// r_l after PUT of a value to special register x.
+/// rL after PUT of a value to special register x.
 fn locals_after(rl: u64, x: u64, value: u64) -> u64
     ensures { result ≡ locals_after rl (pair x value) }
 {
@@ -39,7 +39,7 @@ fn locals_after(rl: u64, x: u64, value: u64) -> u64
     rl
 }
 
-/// Each pair is judged where the earlier ones leave r_l.
+/// Each pair is judged where the earlier ones leave rL.
 fn judge(rl: u64, pairs: &[u64]) -> Verdict
     ensures { (result.reply ≡ reply_of (judge_pairs rl 0 (pairs_of pairs.now)).reply)
         × (result.place ≡ (judge_pairs rl 0 (pairs_of pairs.now)).place) }

@@ -103,7 +103,7 @@ entered g g₁ g₂ l pc h n ro rj d b held en eo ej e₁ ed e₂ eb halt marks 
 
 -- ---- POP
 
--- r_o as code judges it
+-- rO as code judges it
 pub misplaced_negative : (s : State) (ro : ℕ) → sp s r_o ≡ ro → ro % 8 ≡ 0 → leb (2 ^ 63) ro ≡ misplaced s
 unfolding misplaced
 misplaced_negative s ro e a =
@@ -113,7 +113,7 @@ pub misplaced_odd : (s : State) (ro : ℕ) → sp s r_o ≡ ro → (ro % 8 ≡ 0
 unfolding misplaced
 misplaced_odd s ro e a = rw (e, ne_eqb _ _ a)
 
--- the caller's registers below the new r_l, part by part: the outputs moved above the hole, the last one in it, the locals
+-- the caller's registers below the new rL, part by part: the outputs moved above the hole, the last one in it, the locals
 module _ (w : Windows) (bottom h low x : ℕ) (s : State) (el : low ≡ lowered s x h) (pass : worst (refusing (shapes_of w)) bottom (min h low) ≡ 0) where
   abbrev g : List ℕ
   g = s.general
@@ -154,7 +154,7 @@ module _ (w : Windows) (bottom h low x : ℕ) (s : State) (el : low ≡ lowered 
   moved_out : (k : ℕ) → low ≤ k → get_or moved k 0 ≡ get_or g k 0
   moved_out k b = over_after moves (h + 1) low g k b
 
-  -- a hole below the new r_l
+  -- a hole below the new rL
   hole_below_law : h < low → (last : ℕ) → last ≡ last_output s x → over reads 0 h (set moved h last) ≡ over by_rule 0 low g
   hole_below_law b last e =
       ext_get_or 0 (over reads 0 h (set moved h last)) (over by_rule 0 low g) (lengths ∙ sym (length_over by_rule 0 low g))
@@ -207,11 +207,11 @@ module _ (w : Windows) (bottom h low x : ℕ) (s : State) (el : low ≡ lowered 
     pub written_all : low ≤ h → g₂ ≡ over reads 0 low g₁ → with_parts s g₂ s.special ≡ between_by w bottom s x h
     written_all l e = written (e ∙ rw moved_is (hole_above l))
 
--- a frame's place below r_o, as code has it
+-- a frame's place below rO, as code has it
 pub below : (ro d : ℕ) → stack_start < ro → ro < 0x8000000000000000 → d ≤ 2048 → (ro + (2 ^ 64 - d)) % 2 ^ 64 ≡ ro - d
 below ro d a b l = omega arith
 
--- what code asks of the windows below r_o
+-- what code asks of the windows below rO
 module _ (w : Windows) (l : List ℕ) (placed : Placed l) where
   module _ (b : ℕ) (e : b ≡ (get_or l r_o 0 + (2 ^ 64 - 8)) % 2 ^ 64) where
     at_hole : b ≡ get_or l r_o 0 - 8

@@ -21,7 +21,7 @@ refusal_on w s = cond (admissible s) (unruled_by (shapes_of w)) 1
 unfoldable pub only_if : Bool → Windows → State → Plan State → Outcome State Windows
 only_if t w s p = cond t (perform both (refusing (shapes_of w)) s p w) (record { reply = 1; state = s; memory = w })
 
--- r_g and r_l are numbers of registers, in order
+-- rG and rL are numbers of registers, in order
 unfoldable pub placed : State → Bool
 placed s = leb (sp s r_g) 255 && leb (sp s r_l) (sp s r_g)
 

@@ -32,7 +32,7 @@ pop_of w s x = guarded_on w s (pop_frame s x s.pc)
 unfoldable pub pop_in : Windows → State → ℕ → Outcome State Windows
 pop_in w s x = only_if (placed s) w s (pop_frame s x s.pc)
 
--- "PC is r_j + 4 × YZ"
+-- "PC is rJ + 4 × YZ"
 abbrev pub return_to : State → ℕ → ℕ
 return_to s yz = (sp s r_j + 4 * yz) % 2 ^ 64
 
@@ -57,18 +57,18 @@ pub record PopGives (o : Outcome State Windows) (s : State) (yz : ℕ) (r : PopF
 
 -- ---- what the private functions go by
 
--- the special registers of a state whose r_g and r_l are placed
+-- the special registers of a state whose rG and rL are placed
 pub record Held (special : List ℕ) : Type 0 where
   pub long : r_o < length special
   pub g_high : get_or special r_g 0 ≤ 255
   pub l_g : get_or special r_l 0 ≤ get_or special r_g 0
 
--- r_o where a frame can stand below it
+-- rO where a frame can stand below it
 pub record Placed (special : List ℕ) : Type 0 where
   pub above : stack_start < get_or special r_o 0
   pub beneath : get_or special r_o 0 < 0x8000000000000000
 
--- where the frame with hole h below r_o starts
+-- where the frame with hole h below rO starts
 abbrev pub bottom_of : List ℕ → ℕ → ℕ
 bottom_of special h = get_or special r_o 0 - 8 * (h + 1)
 

@@ -15,20 +15,20 @@ ghost use Rattle.stack.specs.PushPop.{Held, Placed, bottom_of, between_by, poppe
 
 use model::{Bases, Octabyte, Reply, State};
 
-/// What POP found at r_o.
+/// What POP found at rO.
 #[derive(Clone, Copy)]
 pub enum PopFrame {
     /// A frame was popped; PC goes to the target.
     Frame(u64),
-    /// r_o is at or below the stack's start: the halt code is 1 (29).
+    /// rO is at or below the stack's start: the halt code is 1 (29).
     NoFrame,
-    /// r_o cannot hold a frame: the halt code is 1 (12).
+    /// rO cannot hold a frame: the halt code is 1 (12).
     Rejected,
     /// Any other refusal, which leaves all as it was: 6, and 1; by value 2 and 22 too.
     Refused(Reply),
 }
 
-/// Whether r_g and r_l are numbers of registers, in order.
+/// Whether rG and rL are numbers of registers, in order.
 pub(crate) fn is_placed(rg: u64, rl: u64) -> bool
     ensures { (s : State) → sp s r_g ≡ rg → sp s r_l ≡ rl → result ≡ placed s }
 {
@@ -80,7 +80,7 @@ fn last_output(general: &[u64; 256], rl: u64, x: u8) -> u64
 }
 
 /// The restored locals and the outputs, which come first: the outputs above the hole, the last one in it, the locals below. Nothing from `low`, the
-/// new r_l, up is written; with no outputs that is the hole too.
+/// new rL, up is written; with no outputs that is the hole too.
 fn restore(
     general: &mut [u64; 256],
     a: &[u8],
@@ -108,7 +108,7 @@ fn restore(
     load_locals(general, a, b, at, bottom, low);
 }
 
-/// Whether r_o, above the stack's start, cannot hold a frame.
+/// Whether rO, above the stack's start, cannot hold a frame.
 fn is_misplaced(ro: u64) -> bool
     ensures { (s : State) → sp s r_o ≡ ro → result ≡ misplaced s }
 {
@@ -118,7 +118,7 @@ fn is_misplaced(ro: u64) -> bool
     true
 }
 
-/// The special registers of a pop, which come last: the new r_l, and r_o and r_s at the frame's bottom.
+/// The special registers of a pop, which come last: the new rL, and rO and rS at the frame's bottom.
 fn set_frame(special: &mut [u64; 32], low: u64, bottom: u64)
     ensures { special.new ≡ set (set (set special.old r_l low) r_o bottom) r_s bottom }
 {
@@ -127,7 +127,7 @@ fn set_frame(special: &mut [u64; 32], low: u64, bottom: u64)
     special[State::RS] = bottom;
 }
 
-/// The registers after a pop with hole h: written, then cleared from the new r_l to r_g − 1; the special ones are set afterwards.
+/// The registers after a pop with hole h: written, then cleared from the new rL to rG − 1; the special ones are set afterwards.
 fn leave(
     general: &mut [u64; 256],
     special: &mut [u64; 32],
@@ -153,7 +153,7 @@ fn leave(
     set_frame(special, low, bottom);
 }
 
-/// POP where r_g and r_l are placed, with r_o above the stack's start and well placed.
+/// POP where rG and rL are placed, with rO above the stack's start and well placed.
 fn pop_at(
     general: &mut [u64; 256],
     special: &mut [u64; 32],
@@ -188,7 +188,7 @@ fn pop_at(
     PopFrame::Frame(target)
 }
 
-/// Does not judge 2 or 22, nor 1 beyond r_l ≤ r_g ≤ 255: the caller has. POP x, yz.
+/// Does not judge 2 or 22, nor 1 beyond rL ≤ rG ≤ 255: the caller has. POP x, yz.
 pub fn pop_frame_judged(
     general: &mut [u64; 256],
     special: &mut [u64; 32],

@@ -70,7 +70,7 @@ fn enter(general: &mut [u64; 256], special: &mut [u64; 32], pc: u64, h: u64)
     special[State::RS] = new_ro;
 }
 
-/// Does not judge 2 or 22, nor 1 beyond r_l ≤ r_g ≤ 255: the caller has. PUSH with x: the frame goes to the windows at r_o, and the callee gets the registers
+/// Does not judge 2 or 22, nor 1 beyond rL ≤ rG ≤ 255: the caller has. PUSH with x: the frame goes to the windows at rO, and the callee gets the registers
 /// above the hole.
 pub fn push_frame_judged(
     general: &mut [u64; 256],

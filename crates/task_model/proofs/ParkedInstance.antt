@@ -40,7 +40,7 @@ others = record { start = 72; size = 16 }
 abbrev top_at : State → ℕ → State
 top_at s o = with_special (with_special s r_o o) r_s o
 
--- a context of 16 octabytes at a misaligned r_o, 7 of them in A: $0 is 7 and its only local
+-- a context of 16 octabytes at a misaligned rO, 7 of them in A: $0 is 7 and its only local
 abbrev pub tasks : List State
 tasks = goes (top_at (with_special (stored (with_special start r_g 255) 0 7) r_l 1) (stack_start - 51)) (stack_start - 88)
     ∷ goes (top_at start (stack_start + 72)) (stack_start - 72) ∷ []

@@ -1,4 +1,4 @@
--- An instance of what tasks hide, all hypotheses computed: r_c, hidden, is 1 in the one and 2 in the other.
+-- An instance of what tasks hide, all hypotheses computed: rC, hidden, is 1 in the one and 2 in the other.
 use Rattle.model.proofs.Prelude.{suc, zero, ℕ, [], ◌∷◌, refl, SameSeen, hiding, same_seen}
 use Rattle.task_model.proofs.Prelude.{lent}
 use Rattle.task_model.specs.Tasks.{task_of}

@@ -94,7 +94,7 @@ module _ (k : Cut) (ss : List State) (w : Windows) where
     pub parts : parted k.part at_call.memory (sp caller_at r_o) (hole_at + 1) k.task k.list
     pub off : All (Off (Within (sp caller_at r_o) (hole_at + 1))) (run_needs_by both studies (needed k.task) called_at.state called_at.memory k.list)
 
-  -- the POP finds r_o back; fetched, its tetra is a POP that is lent; it is on the call's part, or on one that lets all of the frame through
+  -- the POP finds rO back; fetched, its tetra is a POP that is lent; it is on the call's part, or on one that lets all of the frame through
   pub record PopsThere : Type 0 where
     pub finds_back : AtPop hole_at (sp (task_of called_at.state k.task) r_o) (task_of at_pop.state k.task)
     pub met : PopMetIn k.pop_part at_pop k.task k.pop_how

@@ -1,6 +1,6 @@
 -- Theorem (02, change 14). "A parked context survives the study": what SAVE stored comes back by UNSAVE, whatever the list between them does that needs no
 -- octabyte of the context. SAVE that is done, by step or fetched; UNSAVE by step and by run, a run being the list of its fetched instructions (RunMeant);
--- a return to a point is no item of the list. For any r_o: "Misaligned r_o and contexts across both windows are included"; and any parts.
+-- a return to a point is no item of the list. For any rO: "Misaligned rO and contexts across both windows are included"; and any parts.
 use Rattle.std.specs.Prelude.{ℕ, ◌≤◌, ◌<◌, ◌≡◌, ◌≢◌, Bool, true, ◌&&◌, ◌||◌, List, leb, eqb, length}
 use Rattle.model.specs.Memory.{Windows, shapes_of, both}
 use Rattle.model.specs.Opcodes.{op_save, op_unsave}
@@ -17,11 +17,11 @@ use Rattle.task_model.specs.TaskDemand.{turn_on, after_turns}
 
 -- ---- what comes back
 
--- "r_l, r_g, r_a, r_o, the twelve specials": r_b, r_d, r_e, r_h, r_j, r_m, r_r, and r_p, r_w, r_x, r_y, r_z
+-- "rL, rG, rA, rO, the twelve specials": rB, rD, rE, rH, rJ, rM, rR, and rP, rW, rX, rY, rZ
 unfoldable pub in_context : ℕ → Bool
 in_context k = eqb k r_g || (eqb k r_l || (eqb k r_a || (eqb k r_o || (leb k r_r || (leb r_p k && leb k r_z)))))
 
--- of s, before SAVE, in t, after UNSAVE: the locals below r_l and all globals, SAVE's own $X too, are as before SAVE, the other locals 0, r_s = r_o
+-- of s, before SAVE, in t, after UNSAVE: the locals below rL and all globals, SAVE's own $X too, are as before SAVE, the other locals 0, rS = rO
 pub record ComesBack (s t : State) : Type 0 where
   pub special_back : (k : ℕ) → k < 32 → in_context k ≡ true → sp t k ≡ sp s k
   pub stack_back : sp t r_s ≡ sp t r_o

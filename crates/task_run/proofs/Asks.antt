@@ -92,7 +92,7 @@ module _ (h : Whole) (w : Windows) (o : OwnOnly h w) where
 
 -- ---- POP
 
--- r_o is such that there is a frame
+-- rO is such that there is a frame
 pub record Standing (s : State) : Type 0 where
   pub above : stack_start < sp s r_o
   pub even : sp s r_o % 8 ≡ 0

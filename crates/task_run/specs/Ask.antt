@@ -27,7 +27,7 @@ asks h l = any_foreign (own_of h) (whole_of h) l
 pub record OwnOnly (h : Whole) (w : Windows) : Type 0 where
   pub none_foreign : (x : ℕ) → inside (shapes_of w) x ≡ true → is_foreign h x ≡ false
 
--- r_g and r_l are numbers of registers
+-- rG and rL are numbers of registers
 pub record CountsInRange (special : List ℕ) : Type 0 where
   pub threshold : get_or special r_g 0 ≤ 255
   pub locals : get_or special r_l 0 ≤ 255

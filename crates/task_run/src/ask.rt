@@ -81,7 +81,7 @@ fn push_asks(special: &[u64; 32], whole: Whole, x: u8) -> bool
     has_foreign(whole, ro, at + 1)
 }
 
-/// POP's octabyte below r_o, and then the locals.
+/// POP's octabyte below rO, and then the locals.
 fn pop_asks(special: &[u64; 32], a: &[u8], b: &[u8], at: Bases, whole: Whole) -> bool
     requires { OwnOnly whole (lent at a.now b.now) }
     ensures { (general : List ℕ) (pc halt marks mask : ℕ) → result

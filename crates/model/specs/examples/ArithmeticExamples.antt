@@ -20,9 +20,9 @@ unfoldable pub all_same : List ArithmeticExample → Bool
 all_same [] = true
 all_same (c ∷ cs) = same (results_of c.operation c.operands) c.results && all_same cs
 
--- ---- operations with r_h = 7 and r_r = 9 before
+-- ---- operations with rH = 7 and rR = 9 before
 
--- $Y, $Z and r_d; $X, r_h, r_r and the flags
+-- $Y, $Z and rD; $X, rH, rR and the flags
 abbrev giving : Operation → ℕ → ℕ → ℕ → ℕ → ℕ → ℕ → ℕ → ArithmeticExample
 giving o y z d x h r f = record { operation = o; operands = record { y = y; z = z; rd = d; rh = 7; rr = 9 }; results = record { x = x; rh = h; rr = r; flags = f } }
 
@@ -42,7 +42,7 @@ product_examples =
     ∷ at Mul (2 ^ 32) (2 ^ 31) lowest flag_v ∷ at Mul (minus (2 ^ 32)) (2 ^ 31) lowest 0 ∷ at Mul highest highest 1 flag_v ∷ at Mul lowest lowest 0 flag_v ∷ at Mul 0 lowest 0 0
     ∷ giving Mulu (minus 1) (minus 1) 5 1 (minus 2) 9 0 ∷ giving Mulu lowest 2 5 0 1 9 0 ∷ giving Mulu 3 5 5 15 0 9 0 ∷ []
 
--- DIV: $Y, $Z; $X, r_r and the flags
+-- DIV: $Y, $Z; $X, rR and the flags
 abbrev by : ℕ → ℕ → ℕ → ℕ → ℕ → ArithmeticExample
 by y z x r f = giving Div y z 5 x 7 r f
 
@@ -52,7 +52,7 @@ quotient_examples =
     ∷ by 6 (minus 2) (minus 3) 0 0 ∷ by (minus 6) 2 (minus 3) 0 0 ∷ by (minus 1) highest (minus 1) (highest - 1) 0 ∷ by 1 lowest (minus 1) (minus highest) 0
     ∷ by lowest (minus 1) lowest 0 flag_v ∷ by lowest 1 lowest 0 0 ∷ by lowest lowest 1 0 0 ∷ by 5 0 0 5 flag_d ∷ by lowest 0 0 lowest flag_d ∷ by 0 0 0 0 flag_d ∷ []
 
--- DIVU: r_d, $Y, $Z; $X and r_r
+-- DIVU: rD, $Y, $Z; $X and rR
 abbrev wide : ℕ → ℕ → ℕ → ℕ → ℕ → ArithmeticExample
 wide d y z x r = giving Divu y z d x 7 r 0
 

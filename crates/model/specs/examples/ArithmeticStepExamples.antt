@@ -14,7 +14,7 @@ nowhere = stack_alone (record { base = stack_start; bytes = [] })
 abbrev example : State → ℕ → ℕ → ℕ → ℕ → ℕ → State → Point
 example s op x y z r t = record { begin = s; window = nowhere; items = step op x y z ∷ []; replies = r ∷ []; end = t; left = nowhere }
 
--- four locals, $1 = u, $2 = v, $3 = w; r_h = 7 and r_r = 9
+-- four locals, $1 = u, $2 = v, $3 = w; rH = 7 and rR = 9
 abbrev having : ℕ → ℕ → ℕ → State
 having u v w = with_special (with_special (stored (stored (stored (with_special start r_l 4) 1 u) 2 v) 3 w) r_h 7) r_r 9
 
@@ -34,14 +34,14 @@ opcode_examples =
     ++ (does 0x28 203 7 9 ++ (does 0x2A 403 7 9 ++ (does 0x2C 803 7 9 ++ (does 0x2E 1603 7 9 ++ (does 0x30 1 7 9 ++ (does 0x32 1 7 9 ++ (does 0x34 (minus 1) 7 9
     ++ (does 0x36 (minus 1) 7 9 ++ (does 0x38 800 7 9 ++ (does 0x3A 800 7 9 ++ (does 0x3C 12 7 9 ++ does 0x3E 12 7 9))))))))))))))))))
 
--- DIVU takes r_d: 2^64 + 100 by 3 with r_d = 1
+-- DIVU takes rD: 2^64 + 100 by 3 with rD = 1
 abbrev wide_state : ℕ → State
 wide_state u = with_special (having u 100 3) r_d 1
 
 abbrev wide_example : Point
 wide_example = example (wide_state 0) 0x1E 1 2 3 0 (goes (gives (wide_state 6148914691236517238) 7 2) 4)
 
--- ---- flags: DIV of 100 by zero, and ADD of the largest and 1; not enabled, enabled, enabled with no vector loaded. $255 = 7, r_j = 11
+-- ---- flags: DIV of 100 by zero, and ADD of the largest and 1; not enabled, enabled, enabled with no vector loaded. $255 = 7, rJ = 11
 
 abbrev calling : State → State
 calling s = with_special (stored s 255 7) r_j 11
@@ -52,7 +52,7 @@ enabling a s = with_special (calling s) r_a a
 abbrev unloaded : State → State
 unloaded s = record { general = s.general; special = s.special; pc = s.pc; halt = s.halt; marks = 0; mask = s.mask }
 
--- $255 = r_j, r_b, r_w, r_x, r_y, r_z of an instruction op x 2 3
+-- $255 = rJ, rB, rW, rX, rY, rZ of an instruction op x 2 3
 abbrev taken : State → ℕ → ℕ → ℕ → ℕ → ℕ → State
 taken s b op x u v =
     with_special (with_special (with_special (with_special (with_special (stored s 255 11) r_b b) r_w 4) r_x (2 ^ 63 + op * 2 ^ 24 + x * 2 ^ 16 + 0x0203)) r_y u) r_z v
@@ -68,9 +68,9 @@ flag_examples =
     ∷ example (calling (having 0 highest 1)) 0x20 1 2 3 0 (goes (with_special (calling (having (2 ^ 63) highest 1)) r_a 0x40) 4)
     ∷ example (enabling 0x4000 (having 0 highest 1)) 0x20 1 2 3 0 (goes (taken (enabling 0x4000 (having (2 ^ 63) highest 1)) 7 0x20 1 highest 1) 0x20)
     ∷ example (unloaded (enabling 0x4000 (having 0 highest 1))) 0x20 1 2 3 19 (halted (taken (unloaded (enabling 0x4000 (having (2 ^ 63) highest 1))) 7 0x20 1 highest 1))
-    -- r_b gets the new $255
+    -- rB gets the new $255
     ∷ example (enabling 0x4000 (having 0 highest 1)) 0x20 255 2 3 0 (goes (taken (enabling 0x4000 (having 0 highest 1)) (2 ^ 63) 0x20 255 highest 1) 0x20)
-    -- NEG of the lowest from 2: r_y is 2
+    -- NEG of the lowest from 2: rY is 2
     ∷ example (enabling 0x4000 (having 0 5 (2 ^ 63))) 0x34 1 2 3 0 (goes (taken (enabling 0x4000 (having (2 ^ 63 + 2) 5 (2 ^ 63))) 7 0x34 1 2 (2 ^ 63)) 0x20) ∷ []
 
 -- ---- X = Y, X = Z, X marginal, X marginal and Y: operands are read before the claim

@@ -71,11 +71,11 @@ plain s w op x y z r t k = example s w op x y z r t w k w
 abbrev interrupted : State → ℕ → ℕ → ℕ → ℕ → ℕ → Example
 interrupted s op x y z r = plain s nowhere op x y z r (halted s) interrupts
 
--- r_o and r_s
+-- rO and rS
 abbrev top_at : State → ℕ → ℕ → State
 top_at s o e = with_special (with_special s r_o o) r_s e
 
--- r_s moves with r_o: PUSHJ $0
+-- rS moves with rO: PUSHJ $0
 abbrev spill_example : Example
 spill_example = plain start (zeros stack_start 8) 0xF2 0 0 1 0
     (goes (with_special (top_at start (stack_start + 8) (stack_start + 8)) r_j 4) 4) (goes_on (goes (with_special (top_at start (stack_start + 8) stack_start) r_j 4) 4))
@@ -84,14 +84,14 @@ spill_example = plain start (zeros stack_start 8) 0xF2 0 0 1 0
 abbrev around : Windows
 around = zeros 0x5FFFFFFFFFFFFFF8 16
 
--- POP 0,0 without a frame, and with a misplaced r_o
+-- POP 0,0 without a frame, and with a misplaced rO
 abbrev pop_examples : List Example
 pop_examples =
     plain start around 0xF8 0 0 0 29 (halted start) (goes_on (top_at start 0x5FFFFFFFFFFFFFF8 stack_start))
     ∷ plain (with_special start r_o 0x6000000000000001) around 0xF8 0 0 0 12 (halted (with_special start r_o 0x6000000000000001))
     (goes_on (top_at start 0x5FFFFFFFFFFFFFF9 stack_start)) ∷ []
 
--- a marginal register that is not zero, r_l 0 and $0 = 1: BNZ $0,0,5; PUSHJ $1
+-- a marginal register that is not zero, rL 0 and $0 = 1: BNZ $0,0,5; PUSHJ $1
 abbrev marginal_examples : List Example
 marginal_examples =
     plain (stored start 0 1) nowhere 0x4A 0 0 5 0 (goes (stored start 0 1) 0x14) (goes_on (goes (stored start 0 1) 4))
@@ -99,11 +99,11 @@ marginal_examples =
     (goes (with_special (top_at start (stack_start + 16) (stack_start + 16)) r_j 4) 4) (holding (holding (zeros stack_start 16) 0 1) 1 1)
     (goes_on (goes (with_special (top_at start (stack_start + 16) stack_start) r_j 4) 4)) (holding (zeros stack_start 16) 1 1) ∷ []
 
--- GET $0,r_l
+-- GET $0,rL
 abbrev get_example : Example
 get_example = plain start nowhere 0xFE 0 0 20 0 (goes (with_special start r_l 1) 4) (goes_on (goes (stored (with_special start r_l 1) 0 1) 4))
 
--- a context of 15 octabytes at the stack's start, r_g 255: r_g and r_a packed at the end, the local count first
+-- a context of 15 octabytes at the stack's start, rG 255: rG and rA packed at the end, the local count first
 abbrev context : ℕ → ℕ → Windows
 context n a = holding (holding (zeros stack_start 120) 0 n) 14 (255 * 2 ^ 56 + a)
 
@@ -116,7 +116,7 @@ unsaving w p r t k = plain (stored start 255 p) w 0xFB 0 0 255 r t (goes_on k)
 
 abbrev unsave_examples : List Example
 unsave_examples =
-    -- a saved r_a of 0x40000: 15
+    -- a saved rA of 0x40000: 15
     unsaving (context 0 0x40000) last 15 (halted (stored start 255 last)) (goes (with_special start r_g 255) 4)
     -- a local count of 256: 16
     ∷ unsaving (context 256 0) last 16 (halted (stored start 255 last)) (goes (with_special start r_g 255) 4)
@@ -158,7 +158,7 @@ byte_examples =
     ∷ plain start nowhere 0xFB 1 0 255 6 start interrupts
     ∷ plain start nowhere 0xFB 0 1 255 6 start interrupts ∷ []
 
--- numbers where Knuth interrupts: PUT 32, r_c, r_n, r_g of 31, r_a of 0x40000; SAVE $0; SYNC 4 and 8; GET 32
+-- numbers where Knuth interrupts: PUT 32, rC, rN, rG of 31, rA of 0x40000; SAVE $0; SYNC 4 and 8; GET 32
 abbrev interrupt_examples : List Example
 interrupt_examples =
     interrupted start 0xF7 32 0 0 7
@@ -171,7 +171,7 @@ interrupt_examples =
     ∷ interrupted start 0xFC 0 0 8 18
     ∷ plain start nowhere 0xFE 255 0 32 5 start interrupts ∷ []
 
--- GET $255,r_n with r_n hidden; PUT r_bb,1 with r_bb hidden
+-- GET $255,rN with rN hidden; PUT rBB,1 with rBB hidden
 abbrev hidden_examples : List Example
 hidden_examples =
     plain (masked start 0x200) nowhere 0xFE 255 0 9 31 (halted (masked start 0x200)) (goes_on (goes (stored (masked start 0x200) 255 2009) 4))
@@ -191,7 +191,7 @@ trip_examples =
     ∷ plain start nowhere 0 0 0 0 4 start (goes_on (handled 0)) ∷ []
 
 -- loads and stores: LDO and STO at 2^63; STO of a marginal $0 = 1; STB of 128 with V enabled and no vector loaded; the same at an address with low bits, its
--- vector loaded, where r_y keeps them in both
+-- vector loaded, where rY keeps them in both
 abbrev kernel : State
 kernel = stored start 255 (2 ^ 63)
 
@@ -228,7 +228,7 @@ examples =
     spill_example ∷ get_example ∷ threshold_example ∷ arithmetic_example
     ∷ (pop_examples ++ (marginal_examples ++ (unsave_examples ++ (byte_examples ++ (interrupt_examples ++ (hidden_examples ++ (trip_examples ++ load_store_examples)))))))
 
--- Knuth's UNSAVE with more locals than r_g, two where r_g is 1, and with fewer: r_l is cut to r_g, and globals follow all that was saved
+-- Knuth's UNSAVE with more locals than rG, two where rG is 1, and with fewer: rL is cut to rG, and globals follow all that was saved
 abbrev saves : List ℕ
 saves = 10 ∷ 11 ∷ 12 ∷ 13 ∷ []
 
@@ -239,7 +239,7 @@ cut_examples =
     && (unsaved_special_rule start 0 1 0 2 saves r_l == 1 && (unsaved_special_rule start 0 3 0 2 saves r_l == 2
     && unsaved_special_rule start 7 3 5 2 saves r_a == 5)))))))
 
--- the counters wrap: a cycle, a use and an interval of 2^64 + 1 where r_c and r_u are at their last value and r_i is 0
+-- the counters wrap: a cycle, a use and an interval of 2^64 + 1 where rC and rU are at their last value and rI is 0
 unfoldable pub count_example : Bool
 count_example = same_state
     (counted 1 1 (2 ^ 64 + 1) (with_special (with_special start r_c 0xFFFFFFFFFFFFFFFF) r_u 0xFFFFFFFFFFFFFFFF))

@@ -33,7 +33,7 @@ all_shown_exceptions (e ∷ es) = shown_exception e && all_shown_exceptions es
 abbrev pub trip_registers : State → ℕ → State
 trip_registers s word = with_special (with_special s r_w 4) r_x (2 ^ 63 + word)
 
--- flags of which none is enabled, r_a before, and r_a after here and there
+-- flags of which none is enabled, rA before, and rA after here and there
 abbrev adding : ℕ → ℕ → ℕ → ℕ → ExampleException
 adding f a r k = record {
   begin = with_special start r_a a;
@@ -53,7 +53,7 @@ taking f a v r k = record {
   knuth = goes (trip_registers (with_special start r_a k) 0) v;
 }
 
--- flags of which one is taken, through the vector v, which is not loaded: r_a after is the same here and there
+-- flags of which one is taken, through the vector v, which is not loaded: rA after is the same here and there
 abbrev stopping : ℕ → ℕ → ℕ → ℕ → ExampleException
 stopping f a v r = record {
   begin = with_special fresh r_a a;

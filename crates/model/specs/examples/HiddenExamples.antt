@@ -11,7 +11,7 @@ use Rattle.model.specs.declared.State.{State}
 
 -- ---- masks of one bit
 
--- "Only r_bb, r_c, r_n, r_i, r_t, r_tt, r_k, r_q, r_u, r_v, r_f, r_ww, r_xx, r_yy and r_zz may be in it"; the others may not, and no bit above 31
+-- "Only rBB, rC, rN, rI, rT, rTT, rK, rQ, rU, rV, rF, rWW, rXX, rYY and rZZ may be in it"; the others may not, and no bit above 31
 abbrev hidden : List ℕ
 hidden = r_bb ∷ r_c ∷ r_n ∷ r_i ∷ r_t ∷ r_tt ∷ r_k ∷ r_q ∷ r_u ∷ r_v ∷ r_f ∷ r_ww ∷ r_xx ∷ r_yy ∷ r_zz ∷ []
 
@@ -51,23 +51,23 @@ got s k = goes (stored s 255 (sp s k)) 4
 
 abbrev step_examples : List Point
 step_examples =
-    -- GET $5,r_n claims nothing; GET and PUT 32 are 5 and 7, which a mask does not hide
+    -- GET $5,rN claims nothing; GET and PUT 32 are 5 and 7, which a mask does not hide
     hides31 veiled (step 0xFE 5 0 r_n)
     ∷ gives veiled (step 0xFE 255 0 32) 5 veiled
     ∷ gives veiled (step 0xF7 32 0 0) 7 (halted veiled)
-    -- r_c hidden: r_bb and r_n are seen, and PUT r_n is 9, PUT r_i 8
+    -- rC hidden: rBB and rN are seen, and PUT rN is 9, PUT rI 8
     ∷ gives (under r_c) (step 0xFE 255 0 r_bb) 0 (got (under r_c) r_bb)
     ∷ gives (under r_c) (step 0xFE 255 0 r_n) 0 (got (under r_c) r_n)
     ∷ gives (under r_c) (step 0xF7 r_n 0 0) 9 (halted (under r_c))
     ∷ gives (under r_c) (step 0xF7 r_i 0 0) 8 (halted (under r_c))
     ∷ gives (under r_c) (step 0xF7 r_bb 0 1) 0 (goes (with_special (under r_c) r_bb 1) 4)
-    -- all hidden: r_r, r_o and r_g are seen, and 10 is judged
+    -- all hidden: rR, rO and rG are seen, and 10 is judged
     ∷ gives veiled (step 0xFE 255 0 r_r) 0 (got veiled r_r)
     ∷ gives veiled (step 0xFE 255 0 r_o) 0 (got veiled r_o)
     ∷ gives veiled (step 0xFE 255 0 r_g) 0 (got veiled r_g)
     ∷ gives veiled (step 0xF7 r_r 0 1) 0 (goes (with_special veiled r_r 1) 4)
     ∷ gives veiled (step 0xF7 r_g 0 31) 10 (halted veiled)
-    -- r_r's bit, and one above 31, make a state not admissible: for a step, an exception and a fetched instruction
+    -- rR's bit, and one above 31, make a state not admissible: for a step, an exception and a fetched instruction
     ∷ gives (under r_r) (step 0xFD 0 0 0) 1 (under r_r)
     ∷ gives (under r_r) (exception 0 0 0 0 0 0 0) 1 (under r_r)
     ∷ gives (under r_r) fetched 1 (under r_r)
@@ -97,7 +97,7 @@ fetch_examples =
 unfoldable pub hidden_examples : List Point
 hidden_examples = each31 hidden ++ (step_examples ++ (trap_example ∷ fetch_examples))
 
--- a run: SWYM is done, GET $5,r_n refused
+-- a run: SWYM is done, GET $5,rN refused
 abbrev swym_get : Windows
 swym_get = record { a = record { base = 0; bytes = bytes_of 0xFD000000FE050009 }; b = record { base = stack_start; bytes = [] } }
 

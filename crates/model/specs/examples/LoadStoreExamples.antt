@@ -40,7 +40,7 @@ load_examples =
     ++ (loads 0x80 5 0xFFFFFFFFFFFFFFAB ++ (loads 0x84 5 0xFFFFFFFFFFFF89AB ++ (loads 0x88 5 0xFFFFFFFF89ABCDEF ++ (loads 0x8C 5 figure
     ++ (loads 0x82 5 0xAB ++ (loads 0x86 5 0x89AB ++ (loads 0x8A 5 0x89ABCDEF ++ loads 0x8E 5 figure))))))))))
 
--- ---- stores: $1 = u to 1000 + k, of which v is made; V is not enabled, and added to r_a or not
+-- ---- stores: $1 = u to 1000 + k, of which v is made; V is not enabled, and added to rA or not
 
 abbrev stores : ℕ → ℕ → ℕ → ℕ → ℕ → List Point
 stores op u k v f =
@@ -66,7 +66,7 @@ fit_examples =
     ∷ stored0 0xA9 0x7FFFFFFF (0x7FFFFFFF * 2 ^ 32) 0 ∷ stored0 0xA9 0x80000000 (0x80000000 * 2 ^ 32) 0x40
     ∷ stored0 0xA9 (minus 0x80000000) (0x80000000 * 2 ^ 32) 0 ∷ stored0 0xA9 (minus 0x80000001) (0x7FFFFFFF * 2 ^ 32) 0x40 ∷ []
 
--- ---- trips: STB of −65536 at 1005, V enabled, $255 = 7, r_j = 9; and of $255 itself
+-- ---- trips: STB of −65536 at 1005, V enabled, $255 = 7, rJ = 9; and of $255 itself
 
 abbrev enabling : State → State
 enabling s = with_special (with_special (stored s 255 7) r_j 9) r_a 0x4000
@@ -74,7 +74,7 @@ enabling s = with_special (with_special (stored s 255 7) r_j 9) r_a 0x4000
 abbrev unloaded : State → State
 unloaded s = record { general = s.general; special = s.special; pc = s.pc; halt = s.halt; marks = 0x1FB; mask = s.mask }
 
--- r_b, $255, r_w, r_x, r_y and r_z of a store of the value u in $x
+-- rB, $255, rW, rX, rY and rZ of a store of the value u in $x
 abbrev taken : State → ℕ → ℕ → ℕ → State
 taken s b x u =
     with_special (with_special (with_special (with_special (with_special (stored s 255 9) r_b b) r_w 4) r_x (2 ^ 63 + 0xA0000203 + x * 2 ^ 16)) r_y 1005) r_z u

@@ -9,7 +9,7 @@ use Rattle.model.specs.Bench.{stack_alone}
 abbrev pub nowhere : Windows
 nowhere = stack_alone (record { base = stack_start; bytes = [] })
 
--- a context of 15 octabytes, r_g 255, in a window of 17; none in an empty window, and in one that breaks its rule
+-- a context of 15 octabytes, rG 255, in a window of 17; none in an empty window, and in one that breaks its rule
 
 abbrev contextual : Windows
 contextual = put_octa (stack_alone (record { base = stack_start; bytes = replicate 136 0 })) (stack_start + 120) (255 * 2 ^ 56)

@@ -42,7 +42,7 @@ octas (v ∷ vs) = bytes_of v ++ octas vs
 abbrev loaded : List ℕ → List ℕ → Windows
 loaded ts vs = record { a = record { base = 0; bytes = tetras ts }; b = record { base = stack_start; bytes = octas vs } }
 
--- r_o and r_s are k octabytes up the stack
+-- rO and rS are k octabytes up the stack
 abbrev grown : State → ℕ → State
 grown s k = with_special (with_special s r_o (stack_start + 8 * k)) r_s (stack_start + 8 * k)
 
@@ -68,7 +68,7 @@ loop_examples =
     -- on from where the smaller grant ended
     ∷ example (goes (counting 0) 0xC) (looping (1 ∷ 1 ∷ [])) 1 1 0 (goes (counting 0) 0x10) (looping (1 ∷ 1 ∷ [])) ∷ []
 
--- ---- "PC's low two bits are dropped for the fetch alone; @ is PC": r_j, targets and r_w keep them
+-- ---- "PC's low two bits are dropped for the fetch alone; @ is PC": rJ, targets and rW keep them
 
 abbrev low_examples : List RunExample
 low_examples =
@@ -147,14 +147,14 @@ calling = goes (grown (with_special start r_j 4) 5) 4
 
 abbrev claim_examples : List RunExample
 claim_examples =
-    -- GET $5,r_l; GO $5,$3,0; ADDU $5,$3,$3; LDBU $5,$3,0; PUSHJ $4
+    -- GET $5,rL; GO $5,$3,0; ADDU $5,$3,$3; LDBU $5,$3,0; PUSHJ $4
     fetches 0xFE050014 [] (claiming 6 4) []
     ∷ fetches 0x9F050300 [] (claiming 4 0) []
     ∷ fetches 0x22050303 [] (claiming 0 4) []
     ∷ fetches 0x83050300 [] (claiming 0x83 4) []
     ∷ fetches 0xF2040001 (1 ∷ 1 ∷ 1 ∷ 1 ∷ 1 ∷ []) calling (0 ∷ 0 ∷ 0 ∷ 0 ∷ 4 ∷ []) ∷ []
 
--- PUSHJ $1,#8; at 8 POP 0,0; r_l 0 and $0 = 7: what the frame keeps, and what comes back, is $0 after the claim
+-- PUSHJ $1,#8; at 8 POP 0,0; rL 0 and $0 = 7: what the frame keeps, and what comes back, is $0 after the claim
 abbrev marginal_call : List ℕ → Windows
 marginal_call vs = loaded (0xF2010002 ∷ 0 ∷ 0xF8000000 ∷ 0 ∷ []) vs
 

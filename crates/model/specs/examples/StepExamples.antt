@@ -52,7 +52,7 @@ abbrev mark_examples : ℕ → List Point
 mark_examples k =
     gives (armed k (2 ^ (k + 1))) (exception (2 ^ (7 - k)) 0 0 0 0 0 0) 0 (goes (trip_registers (armed k (2 ^ (k + 1)))) (16 * (k + 1)))
     ∷ gives (armed k (0x1FF - 2 ^ (k + 1))) (exception (2 ^ (7 - k)) 0 0 0 0 0 0) 19 (halted (trip_registers (armed k (0x1FF - 2 ^ (k + 1)))))
-    -- not enabled: it is added to r_a
+    -- not enabled: it is added to rA
     ∷ gives start (exception (2 ^ (7 - k)) 0 0 0 0 0 0) 0 (goes (with_special start r_a (2 ^ (7 - k))) 4) ∷ []
 
 -- ---- TRAP: "a Y that `from_u8` names" with X = 0 is 4; with another Y, or another X, 20
@@ -81,7 +81,7 @@ interrupt_examples =
     ∷ gives apart (step 0 7 40 50) 20
     (halted (with_special (with_special (with_special (with_special (with_special (stored apart 255 44) r_bb 255) r_ww 0x1004) r_xx (2 ^ 63 + 0x072832)) r_yy 140) r_zz 150)) ∷ []
 
--- ---- a marginal register reads as it is held: r_l 0, $0 = 1, BNZ $0,0,5
+-- ---- a marginal register reads as it is held: rL 0, $0 = 1, BNZ $0,0,5
 
 abbrev marginal_example : Point
 marginal_example = gives (stored start 0 1) (step 0x4A 0 0 5) 0 (goes (stored start 0 1) 0x14)
@@ -164,7 +164,7 @@ calls op y z target = record {
 abbrev call_examples : List Point
 call_examples = calls 0xF2 2 3 0x4080C ∷ calls 0xF3 255 255 0x3fffc ∷ calls 0xBE 40 50 0x1123 ∷ calls 0xBF 40 50 0x155 ∷ []
 
--- POP of three outputs, and of one more than there are: the frame below r_o has one local, 7
+-- POP of three outputs, and of one more than there are: the frame below rO has one local, 7
 abbrev frame : Windows
 frame = stack_alone (record { base = stack_start; bytes = replicate 7 0 ++ (7 ∷ replicate 7 0) ++ (1 ∷ []) })
 
@@ -179,7 +179,7 @@ pop_examples =
     pops 3 4 (stored (stored (stored (stored start 0 7) 1 3) 2 1) 3 2)
     ∷ pops 4 5 (stored (stored (stored (stored start 0 7) 2 1) 3 2) 4 3) ∷ []
 
--- r_a's enables are its second byte: all of them, and more of r_a set
+-- rA's enables are its second byte: all of them, and more of rA set
 abbrev enable_examples : List Point
 enable_examples =
     gives (with_special start r_a 0xFF00) (exception 0x80 0 0 0 0 0 0) 0 (goes (trip_registers (with_special start r_a 0xFF00)) 0x10)
@@ -208,7 +208,7 @@ put_examples =
     ∷ put_refused 16 8 ∷ put_refused 17 8 ∷ put_refused 18 8 ∷ put_done 19 ∷ gives start (step 0xF7 20 0 33) 0 (goes start 4) ∷ put_done 21 ∷ put_done 22 ∷ put_done 23
     ∷ put_done 24 ∷ put_done 25 ∷ put_done 26 ∷ put_done 27 ∷ put_done 28 ∷ put_done 29 ∷ put_done 30 ∷ put_done 31
     ∷ put_refused 32 7 ∷ put_refused 255 7
-    -- r_g: 255, and 256 through $255; r_l: fewer locals, the dropped ones cleared; r_g below r_l
+    -- rG: 255, and 256 through $255; rL: fewer locals, the dropped ones cleared; rG below rL
     ∷ gives start (step 0xF7 19 0 255) 0 (goes (with_special start r_g 255) 4)
     ∷ gives (locals 2) (step 0xF7 20 0 1) 0 (goes (stored (locals 1) 1 0) 4)
     ∷ gives (with_special (locals 33) r_g 40) (step 0xF7 19 0 32) 10 (halted (with_special (locals 33) r_g 40))
@@ -256,7 +256,7 @@ numbered = same_list
     ∷ r_q ∷ r_u ∷ r_v ∷ r_g ∷ r_l ∷ r_a ∷ r_f ∷ r_p ∷ r_w ∷ r_x ∷ r_y ∷ r_z ∷ r_ww ∷ r_xx ∷ r_yy ∷ r_zz ∷ [])
     (tab 0 32 (λ k. k))
 
--- number by number, with the stack at a; elsewhere r_o and r_s alone are others
+-- number by number, with the stack at a; elsewhere rO and rS alone are others
 abbrev fresh_written : ℕ → State
 fresh_written a = record {
   general = replicate 256 0;

@@ -83,12 +83,12 @@ touch_examples =
     -- 6 means in neither
     ∷ example storing (a_low 1 2) (step 0x8D 3 2 16 ∷ []) (6 ∷ []) storing (a_low 1 2) ∷ []
 
--- ---- a context across both: SAVE $255 with r_g 255 stores 15 octabytes, here 7 of them in one window and 8 in the other; then UNSAVE
+-- ---- a context across both: SAVE $255 with rG 255 stores 15 octabytes, here 7 of them in one window and 8 in the other; then UNSAVE
 
 abbrev saving : State
 saving = with_special (with_special (stored (with_special start r_g 255) 255 77) r_j 3) r_z 5
 
--- the local count, $255, r_b to r_j, r_m; r_r, r_p, r_w to r_z, r_g and r_a
+-- the local count, $255, rB to rJ, rM; rR, rP, rW to rZ, rG and rA
 abbrev low : List ℕ
 low = 0 ∷ 77 ∷ 0 ∷ 0 ∷ 0 ∷ 0 ∷ 3 ∷ []
 

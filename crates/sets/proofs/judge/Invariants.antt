@@ -1,4 +1,4 @@
--- `judge` meets its contract. The loop's invariant: judging goes on from the i-th pair with the r_l that the earlier ones leave.
+-- `judge` meets its contract. The loop's invariant: judging goes on from the i-th pair with the rL that the earlier ones leave.
 use Rattle.model.proofs.Prelude.{◌-◌, ◌/◌, ◌≤◌, ◌≡◌, length}
 use Rattle.sets.specs.Sets.{pairs_of}
 use Rattle.sets.specs.Judged.{judge_pairs}

@@ -1,4 +1,4 @@
--- `locals_after` meets its contract: PUT r_l lowers it, and nothing else moves it.
+-- `locals_after` meets its contract: PUT rL lowers it, and nothing else moves it.
 use Rattle.model.proofs.Prelude.{eq-eqb, ne_eqb}
 use Rattle.sets.specs.Judged.{locals_after}
 use Rattle.sets.proofs.locals_after.Goals as goal

@@ -21,7 +21,7 @@ unfoldable pub all_give : List SetExample → Bool
 all_give [] = true
 all_give (c ∷ cs) = gives c (put_set_of c.begin c.pairs) && all_give cs
 
--- r_g is g and r_l is l, $1 is 7 and $40 is 9
+-- rG is g and rL is l, $1 is 7 and $40 is 9
 abbrev between : ℕ → ℕ → State
 between g l = stored (stored (with_special (with_special start r_g g) r_l l) 1 7) 40 9
 
@@ -37,10 +37,10 @@ leaves s ps n = record { begin = s; pairs = ps; reply = n; place = 0; end = s }
 unfoldable pub set_examples : List SetExample
 set_examples =
     does (between 50 2) [] (between 50 2)
-    -- a study: r_l drops $1, r_g drops $40
+    -- a study: rL drops $1, rG drops $40
     ∷ does (between 32 2) (pair r_l 1 ∷ pair r_g 41 ∷ pair r_a 0x3FFFF ∷ pair r_j 0x100 ∷ [])
     (with_special (with_special (with_special (with_special start r_g 41) r_l 1) r_a 0x3FFFF) r_j 0x100)
-    -- r_g of 32 passes where r_l was lowered before, and not the other way round; r_l is never raised
+    -- rG of 32 passes where rL was lowered before, and not the other way round; rL is never raised
     ∷ does (between 50 48) (pair r_l 0 ∷ pair r_g 32 ∷ []) (with_special (with_special start r_g 32) r_l 0)
     ∷ refuses (between 50 48) (pair r_g 32 ∷ pair r_l 0 ∷ []) 10 0
     ∷ does (between 50 2) (pair r_l 5 ∷ []) (between 50 2)

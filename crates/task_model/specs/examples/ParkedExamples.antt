@@ -1,4 +1,4 @@
--- Theorem. A parked context, computed: it lies across both windows, that touch, A below B and B below A, at a misaligned r_o; another task runs in between, or
+-- Theorem. A parked context, computed: it lies across both windows, that touch, A below B and B below A, at a misaligned rO; another task runs in between, or
 -- is refused at the context; then UNSAVE, by that task's next turn and by a run. Of each call all that is there afterwards.
 use Rattle.std.specs.Prelude.{ℕ, ◌+◌, ◌-◌, ◌*◌, ◌^◌, ◌≡◌, true, List, [], ◌∷◌, ◌++◌, replicate}
 use Rattle.model.specs.Octa.{bytes_of}
@@ -14,7 +14,7 @@ octas [] = []
 octas (v ∷ vs) = bytes_of v ++ octas vs
 
 -- the program:   0  SAVE $255     8  UNSAVE $255    10  PUSHJ $1,#18    18  SWYM
---                4  PUT r_z,9      C  TRAP 0,0,0     14  TRAP 0,0,0      1C  TRAP 0,0,0
+--                4  PUT rZ,9      C  TRAP 0,0,0     14  TRAP 0,0,0      1C  TRAP 0,0,0
 abbrev program : List ℕ
 program = 0xFAFF0000F71B0009 ∷ 0xFB0000FF00000000 ∷ 0xF201000200000000 ∷ 0xFD00000000000000 ∷ []
 
@@ -28,7 +28,7 @@ abbrev b_below : List ℕ → List ℕ → List ℕ → Windows
 b_below low high vs =
     record { a = record { base = stack_start; bytes = octas (high ++ program) }; b = record { base = stack_start - 72; bytes = octas (vs ++ low) } }
 
--- r_o and r_s
+-- rO and rS
 abbrev top_at : State → ℕ → State
 top_at s o = with_special (with_special s r_o o) r_s o
 
@@ -37,7 +37,7 @@ top_at s o = with_special (with_special s r_o o) r_s o
 abbrev saving : State
 saving = top_at (with_special (with_special (with_special (stored (stored (with_special start r_g 255) 0 7) 255 77) r_l 1) r_j 3) r_z 5) (stack_start - 51)
 
--- $0, the local count, $255, r_b to r_h; r_j to r_y, r_z, r_g and r_a
+-- $0, the local count, $255, rB to rH; rJ to rY, rZ, rG and rA
 abbrev low : List ℕ
 low = 7 ∷ 1 ∷ 77 ∷ 0 ∷ 0 ∷ 0 ∷ 0 ∷ []
 

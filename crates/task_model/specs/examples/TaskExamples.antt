@@ -111,7 +111,7 @@ asks s n r t v = record {
   left = v;
 }
 
--- PUSHJ $1 at 10 needs two octabytes from r_o
+-- PUSHJ $1 at 10 needs two octabytes from rO
 abbrev edge_examples : List TaskExample
 edge_examples =
     asks (at 16 1) 1 0 (with_special (at 0x18 3) r_j 0x14) (lent (0 ∷ 0 ∷ 1 ∷ 0 ∷ 0 ∷ 0 ∷ []))

@@ -1,4 +1,4 @@
--- `divu` meets its contract, by the order of r_d and $Z.
+-- `divu` meets its contract, by the order of rD and $Z.
 use Rattle.model.proofs.Prelude.{ℕ, ◌%◌, ◌/◌, ◌<◌, ◌≤◌, ap₂, refl, ◌≡◌, le-leb, lt-leb, divided_wide, parted, wide_of}
 use Rattle.model.specs.declared.Operands.{Operands}
 use Rattle.model.specs.declared.Results.{Results}

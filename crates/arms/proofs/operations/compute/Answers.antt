@@ -1,4 +1,4 @@
--- `compute` meets its contract: the operands, the operation done, $X, r_h and r_r written, then the flag.
+-- `compute` meets its contract: the operands, the operation done, $X, rH and rR written, then the flag.
 use Rattle.model.proofs.Prelude.{made}
 use Rattle.arms.proofs.ArithmeticArms.{computed_done, computed_raised}
 use Rattle.arms.proofs.operations.compute.Goals as goal

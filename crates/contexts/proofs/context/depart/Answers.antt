@@ -1,4 +1,4 @@
--- `depart` meets its contract: r_l, r_o and r_s are written one after another.
+-- `depart` meets its contract: rL, rO and rS are written one after another.
 use Rattle.contexts.specs.ContextWork.{left_special}
 use Rattle.contexts.proofs.context.depart.Goals as goal
 

@@ -1,4 +1,4 @@
--- `save_special` meets its contract: the seven from r_b to r_r, then the five from r_p to r_z.
+-- `save_special` meets its contract: the seven from rB to rR, then the five from rP to rZ.
 use Rattle.model.proofs.Prelude.{sym, arith, saved_special_low}
 use Rattle.contexts.proofs.UnsaveLoads.{saved_special_up}
 use Rattle.contexts.proofs.context.save_special.Goals as goal

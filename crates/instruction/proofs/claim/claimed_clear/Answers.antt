@@ -1,4 +1,4 @@
--- `claimed_clear` meets its contract: r_l alone is the claim, and a refusal leaves the other registers.
+-- `claimed_clear` meets its contract: rL alone is the claim, and a refusal leaves the other registers.
 use Rattle.model.proofs.Prelude.{◌%◌, ◌+◌, refl, sym, ◌∙◌, ◌≡◌, arith, lent, made, Sized}
 use Rattle.instruction.proofs.Prelude.{refused_none}
 use Rattle.instruction.specs.StepAnswer.{judged_code}

@@ -1,4 +1,4 @@
--- `claimed_kept` meets its contract: what was kept is put back, and r_l; a refusal leaves the other special registers.
+-- `claimed_kept` meets its contract: what was kept is put back, and rL; a refusal leaves the other special registers.
 use Rattle.model.proofs.Prelude.{◌%◌, ◌+◌, sym, ◌∙◌, ◌≡◌, arith, lent, made, Sized}
 use Rattle.instruction.proofs.Prelude.{refused_none}
 use Rattle.instruction.specs.StepAnswer.{judged_code}

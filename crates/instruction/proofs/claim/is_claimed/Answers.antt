@@ -1,4 +1,4 @@
--- `is_claimed` meets its contract: r_l and r_g tell whether $x is marginal.
+-- `is_claimed` meets its contract: rL and rG tell whether $x is marginal.
 use Rattle.model.proofs.Prelude.{le-leb, le-ltb, lt-leb, lt-ltb}
 use Rattle.instruction.proofs.claim.is_claimed.Goals as goal
 

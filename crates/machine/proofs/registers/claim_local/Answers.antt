@@ -1,4 +1,4 @@
--- `claim_local` meets its contract: its tests are the definition's, and where both fail it clears and raises r_l as that does.
+-- `claim_local` meets its contract: its tests are the definition's, and where both fail it clears and raises rL as that does.
 use Rattle.model.proofs.Prelude.{ℕ, ◌+◌, List, ap, ◌∙◌, set, le-leb, le-ltb, lt-leb, lt-ltb, claim_local, cleared, r_l, with_parts, with_special}
 use Rattle.machine.proofs.registers.claim_local.Goals as goal
 

@@ -1,4 +1,4 @@
--- `put_refusal` meets its contract: each arm's number and tests give the number that the definition gives there, by r_l alone.
+-- `put_refusal` meets its contract: each arm's number and tests give the number that the definition gives there, by rL alone.
 use Rattle.model.proofs.Prelude.{inl, inr, refl, arith, reply_of}
 use Rattle.machine.proofs.PutRegisters.{judged, put_unknown, put_privileged, put_privileged_one, put_illegal, threshold_low, threshold_under, threshold_high, threshold_passes, status_high, status_passes, other_passes}
 use Rattle.machine.proofs.registers.put_refusal.Goals.{in_default-via-then-x-lt8, in_default-via-else-x-lt8+else-x-lt12+else-x-lt19}

@@ -1,4 +1,4 @@
--- `put_rg` meets its contract: what it clears is the definition's, and r_g becomes the value.
+-- `put_rg` meets its contract: what it clears is the definition's, and rG becomes the value.
 use Rattle.machine.proofs.PutRegisters.{globals_put}
 use Rattle.machine.proofs.registers.put_rg.Goals as goal
 

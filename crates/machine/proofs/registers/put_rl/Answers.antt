@@ -1,4 +1,4 @@
--- `put_rl` meets its contract: what it clears and what r_l becomes are the definition's.
+-- `put_rl` meets its contract: what it clears and what rL becomes are the definition's.
 use Rattle.machine.proofs.PutRegisters.{locals_put}
 use Rattle.machine.proofs.registers.put_rl.Goals as goal
 

@@ -1,4 +1,4 @@
--- `put_state` meets its contract: PUT r_l, PUT r_g, or the register that is just set.
+-- `put_state` meets its contract: PUT rL, PUT rG, or the register that is just set.
 use Rattle.model.proofs.Prelude.{◌∙◌, arith, with_special}
 use Rattle.machine.proofs.PutRegisters.{put_local, put_global, put_other, put_none}
 use Rattle.machine.proofs.registers.put_state.Goals as goal

@@ -1,4 +1,4 @@
--- `is_misplaced` meets its contract: r_o is a multiple of 8 and not negative, or it is misplaced.
+-- `is_misplaced` meets its contract: rO is a multiple of 8 and not negative, or it is misplaced.
 use Rattle.model.proofs.Prelude.{◌∙◌}
 use Rattle.stack.proofs.PushPopRegisters.{misplaced_negative, misplaced_odd}
 use Rattle.stack.proofs.frame.is_misplaced.Goals as goal

@@ -1,4 +1,4 @@
--- `leave` meets its contract: clearing from the new r_l up makes the POP of the state between.
+-- `leave` meets its contract: clearing from the new rL up makes the POP of the state between.
 use Rattle.model.proofs.Prelude.{ℕ, List, ap, refl, ◌∙◌, ◌≡◌, arith, lent, made}
 use Rattle.model.specs.declared.State.{State}
 use Rattle.stack.proofs.PushPopRegisters.{frame_read_law, low_is, left}

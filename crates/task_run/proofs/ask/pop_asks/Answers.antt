@@ -1,4 +1,4 @@
--- `pop_asks` meets its contract: with no frame, nothing; the octabyte below r_o; then the locals.
+-- `pop_asks` meets its contract: with no frame, nothing; the octabyte below rO; then the locals.
 use Rattle.model.proofs.Prelude.{sym, ◌∙◌, arith, made}
 use Rattle.task_run.proofs.Asks.{differ, pop_nothing, pop_foreign, pop_missing, pop_rest}
 use Rattle.task_run.proofs.ask.pop_asks.Goals as goal

@@ -1,4 +1,4 @@
--- `save_asks` meets its contract: nothing below r_g, and else the context.
+-- `save_asks` meets its contract: nothing below rG, and else the context.
 use Rattle.model.proofs.Prelude.{le-ltb, lt-ltb}
 use Rattle.task_run.proofs.Prelude.{any_foreign}
 use Rattle.task_run.proofs.ask.save_asks.Goals as goal
