@@ -243,7 +243,7 @@ replay-list: oracle
 	$(call RUN,$(ORACLE)/replay_list examples/replay/answers)
 
 # The definitions of crate model, computed by the prover on answers of the Rust: replies, whole states, whole windows, needs. With
-# WRONG=17 the reply of case 17 is written down wrong, and the check must end with an error at `case-17-agrees`.
+# WRONG=17 the reply of case 17 is written down wrong, and the check must end with an error at `case_17_agrees`.
 definitions: need-rt
 	$(call HARNESS,build)
 	$(call RUN,log=$$PWD/build/definitions.log; at=$$(mktemp -d) && trap 'rm -rf "$$at"' EXIT && mkdir $$at/crates && cp -R crates/model $$at/crates/ && rm -rf $$at/crates/model/out \

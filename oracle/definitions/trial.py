@@ -103,6 +103,7 @@ def one_side(crate, side):
     write(root, "\n".join(kept))
     if side != LAWS:
         split_examples(crate, side)
+        without_functions(crate)
 
 
 FUNCTION = re.compile(r"^(?:(?:///?[^\n]*|#\[[^\n]*\])\n)*(?:pub(?:\([a-z]+\))? )?(?:extern \"C\" )?fn ", re.M)
@@ -130,7 +131,7 @@ def function_end(text, at):
 
 def without_functions(crate):
     """Leaves of a crate's code its types and numbers, and of its proofs the laws, theorems and examples."""
-    for file in os.listdir(os.path.join(crate, "src")):
+    for file in sorted(os.listdir(os.path.join(crate, "src"))):
         path = os.path.join(crate, "src", file)
         text = read(path)
         for what, end in ((METHODS, block_end), (FUNCTION, function_end)):

@@ -22,7 +22,7 @@ use oracle::state::{State, octabyte};
 const CASES_SPEC: &str = include_str!("../../definitions/Cases.antt.in");
 /// Cases in one file.
 const PART: usize = 50;
-const OWN: &str = "counted, numbers, bytesUp, leaves, ends, stops, reads, agrees";
+const OWN: &str = "counting, numbers, bytes_up, leaves, ends, stops, reads, agrees";
 
 // ---- as antt text
 
@@ -132,8 +132,7 @@ fn line(point: &Point) -> String {
 fn definitions(folder: &str) -> std::io::Result<Vec<(String, String)>> {
     let named = |text: &str| -> Vec<String> {
         let file = |line: &str| {
-            let path = line.strip_prefix("use Rattle·model·specs.").or(line.strip_prefix("use Rattle·model."))?;
-            Some(path.strip_prefix("specs.")?.split('.').next()?.to_string())
+            Some(line.strip_prefix("use Rattle.model.specs.")?.split('.').next()?.to_string())
         };
         text.lines().filter_map(file).filter(|file| file != "declared").collect()
     };
@@ -156,30 +155,30 @@ fn opened(text: &str) -> Vec<&str> {
 
 /// The proofs of one part: every definition is opened, and antt computes.
 fn proof(models: &[(String, String)], part: usize, cases: &[String]) -> String {
-    let mut text = format!("-- Part {part}: each case agrees.\nuse mathlib.Core.Path.{{_≡_, refl}}\n");
-    text += "use mathlib.Core.Bool.{true}\nuse lib.Count.{leadingZeros}\n";
-    let mut names = vec!["leadingZeros".to_string()];
+    let mut text = format!("-- Part {part}: each case agrees.\nuse mathlib.Core.Path.{{◌≡◌, refl}}\n");
+    text += "use mathlib.Core.Bool.{true}\nuse lib.Count.{count_leading_zeros}\n";
+    let mut names = vec!["count_leading_zeros".to_string()];
     for (file, source) in models {
         let found = opened(source);
         if !found.is_empty() {
-            text += &format!("use Rattle·model.specs.{file}.{{{}}}\n", found.join(", "));
+            text += &format!("use Rattle.model.specs.{file}.{{{}}}\n", found.join(", "));
         }
         names.extend(found.iter().map(|name| name.to_string()));
     }
-    text += &format!("use Rattle·definitions·specs.specs.Cases.{{{OWN}}}\n");
-    text += &format!("use Rattle·definitions·specs.specs.Part{part}.{{{}}}\n", cases.join(", "));
+    text += &format!("use Rattle.definitions.specs.Cases.{{{OWN}}}\n");
+    text += &format!("use Rattle.definitions.specs.Part{part}.{{{}}}\n", cases.join(", "));
     let opened = format!("{} {}", names.join(" "), OWN.replace(',', ""));
     for case in cases {
         text +=
-            &format!("\npub {case}-agrees : agrees {case} ≡ true\nunfolding {opened} {case}\n{case}-agrees = refl\n");
+            &format!("\npub {case}_agrees : agrees {case} ≡ true\nunfolding {opened} {case}\n{case}_agrees = refl\n");
     }
     text
 }
 
 fn spec(part: usize, points: &[Point], cases: &[String]) -> String {
     let mut text = format!("-- Part {part} of the answers.\n");
-    text += "use mathlib.Core.List.{List, [], _∷_}\nuse Rattle·model.specs.Step.{step, exception}\n";
-    text += "use Rattle·definitions·specs.specs.Cases.{Case, single, fetch, ran, list, context, initial, run, state, window, windows}\n";
+    text += "use Rattle.std.specs.Prelude.{List, [], ◌∷◌}\nuse Rattle.model.specs.Step.{step, exception}\n";
+    text += "use Rattle.definitions.specs.Cases.{Case, single, fetch, ran, list, context, initial, run, state, window, windows}\n";
     for (case, point) in cases.iter().zip(points) {
         text += &format!("\nunfoldable pub {case} : Case\n{case} =\n    {}\n", written(point));
     }
@@ -200,7 +199,7 @@ fn write(folder: &str, points: &[Point]) -> std::io::Result<()> {
     fs::write(format!("{home}/specs/Cases.antt"), CASES_SPEC)?;
     let mut parts = String::new();
     for (k, some) in points.chunks(PART).enumerate() {
-        let cases: Vec<String> = (0..some.len()).map(|j| format!("case-{}", k * PART + j)).collect();
+        let cases: Vec<String> = (0..some.len()).map(|j| format!("case_{}", k * PART + j)).collect();
         fs::write(format!("{home}/specs/Part{k}.antt"), spec(k, some, &cases))?;
         fs::write(format!("{home}/proofs/Part{k}.antt"), proof(&models, k, &cases))?;
         parts += &format!("pub mod Part{k}\n");
