@@ -131,9 +131,7 @@ fn line(point: &Point) -> String {
 /// The definitions' files that `Cases` rests on, each with its text, found by their `use` lines.
 fn definitions(folder: &str) -> std::io::Result<Vec<(String, String)>> {
     let named = |text: &str| -> Vec<String> {
-        let file = |line: &str| {
-            Some(line.strip_prefix("use Rattle.model.specs.")?.split('.').next()?.to_string())
-        };
+        let file = |line: &str| Some(line.strip_prefix("use Rattle.model.specs.")?.split('.').next()?.to_string());
         text.lines().filter_map(file).filter(|file| file != "declared").collect()
     };
     let (mut waiting, mut found) = (named(CASES_SPEC), Vec::<(String, String)>::new());
