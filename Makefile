@@ -83,7 +83,7 @@ quotes:
 prove: need-rt
 	@rt all check
 
-# ---- the two programs: each as it is proved, and a few lines of shell that make a status of what it tells
+# ---- the two programs: each as it is proved, run by a few lines of shell that ask for the stack first
 
 CRATE_bench = bench
 CRATE_points = point_lines_program
