@@ -42,9 +42,9 @@
  * Threads: a function touches only what it is handed, so threads may call any of them at the same time, each on objects of
  * its own.
  *
- * Stack, most that was measured, in bytes (docs/SPEED.md): mmix_tasks 7,784; mmix_run 5,256; mmix_step_lent 5,240; mmix_decode 4,760;
- * mmix_put_set 3,032; mmix_step 3,032; mmix_run_parts 2,824; mmix_exceptions 2,728; mmix_go_back 2,608; mmix_take 2,592; mmix_encode 2,424;
- * mmix_initialize and mmix_initialize_at 2,392; mmix_step_parts 440; mmix_context 288; mmix_put_set_parts 176; mmix_exceptions_parts 120;
+ * Stack, most that was measured, in bytes (docs/SPEED.md): mmix_tasks 7,656; mmix_step_lent 5,192; mmix_run 5,128; mmix_decode 4,696;
+ * mmix_put_set 3,000; mmix_step 2,952; mmix_run_parts 2,776; mmix_exceptions 2,584; mmix_go_back 2,576; mmix_take 2,560; mmix_encode 2,392;
+ * mmix_initialize and mmix_initialize_at 2,344; mmix_step_parts 488; mmix_context 248; mmix_put_set_parts 160; mmix_exceptions_parts 120;
  * mmix_branch_field, mmix_jump_field and mmix_version none. There is no recursion.
  */
 #ifndef MMIX_H
