@@ -1,14 +1,13 @@
 -- Laws of calls and returns, over plain variables: the stack leaves PC as it was, and where it is done the arm sends PC on. First the outcome of a
 -- plan with PC sent on, then PUSH, then POP. SAVE and UNSAVE: SaveUnsaveSent.
 use Rattle.model.proofs.Prelude.{ℕ, ◌≤◌, Bool, cond, false, true, List, [], ap, refl, sym, ◌∙◌, ◌≡◌, arith, eqb, ne_eqb, tag_of, Among, hole, misplaced, no_frame}
-use Rattle.model.proofs.Prelude.{pop_frame, pop_rule, pop_to, push_frame, Windows, tell, number_of, reply_of, Outcome, Plan, puts, goes, halted, Answers, on}
-use Rattle.model.proofs.Prelude.{perform_on, Any, not_done, refusals, tag_is, perform_meets, pop_sent, push_sent, sent}
+use Rattle.model.proofs.Prelude.{pop_frame, pop_rule, pop_to, push_frame, Windows, tell, reply_of, Outcome, Plan, puts, goes, halted, Answers, on, perform_on, Any}
+use Rattle.model.proofs.Prelude.{not_done, refusals, tag_is, perform_meets, pop_sent, push_sent, sent}
 use Rattle.arms.proofs.Prelude.{Reply, State, the_type, Gives, only_if, placed, pop_answer, PopGives, pop_in, pop_number, push_in, return_to}
 use Rattle.stack.specs.declared.frame.PopFrame.{PopFrame}
-use Rattle.stack.specs.declared.frame.PopFrame.TheVariants.{Frame, NoFrame, Rejected, Refused}
+use Rattle.stack.specs.declared.frame.PopFrame.TheVariants.{Frame, NoFrame, Rejected, Missing, NotAdmissible, WindowRule, Shared}
 use Rattle.arms.specs.Replied.{Replied}
 use Rattle.model.specs.declared.Reply.TheVariants as reply
-use Rattle.model.proofs.Numbers.{numbered as numbers}
 
 -- ---- the stack's outcome, PC sent on
 
@@ -92,7 +91,10 @@ goal : ℕ → PopFrame → ℕ
 goal n (Frame to) = to
 goal n NoFrame = n
 goal n Rejected = n
-goal n (Refused r) = n
+goal n Missing = n
+goal n NotAdmissible = n
+goal n WindowRule = n
+goal n Shared = n
 
 module _ (w : Windows) (s : State) (x yz : ℕ) (q : PopFrame) (t : State) (g : PopGives (pop_in w s x) s yz q t) where
   pop_open : only_if (placed s) w s (pop_frame s x (return_to s yz)) ≡ sent (pop_in w s x) (return_to s yz)
@@ -125,14 +127,3 @@ module _ (w : Windows) (s : State) (x yz : ℕ) (q : PopFrame) (t : State) (g : 
   pop_refused a r e f n =
       let z : (pop_in w s x).reply ≡ pop_number a = numbered a e in
       sent_not s _ _ (return_to s yz) r t w pop_open (f ∙ sym (ap reply_of z)) g.state_is window_stays pc_stays (rw z n)
-
-  -- it is no frame's, so its number is not 0
-  pub pop_other : (r : Reply) → q ≡ Refused r → Replied (only_if (placed s) w s (pop_frame s x (return_to s yz))) r t w
-  unfolding pop_number pop_answer
-  pop_other r e = pop_refused (Refused r) r e (sym (numbers.reply_number r)) (ne_eqb _ 0 other)
-    where
-      other : number_of r ≡ 0 → ⊥
-      other z =
-          let f : Refused r ≡ Frame (return_to s yz) = sym e ∙ g.answer_is ∙ ap (pop_answer s yz) (numbered (Refused r) e ∙ z) in
-          let n : ◌≡◌ {A = ℕ} 0 1 = cc in
-          omega arith

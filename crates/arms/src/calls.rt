@@ -62,6 +62,9 @@ pub fn pop_to_judged(
         }
         PopFrame::NoFrame => Reply::NoFrame,
         PopFrame::Rejected => Reply::Misplaced,
-        PopFrame::Refused(reply) => reply,
+        PopFrame::Missing => Reply::Missing,
+        PopFrame::NotAdmissible => Reply::NotAdmissible,
+        PopFrame::WindowRule => Reply::WindowRule,
+        PopFrame::Shared => Reply::Shared,
     }
 }

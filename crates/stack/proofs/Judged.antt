@@ -1,13 +1,13 @@
 -- A guarded plan as judged: 1, 2 or 22, or the plan; 6, where an octabyte that it reads or stores is missing; what the windows' number
 -- says; and the run that code tests, with the reply of its number. The answers of each function are in PushPopAnswers, SaveUnsaveAnswers and
 -- ReaderAnswers.
-use Rattle.model.proofs.Prelude.{ℕ, ◌≤◌, Bool, false, true, List, inl, inr, ◌⊎◌, ⊎_elim, ap, sym, ◌∙◌, ◌≡◌, arith, eqb, length, ne_eqb, shapes_of, Windows, Lost}
+use Rattle.model.proofs.Prelude.{ℕ, ◌≤◌, Bool, false, true, List, inl, inr, ⊎_elim, ap, sym, ◌∙◌, ◌≡◌, arith, eqb, length, ne_eqb, shapes_of, Windows, Lost}
 use Rattle.model.proofs.Prelude.{reply_of, answer, named, Outcome, perform, Plan, read, worst, admissible, refusing, unruled_by, on, Inside, perform_on}
 use Rattle.model.proofs.Prelude.{unruled_is, of_worst, worst_of, worst_six}
 use Rattle.model.specs.declared.State.{State}
 use Rattle.model.specs.declared.Reply.{Reply}
 use Rattle.model.specs.declared.Reply.TheVariants.{Missing}
-use Rattle.stack.specs.GivenBack.{guarded_on, refusal_on, only_if}
+use Rattle.stack.specs.GivenBack.{Refused, Unruled, guarded_on, refusal_on, only_if}
 use Rattle.model.proofs.Entry as entry
 
 abbrev pub ended : {S : Type 0} → ℕ → S → Windows → Outcome S Windows
@@ -72,17 +72,9 @@ module _ (w : Windows) (s : State) where
   unfolding perform
   store_lacks r t a vs f = rw (lacking a (length vs) f, worst_six (shapes_of w) (length vs) a (lacking a (length vs) f))
 
--- a number by which windows are refused
-abbrev pub Unruled : ℕ → Type 0
-Unruled n = (n ≡ 2) ⊎ (n ≡ 22)
-
 pub unruled_by_law : (w : Windows) (n : ℕ) → n ≡ unruled_by (shapes_of w) → (n ≡ 0 → ⊥) → Unruled n
 unruled_by_law w n e f =
     ⊎_elim (λ z. absurd (f (e ∙ z))) (⊎_elim (λ two. inl (e ∙ two)) (λ shared. inr (e ∙ shared))) (unruled_is (shapes_of w))
-
--- and one by which state or windows are
-abbrev pub Refused : ℕ → Type 0
-Refused n = (n ≡ 1) ⊎ Unruled n
 
 pub refused_by_law : (w : Windows) (s : State) (n : ℕ) → n ≡ refusal_on w s → (n ≡ 0 → ⊥) → Refused n
 unfolding refusal_on

@@ -1,10 +1,10 @@
 -- What PUSH and POP answer and leave, for each way out of the code: refused, the octabytes that are there, those that are not. What the
 -- registers are is in PushPopRegisters.
-use Rattle.model.proofs.Prelude.{min, ℕ, ◌%◌, ◌*◌, ◌+◌, ◌-◌, ◌<◌, ◌^◌, ◌≤◌, false, true, List, [], inl, inr, ap, refl, sym, ◌∙◌, ◌≡◌, arith, get_or, length}
-use Rattle.model.proofs.Prelude.{le-leb, lt-leb, tab, framed, hole, misplaced, no_frame, pop_frame, popped, pop_rule, pop_to, pushed, pushed_rule, push_frame, slide}
-use Rattle.model.proofs.Prelude.{unslide, both, shapes_of, Windows, tell, number_of, reply_of, answer, looks, Outcome, puts, admissible, goes, halted, r_g, r_j, r_l}
-use Rattle.model.proofs.Prelude.{r_o, sp, spilled, stack_start, with_special, refusing, adm, Inside, perform_on, said, both_lawful, called, push_is, get_d_looks}
-use Rattle.model.proofs.Prelude.{length_tab, perform_read}
+use Rattle.model.proofs.Prelude.{min, ℕ, ◌%◌, ◌*◌, ◌+◌, ◌-◌, ◌<◌, ◌^◌, ◌≤◌, false, true, List, [], ap, refl, sym, ◌∙◌, ◌≡◌, arith, get_or, length, le-leb, lt-leb}
+use Rattle.model.proofs.Prelude.{tab, framed, hole, misplaced, no_frame, pop_frame, popped, pop_rule, pop_to, pushed, pushed_rule, push_frame, slide, unslide, both}
+use Rattle.model.proofs.Prelude.{shapes_of, Windows, tell, reply_of, answer, looks, Outcome, puts, admissible, goes, halted, r_g, r_j, r_l, r_o, sp, spilled}
+use Rattle.model.proofs.Prelude.{stack_start, with_special, refusing, adm, Inside, perform_on, said, both_lawful, called, push_is, get_d_looks, length_tab}
+use Rattle.model.proofs.Prelude.{perform_read}
 use Rattle.model.specs.declared.State.{State}
 use Rattle.model.specs.declared.Reply.{Reply}
 use Rattle.machine.specs.Octas.{read_octa}
@@ -12,9 +12,8 @@ use Rattle.machine.proofs.BothOctas.{run_read}
 use Rattle.stack.specs.GivenBack.{refusal_on, placed, Gives}
 use Rattle.stack.specs.PushPop.{push_of, push_in, pop_of, pop_in, pop_number, pop_answer, PopGives}
 use Rattle.stack.specs.declared.frame.PopFrame.{PopFrame}
-use Rattle.stack.specs.declared.frame.PopFrame.TheVariants.{Frame, NoFrame, Rejected, Refused}
+use Rattle.stack.specs.declared.frame.PopFrame.TheVariants.{Frame, NoFrame, Rejected, Missing, NotAdmissible}
 use Rattle.stack.proofs.Judged.{ended, refused_guarded, only_open, only_one, guarded_only, read_lacks, store_lacks}
-use Rattle.stack.proofs.Judged as judged
 use Rattle.model.specs.declared.Reply.TheVariants as reply
 
 -- what is asked holds of an admissible state
@@ -86,22 +85,14 @@ module _ (w : Windows) (s : State) (x yz : ℕ) where
   unfolding goes
   as_was = refl
 
-  pub pop_one : placed s ≡ false → PopGives (pop_in w s x) s yz (Refused reply.NotAdmissible) s
-  unfolding pop_answer pop_number reply_of number_of
-  pop_one a = pops _ 1 (Refused reply.NotAdmissible) s s (unfold pop_in in (only_one w s (placed s) _ a)) refl refl as_was
+  pub pop_one : placed s ≡ false → PopGives (pop_in w s x) s yz NotAdmissible s
+  unfolding pop_answer pop_number
+  pop_one a = pops _ 1 NotAdmissible s s (unfold pop_in in (only_one w s (placed s) _ a)) refl refl as_was
 
   -- by value
-  told : (n : ℕ) → judged.Refused n → (Refused (reply_of n) ≡ pop_answer s yz n) × (pop_number (Refused (reply_of n)) ≡ n)
-  unfolding pop_answer pop_number reply_of number_of
-  told n (inl e) = rw e (refl, refl)
-  told n (inr (inl e)) = rw e (refl, refl)
-  told n (inr (inr e)) = rw e (refl, refl)
-
-  pub pop_refused : (n : ℕ) → n ≡ refusal_on w s → (n ≡ 0 → ⊥) → (q : Reply) → q ≡ reply_of n → PopGives (pop_of w s x) s yz (Refused q) s
+  pub pop_refused : (n : ℕ) → n ≡ refusal_on w s → (n ≡ 0 → ⊥) → (q : PopFrame) → pop_number q ≡ n → q ≡ pop_answer s yz n → PopGives (pop_of w s x) s yz q s
   unfolding pop_of
-  pop_refused n e f q d =
-      let t = told n (judged.refused_by_law w s n e f) in
-      rw d (pops _ n (Refused (reply_of n)) s s (refused_guarded w s (pop_frame s x s.pc) n e f) t.0 t.1 as_was)
+  pop_refused n e f q d g = pops _ n q s s (refused_guarded w s (pop_frame s x s.pc) n e f) g d as_was
 
   pub pop_judged : refusal_on w s ≡ 0 → pop_in w s x ≡ pop_of w s x
   unfolding pop_of pop_in
@@ -126,11 +117,11 @@ module _ (w : Windows) (s : State) (x yz : ℕ) where
         unfolding pop_frame no_frame
         pop_rule' = pop_open ∙ rw (lt-leb _ _ above, m)
 
-        missing : pop_in w s x ≡ ended 6 s w → PopGives (pop_in w s x) s yz (Refused reply.Missing) s
-        unfolding pop_answer pop_number reply_of number_of
-        missing e = pops _ 6 (Refused reply.Missing) s s e refl refl as_was
+        missing : pop_in w s x ≡ ended 6 s w → PopGives (pop_in w s x) s yz Missing s
+        unfolding pop_answer pop_number
+        missing e = pops _ 6 Missing s s e refl refl as_was
 
-        pub pop_lacks : (Inside w (sp s r_o - 8) 1 → ⊥) → PopGives (pop_in w s x) s yz (Refused reply.Missing) s
+        pub pop_lacks : (Inside w (sp s r_o - 8) 1 → ⊥) → PopGives (pop_in w s x) s yz Missing s
         unfolding pop_rule
         pop_lacks f = missing (pop_rule' ∙ read_lacks w s (sp s r_o - 8) 1 _ f)
 
@@ -148,7 +139,7 @@ module _ (w : Windows) (s : State) (x yz : ℕ) where
               pop_rule' ∙ perform_read both both_lawful (refusing (shapes_of w)) s 6 (sp s r_o - 8) 1 (λ v. pop_to s x s.pc (get_or v 0 0 % 256)) w i
               ∙ ap (λ (n : ℕ). perform_on w s (pop_to s x s.pc n)) hole_read
 
-          pub pop_short : (Inside w (sp s r_o - 8 * (h + 1)) (min h (sp s r_g)) → ⊥) → PopGives (pop_in w s x) s yz (Refused reply.Missing) s
+          pub pop_short : (Inside w (sp s r_o - 8 * (h + 1)) (min h (sp s r_g)) → ⊥) → PopGives (pop_in w s x) s yz Missing s
           unfolding pop_to
           pop_short f = missing (pop_to' ∙ read_lacks w s (sp s r_o - 8 * (h + 1)) (min h (sp s r_g)) _ f)
 

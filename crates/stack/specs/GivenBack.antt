@@ -1,5 +1,5 @@
 -- How an answer, a state and windows given back stand to an outcome of the model.
-use Rattle.std.specs.Prelude.{◌≡◌, Bool, cond, ◌&&◌, ℕ, leb}
+use Rattle.std.specs.Prelude.{◌≡◌, ◌⊎◌, Bool, cond, ◌&&◌, ℕ, leb}
 use Rattle.model.specs.Memory.{Windows, shapes_of, both}
 use Rattle.model.specs.Plan.{Plan, Outcome, perform}
 use Rattle.model.specs.Registers.{r_g, r_l, sp, admissible, goes}
@@ -7,6 +7,14 @@ use Rattle.model.specs.Step.{unruled_by, refusing, guarded}
 use Rattle.model.specs.Numbers.{reply_of}
 use Rattle.model.specs.declared.State.{State}
 use Rattle.model.specs.declared.Reply.{Reply}
+
+-- a number by which state or windows are refused
+abbrev pub Refused : ℕ → Type 0
+Refused n = (n ≡ 1) ⊎ ((n ≡ 2) ⊎ (n ≡ 22))
+
+-- a number by which windows are refused
+abbrev pub Unruled : ℕ → Type 0
+Unruled n = (n ≡ 2) ⊎ (n ≡ 22)
 
 -- 1, then 2 and 22, then the plan
 unfoldable pub guarded_on : Windows → State → Plan State → Outcome State Windows

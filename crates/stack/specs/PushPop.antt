@@ -1,16 +1,16 @@
 -- What push_frame and pop_frame, and push_frame_judged and pop_frame_judged in place, answer and leave, and what the private functions go by.
-use Rattle.std.specs.Prelude.{ℕ, ◌+◌, ◌-◌, ◌*◌, ◌%◌, ◌^◌, ◌≤◌, ◌<◌, min, ◌≡◌, cond, List, eqb, length, get_or}
-use Rattle.model.specs.Memory.{Windows, both}
+use Rattle.std.specs.Prelude.{ℕ, ◌+◌, ◌-◌, ◌*◌, ◌%◌, ◌^◌, ◌≤◌, ◌<◌, min, ◌≡◌, true, false, cond, List, eqb, length, get_or}
+use Rattle.model.specs.Memory.{Windows, shapes_of, both}
 use Rattle.model.specs.Plan.{Outcome, looks}
-use Rattle.model.specs.Registers.{r_j, r_o, r_g, r_l, stack_start, sp, goes}
-use Rattle.model.specs.Frames.{hole, push_frame, popped, pop_frame}
+use Rattle.model.specs.Registers.{r_j, r_o, r_g, r_l, stack_start, sp, admissible, goes}
+use Rattle.model.specs.Frames.{hole, push_frame, misplaced, popped, pop_frame}
 use Rattle.model.specs.PopOrder.{between}
+use Rattle.model.specs.Step.{unruled_by}
 use Rattle.stack.specs.GivenBack.{guarded_on, only_if, placed, Gives}
-use Rattle.model.specs.Numbers.{number_of, reply_of}
 use Rattle.model.specs.declared.State.{State}
 use Rattle.model.specs.declared.Reply.{Reply}
 use Rattle.stack.specs.declared.frame.PopFrame.{PopFrame}
-use Rattle.stack.specs.declared.frame.PopFrame.TheVariants.{Frame, NoFrame, Rejected, Refused}
+use Rattle.stack.specs.declared.frame.PopFrame.TheVariants.{Frame, NoFrame, Rejected, Missing, NotAdmissible, WindowRule, Shared}
 
 -- PUSH with x; where the call goes is the arm's business
 unfoldable pub push_of : Windows → State → ℕ → Outcome State Windows
@@ -41,13 +41,16 @@ unfoldable pub pop_number : PopFrame → ℕ
 pop_number (Frame target) = 0
 pop_number NoFrame = 29
 pop_number Rejected = 12
-pop_number (Refused r) = number_of r
+pop_number Missing = 6
+pop_number NotAdmissible = 1
+pop_number WindowRule = 2
+pop_number Shared = 22
 
 -- the case of each number, with its value
 unfoldable pub pop_answer : State → ℕ → ℕ → PopFrame
 pop_answer s yz n =
     cond (eqb n 0) (Frame (return_to s yz))
-    (cond (eqb n 29) NoFrame (cond (eqb n 12) Rejected (Refused (reply_of n))))
+    (cond (eqb n 29) NoFrame (cond (eqb n 12) Rejected (cond (eqb n 6) Missing (cond (eqb n 1) NotAdmissible (cond (eqb n 2) WindowRule Shared)))))
 
 -- a POP of s whose outcome is o answers r and leaves t; it writes nothing
 pub record PopGives (o : Outcome State Windows) (s : State) (yz : ℕ) (r : PopFrame) (t : State) : Type 0 where

@@ -10,10 +10,10 @@ ghost use Rattle.model.specs.Parts.{made, lent};
 ghost use Rattle.model.specs.Step.{refusing};
 ghost use Rattle.model.specs.declared.State.{State};
 ghost use Rattle.machine.specs.Octas.{read_octa};
-ghost use Rattle.stack.specs.GivenBack.{placed};
-ghost use Rattle.stack.specs.PushPop.{Held, Placed, bottom_of, between_by, popped_as, pop_in, PopGives};
+ghost use Rattle.stack.specs.GivenBack.{Refused, placed};
+ghost use Rattle.stack.specs.PushPop.{pop_number, pop_answer, Held, Placed, bottom_of, between_by, popped_as, pop_in, PopGives};
 
-use model::{Bases, Octabyte, Reply, State};
+use model::{Bases, Octabyte, State, replies};
 
 /// What POP found at rO.
 #[derive(Clone, Copy)]
@@ -24,8 +24,28 @@ pub enum PopFrame {
     NoFrame,
     /// rO cannot hold a frame: the halt code is 1 (12).
     Rejected,
-    /// Any other refusal, which leaves all as it was: 6, and 1; by value 2 and 22 too.
-    Refused(Reply),
+    /// A needed octabyte lies in neither window (6).
+    Missing,
+    /// The state is not admissible (1).
+    NotAdmissible,
+    /// A window breaks its rule (2).
+    WindowRule,
+    /// The two windows share an octabyte (22).
+    Shared,
+}
+
+/// The case of a number by which state or windows are refused.
+pub(crate) fn refused(number: u64) -> PopFrame
+    requires { Refused number }
+    ensures { (pop_number result ≡ number) × ((s : State) (yz : ℕ) → result ≡ pop_answer s yz number) }
+{
+    if number == replies::NOT_ADMISSIBLE {
+        return PopFrame::NotAdmissible;
+    }
+    if number == replies::WINDOW_RULE {
+        return PopFrame::WindowRule;
+    }
+    PopFrame::Shared
 }
 
 /// Whether rG and rL are numbers of registers, in order.
@@ -175,13 +195,13 @@ fn pop_at(
     let below = model::number::wrapping_sub(ro, 8);
     let octa = machine::memory::read_octa(a, b, at, below);
     if octa.holder == Octabyte::IN_NEITHER {
-        return PopFrame::Refused(Reply::Missing);
+        return PopFrame::Missing;
     }
     let h = octa.value % 256;
     let bottom = model::number::wrapping_sub(ro, 8 * (h + 1));
     let n = machine::number::least(h, rg);
     if machine::memory::run_refusal(a, b, at, bottom, n) != 0 {
-        return PopFrame::Refused(Reply::Missing);
+        return PopFrame::Missing;
     }
     leave(general, special, a, b, at, x, h);
     let target = model::number::wrapping_add(rj, 4 * (yz as u64));
@@ -209,7 +229,7 @@ pub fn pop_frame_judged(
     let rl = special[State::RL];
     let ro = special[State::RO];
     if !is_placed(rg, rl) {
-        return PopFrame::Refused(Reply::NotAdmissible);
+        return PopFrame::NotAdmissible;
     }
     if ro <= State::STACK_START {
         *halt = 1;

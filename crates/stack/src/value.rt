@@ -64,7 +64,7 @@ pub fn pop_frame(state: State, a: &[u8], b: &[u8], at: Bases, x: u8, yz: u16) ->
     let number = super::pass::refusal(&special, marks, mask, a, b, at);
     if number != 0 {
         return Popped {
-            answer: PopFrame::Refused(reply_of(number)),
+            answer: super::frame::refused(number),
             state: state,
         };
     }
