@@ -70,7 +70,7 @@ def imports(text):
 def table(top):
     crates = own_crates(top)
     own = re.compile(r"Rattle\.(?:%s)\." % "|".join(crates))
-    lib, free, where, declared = set(), set(), collections.defaultdict(set), set()
+    lib, free, where, declared, specified = set(), set(), collections.defaultdict(set), set(), set()
     for p in files(top, (".antt", ".rt")):
         t = blank(read(p)) if p.endswith(".antt") else read(p)
         for module, a, b in imports(t):
@@ -86,7 +86,9 @@ def table(top):
                 free.add(w)
                 where[w].add(p)
         if not of_function(p):
-            declared |= set(re.findall(r"(?m)^(?:(?:unfoldable|abbrev|opaque|private|pub|instance|data|record|ruleset) +)*([^\s(){}.;,@\"«»]+) :(?= )", t))
+            here = set(re.findall(r"(?m)^(?:(?:unfoldable|abbrev|opaque|private|pub|instance|data|record|ruleset) +)*([^\s(){}.;,@\"«»]+) :(?= )", t))
+            declared |= here
+            specified |= here if "/specs/" in p else set()
     names = [w for w in free if (CAMEL.match(w) and re.search("[A-Z]", w) or KEBAB.match(w) or w in DOTTED) and w not in lib and not MADE.match(w)]
     # A word of the library in another spelling, as 'length-set', is no name of ours wherever it stands in a `use` line of the library alone.
     groups = collections.defaultdict(list)
@@ -97,7 +99,10 @@ def table(top):
         taken = new in free and new not in names
         olds.sort(key=lambda w: (not CAMEL.match(w), w not in declared, w))
         for k, w in enumerate(olds):
-            if k == 0 and not (taken and where[w] & where[new]):
+            if k == 0 and taken and w in specified and new in declared - specified:
+                # a definition's name; the lemma that port.py gave it gives way
+                out[w], out[new] = new, new + "_law"
+            elif k == 0 and not (taken and where[w] & where[new]):
                 out[w] = new
             elif w in declared:
                 out[w] = new + "_law"

@@ -2,7 +2,7 @@
 use Rattle.model.proofs.Prelude.{suc, zero, ℕ, ◌*◌, ◌<◌, Bool, cond, false, true, ◌&&◌, List, [], ◌∷◌, ⊎_elim, ap, refl, subst, sym, ◌∙◌, ◌≡◌, ℕ_discrete}
 use Rattle.model.proofs.Prelude.{arith, eqb, length, length-set, set, get_or-set_other, get_or-set_same, eq-eqb, eqb-true, Bytes, Ran, runs, step_on, both, shape_of}
 use Rattle.model.proofs.Prelude.{Shapes, shapes_of, Windows, map_outcome, Outcome, admissible, fresh, Sized, Item, mmix, by_test}
-use Rattle.claims.proofs.Prelude.{State, all_admissible, call_of, call_refusal, each_below_law, tasks_in, tasks_of, tasks_ruled, Once, picked, renamed, TurnsBelow}
+use Rattle.claims.proofs.Prelude.{State, all_admissible, call_of, call_refusal, each_below, tasks_in, tasks_of, tasks_ruled, Once, picked, renamed, TurnsBelow}
 use Rattle.claims.proofs.Prelude.{Given, mmix_in, Own, studies, task_of, Turn, turn, tried_turns, foreign_meant, lent_turns, picked_length, call_ruled}
 use Rattle.claims.proofs.Prelude.{CallRuled, turn_is, each_length, images_fit, states_from, states_in}
 use Rattle.claims.specs.OneCall.{Held, struct, held_state, Entry, asked_by}
@@ -115,8 +115,8 @@ states_count n l m e =
     by_test {A = List State} {B = List State} (λ a b. length a ≡ length b) (images_fit n l) (images_fit n m) (unfold images_fit in (rw e))
     (λ q. states_many (each_length n l) l n 0 ∙ sym (states_many (each_length n m) m n 0)) (λ q. refl)
 
-each_same : (n : ℕ) (P Q : ℕ → Bool) → ((k : ℕ) → P k ≡ Q k) → each_below_law n P ≡ each_below_law n Q
-unfolding each_below_law
+each_same : (n : ℕ) (P Q : ℕ → Bool) → ((k : ℕ) → P k ≡ Q k) → each_below n P ≡ each_below n Q
+unfolding each_below
 each_same zero P Q h = refl
 each_same (suc n) P Q h = λ i. h n i && each_same n P Q h i
 
@@ -147,7 +147,7 @@ module _ (hs ks : List Held) (w v : Windows) (e : ℕ) (ns : List ℕ) (q grant 
       r = call_ruled b ns q z
 
       go : (x : Bool) → eqb (length ss) (tasks_in ns) ≡ x
-          → (eqb (length ss) (tasks_in ns) && each_below_law (tasks_in ns) (λ k. admissible (task_of ss k))) ≡ (eqb (length ts) (tasks_in ns) && each_below_law (tasks_in ns) (λ k. admissible (task_of ts k)))
+          → (eqb (length ss) (tasks_in ns) && each_below (tasks_in ns) (λ k. admissible (task_of ss k))) ≡ (eqb (length ts) (tasks_in ns) && each_below (tasks_in ns) (λ k. admissible (task_of ts k)))
       go true x =
           let m : length ss ≡ tasks_in ns = eqb-true _ _ x in
           let a : Lengths (tasks_in ns) e mc.before hs = lengths (tasks_in ns) e mc.before hs r.tasks_some r.tasks_few mc.long mc.each mc.lent m in

@@ -6,7 +6,7 @@ unfoldable pub use Rattle.machine.specs.Octabytes.{flat, octas}
 pub use Rattle.task_model.specs.Anywhere.{AlikeThere, at_call, at_pop, called_at, CalledThere, caller_at, CallerThere, call_turn, CameBack, Cut, hole_at, popped_at}
 pub use Rattle.task_model.specs.Anywhere.{PopsThere, pop_turn, PrivateThere, pushed_at, Reading, turns_cut, turns_to_pop}
 pub use Rattle.task_model.specs.Call.{part_at, Tasked, tasks_in, tasks_most, whole_refused, worked}
-unfoldable pub use Rattle.task_model.specs.Call.{all_admissible, call_of, call_refusal, each_below_law, overlaps, part_clear, part_ruled, tasks_of, tasks_ruled, turn_run}
+unfoldable pub use Rattle.task_model.specs.Call.{all_admissible, call_of, call_refusal, each_below, overlaps, part_clear, part_ruled, tasks_of, tasks_ruled, turn_run}
 pub use Rattle.task_model.specs.CallApart.{CalledIn, turns_tried}
 pub use Rattle.task_model.specs.Lent.{among_all}
 unfoldable pub use Rattle.task_model.specs.Lent.{Once, picked, put_back, renamed, TurnsBelow}

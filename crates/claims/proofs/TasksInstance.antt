@@ -7,7 +7,7 @@ use Rattle.model.proofs.Prelude.{write_octa, tell, bytes_of, octa, part, value_o
 use Rattle.model.proofs.Prelude.{admissible, claim_local, cleared, fresh, goes, halted, hideable, hides, reg, set_register, spilled, stored, with_special, run_for}
 use Rattle.model.proofs.Prelude.{claims, fetched_plan, from_three, guarded, instruction_plan, item_plan, keeps_claim, plan_of, refusal_of, refusing, settled_by}
 use Rattle.model.proofs.Prelude.{step_plan, taken_back, tetra_at, tetra_plan, unruled_by, each, below, off_run, poppable, ranged, ranged_state, caller, part_all}
-use Rattle.claims.proofs.Prelude.{needs, State, lent, CalledThere, hole_at, PopsThere, pushed_at, turns_cut, all_admissible, call_of, call_refusal, each_below_law}
+use Rattle.claims.proofs.Prelude.{needs, State, lent, CalledThere, hole_at, PopsThere, pushed_at, turns_cut, all_admissible, call_of, call_refusal, each_below}
 use Rattle.claims.proofs.Prelude.{overlaps, part_clear, part_ruled, Tasked, tasks_of, tasks_ruled, turn_run, CalledIn, picked, renamed, any_runs, call_by}
 use Rattle.claims.proofs.Prelude.{count_by, refusal_by, rounds, turn_of, turns_from, any_parts, foreign, owns, refusing_in, studies, Turn, turn_judge}
 use Rattle.claims.proofs.Prelude.{turn_needs, turn_plan, without32, tried_turns, image_of, state_of, is_new', state_full, round_trips, each_length, images_fit}
@@ -81,7 +81,7 @@ abbrev tried_from : State → List Turn
 tried_from s = renamed (0 ∷ []) (cond (eqb told.reply 0) (tried_turns parts (call_of lent (s ∷ []) parts 1 3).given) []) ++ []
 
 computed : tried_from (caller 7) ≡ turns_cut (cut [])
-unfolding over indexed within tab octa part written value_of bytes_of hideable hides admissible fresh goes halted with_special cleared claim_local stored set_register spilled shape_of ruled_one offset has octa_bytes write_octa shapes_of inside octa_at put_octa both ruled shares map_plan worst named look looks puts perform ups missing needs arm_of tell target_of hole framed slid slide pushed_rule pushed push_frame count_of last_output restored unslide popped pop_to pop_rule no_frame misplaced pop_frame bytes_in unit_at operand_in step_on needs_of runs run_needs_by refusal_of unruled_by refusing plan_of guarded from_three step_plan claims tetra_at keeps_claim settled_by taken_back instruction_plan tetra_plan fetched_plan item_plan run_for start owns foreign refusing_in turn_judge turn_plan studies without32 turn_needs each below ranged_state off_run poppable each_below_law part_ruled overlaps part_clear tasks_ruled all_admissible call_refusal count_by refusal_by any_runs turn_of turns_from rounds call_by turn_run call_of tasks_of tried_turns renamed
+unfolding over indexed within tab octa part written value_of bytes_of hideable hides admissible fresh goes halted with_special cleared claim_local stored set_register spilled shape_of ruled_one offset has octa_bytes write_octa shapes_of inside octa_at put_octa both ruled shares map_plan worst named look looks puts perform ups missing needs arm_of tell target_of hole framed slid slide pushed_rule pushed push_frame count_of last_output restored unslide popped pop_to pop_rule no_frame misplaced pop_frame bytes_in unit_at operand_in step_on needs_of runs run_needs_by refusal_of unruled_by refusing plan_of guarded from_three step_plan claims tetra_at keeps_claim settled_by taken_back instruction_plan tetra_plan fetched_plan item_plan run_for start owns foreign refusing_in turn_judge turn_plan studies without32 turn_needs each below ranged_state off_run poppable each_below part_ruled overlaps part_clear tasks_ruled all_admissible call_refusal count_by refusal_by any_runs turn_of turns_from rounds call_by turn_run call_of tasks_of tried_turns renamed
 computed = refl
 
 contract : TasksRan picture lent parts 1 3 told.reply after told.memory told.counts told.refusals

@@ -4,7 +4,7 @@ use Rattle.model.proofs.Prelude.{length, get_or_eq_default, eq-eqb, full, image_
 use Rattle.model.proofs.Prelude.{get_d_part, value_below, lt_or_le, at_own, full_bytes, length_part, written_again}
 use Rattle.claims.proofs.Prelude.{State, flat, octas, state_of, state_full, flat_octas, keeps_length, a_at, b_at, filled, mask_in, number_at, numbers_at}
 use Rattle.claims.proofs.Prelude.{numbers_of, room_length, room_of, store_length, store_with_point, take_reply, Took, fits, Passed, passed}
-use Rattle.point_lines.specs.Line.{digits_at, length_digits_law, old_length_digits, state_digits, old_state_digits, is_new, is_old, is_short, is_short_old, is_point, state_at, renewed}
+use Rattle.point_lines.specs.Line.{digits_at, length_digits, old_length_digits, state_digits, old_state_digits, is_new, is_old, is_short, is_short_old, is_point, state_at, renewed}
 use Rattle.point_lines.specs.PointLine.{line_of, name_of, point_by, Told, Read, Older}
 use Rattle.point_lines.proofs.Formed.{point_new, point_old, point_short, point_short_old}
 use Rattle.point_lines.proofs.Hex.{length_bytes, length_at}
@@ -62,8 +62,8 @@ of_line l r g n =
 -- ---- a room by its bytes
 
 module _ (r : List ℕ) (h : Shows r) where
-  part_bytes : (o n i : ℕ) → get_or (part r o n) i 0 < 256
-  part_bytes o n i = at (lt_or_le i n)
+  part_bytes_law : (o n i : ℕ) → get_or (part r o n) i 0 < 256
+  part_bytes_law o n i = at (lt_or_le i n)
     where
       at : (i < n) ⊎ (n ≤ i) → get_or (part r o n) i 0 < 256
       at (inl m) = rw (get_d_part r o n i m) (h.bytes (o + i))
@@ -115,9 +115,9 @@ module _ (r : List ℕ) (h : Shows r) where
       whole_b = omega (arith, length_part r b_at (8 * number_at r 3));
     };
     of_bytes = record {
-      image_bytes = part_bytes 0 image_length;
-      a_bytes = part_bytes a_at (8 * number_at r 2);
-      b_bytes = part_bytes b_at (8 * number_at r 3);
+      image_bytes = part_bytes_law 0 image_length;
+      a_bytes = part_bytes_law a_at (8 * number_at r 2);
+      b_bytes = part_bytes_law b_at (8 * number_at r 3);
     };
   }
 
@@ -198,8 +198,8 @@ module _ (s l : List ℕ) (n : store_length ≤ length s) (g : is_point l ≡ tr
       let p : TakenIn w old_state_digits s l = older_in w old_state_digits o in
       (p, ap (λ (i : List ℕ). (state_of i).mask) (sym (its_image _) ∙ ap (λ (q : Point). q.image) p) ∙ old_mask w)
 
-old_in : (s l : List ℕ) → store_length ≤ length s → is_old l ≡ true → TakenIn length_digits_law old_state_digits s l × (mask_in (line_room s l) ≡ 0)
-old_in s l n e = unmasked s l n (point_old l e) length_digits_law (each_other.of_old l e)
+old_in : (s l : List ℕ) → store_length ≤ length s → is_old l ≡ true → TakenIn length_digits old_state_digits s l × (mask_in (line_room s l) ≡ 0)
+old_in s l n e = unmasked s l n (point_old l e) length_digits (each_other.of_old l e)
 
 short_in : (s l : List ℕ) → store_length ≤ length s → is_short l ≡ true → TakenIn old_length_digits state_digits s l
 short_in s l n e = older_in s l n (point_short l e) old_length_digits state_digits (each_other.of_short l e)

@@ -4,7 +4,7 @@
 use Rattle.std.specs.Prelude.{ℕ, ◌*◌, ◌≤◌, ◌<◌, ◌≡◌, ◌≢◌, true, List, length, get_or}
 use Rattle.model.specs.Memory.{window_max}
 use Rattle.model.specs.Kept.{Point, point_count, image_length, full, PointFits, OfBytes}
-use Rattle.point_lines.specs.Line.{length_digits_law, old_length_digits, state_digits, old_state_digits, is_new, is_old, is_short, is_short_old, is_point, renewed}
+use Rattle.point_lines.specs.Line.{length_digits, old_length_digits, state_digits, old_state_digits, is_new, is_old, is_short, is_short_old, is_point, renewed}
 use Rattle.point_lines.specs.PointLine.{line_of, name_of, point_by}
 use Rattle.point_lines.specs.PointLine as line
 use Rattle.points.specs.Store.{room_length, store_length, filled, number_at, room_of, store_with_point, mask_in, Took}
@@ -81,7 +81,7 @@ pub record Transfers : Type 0 where
   pub line_left : (s l : List ℕ) → store_length ≤ length s → is_new l ≡ true → line_in (store_with s l) (name_of l) ≡ l
   pub line_renewed : (s l : List ℕ) → store_length ≤ length s → is_point l ≡ true → line_in (store_with s l) (name_of l) ≡ renewed l
   -- such a one is in the store as its own digits tell it, after an old image with the mask empty
-  pub old_in : (s l : List ℕ) → store_length ≤ length s → is_old l ≡ true → TakenIn length_digits_law old_state_digits s l × (mask_in (line_room s l) ≡ 0)
+  pub old_in : (s l : List ℕ) → store_length ≤ length s → is_old l ≡ true → TakenIn length_digits old_state_digits s l × (mask_in (line_room s l) ≡ 0)
   pub short_in : (s l : List ℕ) → store_length ≤ length s → is_short l ≡ true → TakenIn old_length_digits state_digits s l
   pub short_old_in : (s l : List ℕ) → store_length ≤ length s → is_short_old l ≡ true → TakenIn old_length_digits old_state_digits s l × (mask_in (line_room s l) ≡ 0)
   -- moved from the store s to the store u: there it is the same point, and other points and bytes behind the sixteenth are untouched

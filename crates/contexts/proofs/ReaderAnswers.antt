@@ -2,7 +2,7 @@
 -- the part of it as code finds it by the room there, then the answers. What `locate` tells is in LocateAnswers.
 use Rattle.model.proofs.Prelude.{suc, zero, ℕ, ◌*◌, ◌+◌, ◌-◌, ◌<◌, ◌^◌, ◌≤◌, Bool, cond, false, true, true≢false, List, ⊎_elim, ap, refl, sym, ◌∙◌, ◌≡◌, arith}
 use Rattle.model.proofs.Prelude.{eqb, drop, length, take, eq-eqb, le-ltb, lt-ltb, ne_eqb, has, holder, offset, shape_of, Shapes, shapes_of, Window, Windows}
-use Rattle.model.proofs.Prelude.{number_of, reply_of, lent, across, checked, empty_part, handed, nowhere, octabytes, Part, part_at, part_bytes_law, read_context, Span}
+use Rattle.model.proofs.Prelude.{number_of, reply_of, lent, across, checked, empty_part, handed, nowhere, octabytes, Part, part_at, part_bytes, read_context, Span}
 use Rattle.model.proofs.Prelude.{span_of, window_of, refusing, unruled_by, windows_apart, on, Inside, judged_inside, unruled_none, lt_or_le, numbered, reader_open}
 use Rattle.model.proofs.Prelude.{reader_unruled, window_ruled, worst_of}
 use Rattle.contexts.proofs.Prelude.{Reply, Across, Done, room_in, has_room, held_b, no_room, room_ends, room_has, run_end, unruled_by_law}
@@ -144,13 +144,13 @@ pub ends_short : (at : Bases) (a b : List ℕ) (k n : ℕ) → length a < 2 ^ 64
 ends_short at a b k n la lb = on (λ (v : Window). n ≤ length v.bytes → n < 2 ^ 64) (eqb k 1) (λ e h. omega arith) (λ e h. omega arith)
 
 module _ (w : Windows) (q : Part) (k start size : ℕ) (d : k ≡ q.which) (e : start ≡ q.start) (f : size ≡ q.size) where
-  part_bytes : take (start + size - start) (drop start (window_of w k).bytes) ≡ part_bytes_law w q
-  part_bytes =
+  part_bytes_law : take (start + size - start) (drop start (window_of w k).bytes) ≡ part_bytes w q
+  part_bytes_law =
       let n : start + size - start ≡ q.size = omega arith in
       rw (n, d, e)
 
-  pub bytes_b : k ≡ 1 → take (start + size - start) (drop start w.b.bytes) ≡ part_bytes_law w q
-  bytes_b h = rw (eq-eqb k 1 h) at part_bytes
+  pub bytes_b : k ≡ 1 → take (start + size - start) (drop start w.b.bytes) ≡ part_bytes w q
+  bytes_b h = rw (eq-eqb k 1 h) at part_bytes_law
 
-  pub bytes_a : (k ≡ 1 → ⊥) → take (start + size - start) (drop start w.a.bytes) ≡ part_bytes_law w q
-  bytes_a h = rw (ne_eqb k 1 h) at part_bytes
+  pub bytes_a : (k ≡ 1 → ⊥) → take (start + size - start) (drop start w.a.bytes) ≡ part_bytes w q
+  bytes_a h = rw (ne_eqb k 1 h) at part_bytes_law

@@ -6,7 +6,7 @@ use Rattle.model.specs.Plan.{Outcome, perform, look}
 use Rattle.model.specs.Registers.{admissible}
 use Rattle.model.specs.Contexts.{below, save_context, context_at, unsave_context, packed_at, count_below}
 use Rattle.model.specs.Step.{refusing}
-use Rattle.model.specs.Reader.{window_of, across, part_at, read_context, part_bytes_law}
+use Rattle.model.specs.Reader.{window_of, across, part_at, read_context, part_bytes}
 use Rattle.model.specs.Numbers.{number_of, reply_of}
 use Rattle.model.specs.Parts.{lent}
 use Rattle.machine.specs.Octas.{room_in}
@@ -123,5 +123,5 @@ first_byte k a b = cond (eqb k 1) b.ref_ptr a.ref_ptr
 pub record PartIs (at : Bases) (a b : Bor (List ℕ)) (p : ℕ) (r : Bor (List ℕ)) (reply which : ℕ) : Type 0 where
   pub reply_is : reply ≡ (read_context (lent at a.now b.now) p).reply
   pub which_is : which ≡ (read_context (lent at a.now b.now) p).state.which
-  pub bytes_are : r.now ≡ part_bytes_law (lent at a.now b.now) (read_context (lent at a.now b.now) p).state
+  pub bytes_are : r.now ≡ part_bytes (lent at a.now b.now) (read_context (lent at a.now b.now) p).state
   pub lies_at : r.ref_ptr ≡ ((first_byte which a b).0, (first_byte which a b).1 + (read_context (lent at a.now b.now) p).state.start)

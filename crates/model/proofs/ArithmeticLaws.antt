@@ -6,7 +6,7 @@ use Rattle.model.specs.NoMemory.{tell}
 use Rattle.model.specs.Control.{operand_of}
 use Rattle.model.specs.Trips.{word_of}
 use Rattle.model.specs.ArithmeticStep.{operands_of, results_in, with_results, arithmetic_says}
-use Rattle.model.specs.Row.{operand_read_law}
+use Rattle.model.specs.Row.{operand_read}
 use Rattle.model.specs.ArithmeticRows.{given_by, arithmetic_row}
 use Rattle.model.specs.Step.{refusal_of, plan_of, from_three}
 use Rattle.model.specs.StepRule.{rule_of, spilled_by}
@@ -18,7 +18,7 @@ use Rattle.model.proofs.ArithmeticWords.{flags_one}
 use Rattle.model.proofs.ArmAnswers.{operand_is, arithmetic_meets}
 use Rattle.model.proofs.SeenArms.{arithmetic_seen, operand_same}
 use Rattle.model.proofs.Plan.{All_left, All_right}
-use Rattle.model.proofs.ArmRules.{by_plans, operand_read, arithmetic_says_law}
+use Rattle.model.proofs.ArmRules.{by_plans, operand_read_law, arithmetic_says_law}
 use Rattle.model.proofs.RowLaws.{Laws}
 
 arithmetic_one : (s : State) (f : Operation) (u v : ℕ) → OneFlag (results_in s f u v).flags
@@ -32,8 +32,8 @@ arithmetic_laws f p q = record {
   seen = λ m s t op x y z h. arithmetic_seen m s t f x _ _ _ _ (word_of op x y z) (operand_same m s t p y h) (operand_same m s t q z h) h;
   same = λ w s op x y z h. by_plans w s (arithmetic f p q) op x y z
       (rw (
-        ← operand_read s p y (All_left (ReadsZero s) (operand_read_law p y) (operand_read_law q z) h.reads),
-        ← operand_read s q z (All_right (ReadsZero s) (operand_read_law p y) (operand_read_law q z) h.reads),
+        ← operand_read_law s p y (All_left (ReadsZero s) (operand_read p y) (operand_read q z) h.reads),
+        ← operand_read_law s q z (All_right (ReadsZero s) (operand_read p y) (operand_read q z) h.reads),
         arithmetic_says_law s f x (operand_of s p y) (operand_of s q z) (word_of op x y z) (h.arithmetic_loaded f p q refl),
       ));
   flags = record {

@@ -17,7 +17,7 @@ use Rattle.model.specs.LoadStore.{merged, fits, load_from, flag_v, store_says, s
 use Rattle.model.specs.ArithmeticStep.{operands_of, results_in, with_results, arithmetic_says}
 use Rattle.model.specs.Step.{refusal_of, refusing, plan_of, from_three}
 use Rattle.model.specs.Rules.{operand_rule, sum_rule, After, goes_on, unsave_rest_rule, unsave_count_rule, unsave_rule, load_rule, store_state, store_rule, arithmetic_rule}
-use Rattle.model.specs.Row.{operand_read_law, sum_read}
+use Rattle.model.specs.Row.{operand_read, sum_read}
 use Rattle.model.specs.StackRows.{frame_read}
 use Rattle.model.specs.StepRule.{rule_of, spilled_by}
 use Rattle.model.specs.Departures.{ReadsZero, context_taken}
@@ -43,14 +43,14 @@ by_plans w s a op x y z e =
 
 -- ---- registers that read by the rule as they are held
 
-pub operand_read : (s : State) (o : Operand) (z : ℕ) → All (ReadsZero s) (operand_read_law o z) → operand_of s o z ≡ operand_rule s o z
+pub operand_read_law : (s : State) (o : Operand) (z : ℕ) → All (ReadsZero s) (operand_read o z) → operand_of s o z ≡ operand_rule s o z
 unfolding All
-operand_read s register z h = h.0
-operand_read s immediate z h = refl
+operand_read_law s register z h = h.0
+operand_read_law s immediate z h = refl
 
 pub sum_read_law : (s : State) (o : Operand) (y z : ℕ) → All (ReadsZero s) (sum_read o y z) → sum_rule s o y z ≡ sum_of s o y z
 unfolding All
-sum_read_law s o y z h = rw (h.0, operand_read s o z h.1)
+sum_read_law s o y z h = rw (h.0, operand_read_law s o z h.1)
 
 -- of a frame
 all_below : (F : ℕ → Type 0) (n k : ℕ) → All F (tab k n (λ i. i)) → (i : ℕ) → k ≤ i → i < k + n → F i

@@ -63,7 +63,7 @@ pub use Rattle.model.specs.Order.{Passes, refused_by}
 pub use Rattle.model.specs.Parts.{lent, made}
 pub use Rattle.model.specs.Plan.{Agree, answer, clear, Off, Outcome, Plan, read}
 unfoldable pub use Rattle.model.specs.Plan.{All, look, looks, map_outcome, map_plan, missing, named, perform, puts, ups, worst}
-pub use Rattle.model.specs.Reader.{across, checked, empty_part, nowhere, octabytes, Part, part_bytes_law, read_context, Span, window_of}
+pub use Rattle.model.specs.Reader.{across, checked, empty_part, nowhere, octabytes, Part, part_bytes, read_context, Span, window_of}
 unfoldable pub use Rattle.model.specs.Reader.{handed, part_at, span_of}
 pub use Rattle.model.specs.Registers.{following, is_marginal, MarginalZero, masked, next, r_a, r_b, r_bb, reg, r_g, r_h, r_j, r_l, r_o, r_p, r_r, r_s, r_w, r_ww, r_x}
 pub use Rattle.model.specs.Registers.{r_xx, r_y, r_yy, r_z, r_zz, Sized, sp, stack_start, with_parts, Words}

@@ -13,7 +13,7 @@ use Rattle.model.specs.Departures.{ReadsAlike}
 use Rattle.model.proofs.ArmAnswers.{onward, operand_is, put_meets, get_meets, sync_meets, trip_meets}
 use Rattle.model.proofs.SeenStates.{reg_same, next_seen}
 use Rattle.model.proofs.SeenArms.{done, put_at, get_seen, sync_seen, trip_at, trap_at, operand_same}
-use Rattle.model.proofs.ArmRules.{by_plans, operand_read, put_done_law, get_done, sync_done}
+use Rattle.model.proofs.ArmRules.{by_plans, operand_read_law, put_done_law, get_done, sync_done}
 use Rattle.model.proofs.RaisedRule.{trip_same}
 use Rattle.model.proofs.Rules.{got_same}
 use Rattle.model.proofs.RowLaws.{Laws}
@@ -24,7 +24,7 @@ system_laws (put o) = record {
   meets = λ s W Read R m op x y z wy wz mi. put_meets s W Read R m x (operand_of s o z) (operand_is s W Read R m o z wz);
   seen = λ m s t op x y z h. put_at m s t x _ _ (operand_same m s t o z h) h;
   same = λ w s op x y z h. by_plans w s (system (put o)) op x y z
-      (rw (← operand_read s o z h.reads, h.put_y o refl, put_done_law s x (operand_of s o z) (h.put_seen o refl) (h.put_legal o refl), h.put_legal o refl));
+      (rw (← operand_read_law s o z h.reads, h.put_y o refl, put_done_law s x (operand_of s o z) (h.put_seen o refl) (h.put_legal o refl), h.put_legal o refl));
   flags = tt;
 }
 system_laws get = record {

@@ -7,7 +7,7 @@ use Rattle.model.specs.Control.{operand_of}
 use Rattle.model.specs.Trips.{word_of}
 use Rattle.model.specs.ArithmeticStep.{results_in, with_results, arithmetic_says}
 use Rattle.model.specs.Rules.{operand_rule, done, arithmetic_rule}
-use Rattle.model.specs.Row.{Of, Row, quiet, Raise, raises, begun, raised_if, operand_read_law}
+use Rattle.model.specs.Row.{Of, Row, quiet, Raise, raises, begun, raised_if, operand_read}
 use Rattle.model.specs.declared.State.{State}
 use Rattle.model.specs.declared.Operation.{Operation}
 use Rattle.model.specs.declared.Results.{Results}
@@ -26,6 +26,6 @@ arithmetic_row f p q = quiet (record {
   refusal = begun;
   says = λ s op x y z. arithmetic_says s f x (operand_of s p y) (operand_of s q z) (word_of op x y z);
   rule = λ s op x y z. done (arithmetic_rule s f x (operand_rule s p y) (operand_rule s q z) (word_of op x y z));
-  reads = λ s x y z. operand_read_law p y ++ operand_read_law q z;
+  reads = λ s x y z. operand_read p y ++ operand_read q z;
   flags = raises (λ s x y z. (given_by f p q s y z).flags) (arithmetic_by f p q);
 })

@@ -59,5 +59,5 @@ read_context w p =
     (record { reply = unruled_by (shapes_of w); state = empty_part; memory = w })
 
 -- the bytes of a part
-abbrev pub part_bytes_law : Windows → Part → List ℕ
-part_bytes_law w q = take q.size (drop q.start (window_of w q.which).bytes)
+abbrev pub part_bytes : Windows → Part → List ℕ
+part_bytes w q = take q.size (drop q.start (window_of w q.which).bytes)

@@ -91,12 +91,12 @@ spills_in (touching t) = t.spills
 -- ---- words that rows share
 
 -- registers read: $Z, or none; $Y and $Z, or $Y
-abbrev pub operand_read_law : Operand → ℕ → List ℕ
-operand_read_law register z = z ∷ []
-operand_read_law immediate z = []
+abbrev pub operand_read : Operand → ℕ → List ℕ
+operand_read register z = z ∷ []
+operand_read immediate z = []
 
 abbrev pub sum_read : Operand → ℕ → ℕ → List ℕ
-sum_read o y z = y ∷ operand_read_law o z
+sum_read o y z = y ∷ operand_read o z
 
 -- an exception step e of some flags; where there is none, the next instruction
 abbrev pub raised_if : Raise → State → ℕ → ℕ → ℕ → ℕ → Said

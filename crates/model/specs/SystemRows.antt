@@ -8,7 +8,7 @@ use Rattle.model.specs.Control.{xyz_of, operand_of}
 use Rattle.model.specs.System.{put_refusal, put_state, put_special, get_special, got_rule, sync_of}
 use Rattle.model.specs.Trips.{word_of, trip_to, trap_of, trip_rule, trap_rule}
 use Rattle.model.specs.Rules.{After, read_rule, operand_rule, going, done, interrupt}
-use Rattle.model.specs.Row.{Refusal, begins, no_arm, named_trap, no_special, Of, Row, Plain, plain, refusable, operand_read_law}
+use Rattle.model.specs.Row.{Refusal, begins, no_arm, named_trap, no_special, Of, Row, Plain, plain, refusable, operand_read}
 
 -- the Y that `TrapCode::from_u8` names
 abbrev pub is_named : ℕ → Bool
@@ -36,7 +36,7 @@ system_rule trip s op x y z = done (trip_rule s 0 (word_of op x y z) (read_rule 
 system_rule trap s op x y z = done (trap_rule s (word_of op x y z) (read_rule s y) (read_rule s z))
 
 abbrev pub system_reads : SystemArm → ℕ → ℕ → ℕ → List ℕ
-system_reads (put o) x y z = operand_read_law o z
+system_reads (put o) x y z = operand_read o z
 system_reads get x y z = []
 system_reads sync x y z = []
 system_reads swym x y z = []

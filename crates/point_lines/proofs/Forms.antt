@@ -3,7 +3,7 @@ use Rattle.model.proofs.Prelude.{suc, zero, ℕ, ◌*◌, ◌+◌, ◌-◌, ◌<
 use Rattle.model.proofs.Prelude.{◌≡◌, add-one, arith, leb, drop, drop_of_length-le, get_or, length, length-append, length-replicate, pow-add, pow_mono, drop-cons}
 use Rattle.model.proofs.Prelude.{le-leb, lt-leb, and_left, and_right}
 use Rattle.point_lines.proofs.Prelude.{codes, digit_of, number_of, digit_most}
-use Rattle.point_lines.specs.Line.{mark, fits_byte_law, fits, head, bases, middle, close, marks, point_form, digits_at, hex_at, octas_a, octas_b, is_form}
+use Rattle.point_lines.specs.Line.{mark, fits_byte, fits, head, bases, middle, close, marks, point_form, digits_at, hex_at, octas_a, octas_b, is_form}
 use Rattle.point_lines.specs.Met.{met}
 use Rattle.point_lines.specs.declared.line.Met.{Met}
 
@@ -17,7 +17,7 @@ cond_none : (t : Bool) → cond {A = Bool} t false false ≡ false
 cond_none true = refl
 cond_none false = refl
 
-fits_here : (c : ℕ) (p l : List ℕ) (o : ℕ) → o < length l → fits (c ∷ p) (drop o l) ≡ (fits_byte_law c (get_or l o 0) && fits p (drop (o + 1) l))
+fits_here : (c : ℕ) (p l : List ℕ) (o : ℕ) → o < length l → fits (c ∷ p) (drop o l) ≡ (fits_byte c (get_or l o 0) && fits p (drop (o + 1) l))
 unfolding fits
 fits_here c p l o h = rw (drop-cons l o 0 h, add-one o)
 
@@ -29,11 +29,11 @@ abbrev pub Further : List ℕ → List ℕ → Met → Met → Type 0
 Further c l m r = (p : List ℕ) → met p l r ≡ met (c ++ p) l m
 
 module _ (c : ℕ) (l : List ℕ) (m : Met) where
-  pub met_on : m.at < length l → fits_byte_law c (get_or l m.at 0) ≡ true → Further (c ∷ []) l m (record { good = m.good; at = m.at + 1 })
+  pub met_on : m.at < length l → fits_byte c (get_or l m.at 0) ≡ true → Further (c ∷ []) l m (record { good = m.good; at = m.at + 1 })
   unfolding met
   met_on h e p = rw (fits_here c p l m.at h, e)
 
-  pub met_other : m.at < length l → fits_byte_law c (get_or l m.at 0) ≡ false → Further (c ∷ []) l m (record { good = false; at = m.at })
+  pub met_other : m.at < length l → fits_byte c (get_or l m.at 0) ≡ false → Further (c ∷ []) l m (record { good = false; at = m.at })
   unfolding met
   met_other h e p = rw (fits_here c p l m.at h, e, cond_none m.good)
 
@@ -104,7 +104,7 @@ unfolding fits
 length_fits [] [] e = refl
 length_fits [] (b ∷ l) e = cc
 length_fits (c ∷ p) [] e = cc
-length_fits (c ∷ p) (b ∷ l) e = ap suc (length_fits p l (and_right (fits_byte_law c b) _ e))
+length_fits (c ∷ p) (b ∷ l) e = ap suc (length_fits p l (and_right (fits_byte c b) _ e))
 
 pub length_head : length head ≡ 23
 unfolding head codes
@@ -210,9 +210,9 @@ of_length w d k l e =
 
 -- ---- a byte of a line of a form
 
-pub fits_at : (p l : List ℕ) (i : ℕ) → fits p l ≡ true → i < length p → fits_byte_law (get_or p i 0) (get_or l i 0) ≡ true
+pub fits_at : (p l : List ℕ) (i : ℕ) → fits p l ≡ true → i < length p → fits_byte (get_or p i 0) (get_or l i 0) ≡ true
 unfolding fits
 fits_at [] l i e h = absurd (omega arith)
 fits_at (c ∷ p) [] i e h = cc
-fits_at (c ∷ p) (b ∷ l) zero e h = and_left (fits_byte_law c b) _ e
-fits_at (c ∷ p) (b ∷ l) (suc i) e h = fits_at p l i (and_right (fits_byte_law c b) _ e) (omega arith)
+fits_at (c ∷ p) (b ∷ l) zero e h = and_left (fits_byte c b) _ e
+fits_at (c ∷ p) (b ∷ l) (suc i) e h = fits_at p l i (and_right (fits_byte c b) _ e) (omega arith)

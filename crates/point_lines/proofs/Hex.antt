@@ -48,10 +48,10 @@ hex_number w ds a e = ap (λ (k : ℕ). hex_of k (number_of 0 ds)) (sym e ∙ sy
 
 -- ---- bytes
 
-pub length_digits : (l : List ℕ) → length (digits_of l) ≡ 2 * length l
+pub length_digits_law : (l : List ℕ) → length (digits_of l) ≡ 2 * length l
 unfolding digits_of
-length_digits [] = refl
-length_digits (b ∷ l) = omega (arith, length_digits l)
+length_digits_law [] = refl
+length_digits_law (b ∷ l) = omega (arith, length_digits_law l)
 
 pub digits_bytes : (k l : List ℕ) → digits_of (k ++ l) ≡ digits_of k ++ digits_of l
 unfolding digits_of

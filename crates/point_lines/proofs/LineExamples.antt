@@ -1,13 +1,13 @@
 -- The examples of lines, by a result that antt computes; and the most octabytes of each form, by one law of a form.
 use Rattle.model.proofs.Prelude.{ℕ, ◌+◌, ◌<◌, ◌≤◌, Bool, false, true, ◌&&◌, List, refl, ◌≡◌, arith, leb, le-leb, lt-leb, within}
 use Rattle.point_lines.proofs.Prelude.{codes, digit_of, number_of, line_length, pieces, bad_line, bad_text, filled, glyph, numeral}
-use Rattle.point_lines.specs.Line.{fits_byte_law, fits, head, bases, middle, close, point_form, digits_at, hex_at, octas_a, octas_b, is_form, state_digits, old_state_digits, octas_max, old_octas_max, is_new, is_old, is_short, is_short_old, is_point, widths_of, padded, widened, renewed}
+use Rattle.point_lines.specs.Line.{fits_byte, fits, head, bases, middle, close, point_form, digits_at, hex_at, octas_a, octas_b, is_form, state_digits, old_state_digits, octas_max, old_octas_max, is_new, is_old, is_short, is_short_old, is_point, widths_of, padded, widened, renewed}
 use Rattle.point_lines.specs.PointLine.{hex_of, digits_of, in_form, point_digits}
 use Rattle.point_lines.specs.Stream.{printed_lines}
 use Rattle.point_lines.specs.examples.LineExamples.{form_met, LineExamplesMet, LengthLimits}
 
 pub line_examples_met : LineExamplesMet
-unfolding form_met in_form point_digits hex_of digits_of point_form head bases middle close codes glyph numeral filled bad_line bad_text widths_of is_new is_old is_short is_short_old is_form octas_a octas_b hex_at digits_at digit_of number_of within fits fits_byte_law renewed widened padded printed_lines pieces line_length is_point
+unfolding form_met in_form point_digits hex_of digits_of point_form head bases middle close codes glyph numeral filled bad_line bad_text widths_of is_new is_old is_short is_short_old is_form octas_a octas_b hex_at digits_at digit_of number_of within fits fits_byte renewed widened padded printed_lines pieces line_length is_point
 line_examples_met = (refl, refl, refl, refl, refl, refl, refl, refl)
 
 -- ---- a form of lengths of w digits, a state of d, k octabytes at most

@@ -2,7 +2,7 @@
 use Rattle.model.proofs.Prelude.{suc, zero, ℕ, ◌+◌, ◌<◌, cond, false, true, List, [], ◌++◌, ◌∷◌, ap, refl, sym, ◌∙◌, ◌≡◌, add-one, arith, eqb, drop, get_or}
 use Rattle.model.proofs.Prelude.{length, length-replicate, drop-drop, get_or-drop, eq-eqb, eqb-true, lt-ltb, ltb-true, All, and_left, and_right}
 use Rattle.point_lines.proofs.Prelude.{digit_of, glyph, digit_glyph, Digits, glyph_digit, either}
-use Rattle.point_lines.specs.Line.{mark, fits_byte_law, fits, marks, digits_at}
+use Rattle.point_lines.specs.Line.{mark, fits_byte, fits, marks, digits_at}
 use Rattle.point_lines.specs.PointLine.{in_form}
 
 -- the digits of a line at a form's marks
@@ -17,20 +17,20 @@ marks_in (c ∷ p) = cond (eqb c mark) (suc (marks_in p)) (marks_in p)
 
 -- ---- a line of a form, and its digits
 
-fits_byte : (c b : ℕ) (p l : List ℕ) → fits (c ∷ p) (b ∷ l) ≡ true → fits_byte_law c b ≡ true
+fits_byte_law : (c b : ℕ) (p l : List ℕ) → fits (c ∷ p) (b ∷ l) ≡ true → fits_byte c b ≡ true
 unfolding fits
-fits_byte c b p l e = and_left (fits_byte_law c b) _ e
+fits_byte_law c b p l e = and_left (fits_byte c b) _ e
 
 fits_rest : (c b : ℕ) (p l : List ℕ) → fits (c ∷ p) (b ∷ l) ≡ true → fits p l ≡ true
 unfolding fits
-fits_rest c b p l e = and_right (fits_byte_law c b) _ e
+fits_rest c b p l e = and_right (fits_byte c b) _ e
 
-digit_here : (c b : ℕ) → eqb c mark ≡ true → fits_byte_law c b ≡ true → digit_of b < 16
-unfolding fits_byte_law
+digit_here : (c b : ℕ) → eqb c mark ≡ true → fits_byte c b ≡ true → digit_of b < 16
+unfolding fits_byte
 digit_here c b t e = ltb-true _ _ (rw t at e)
 
-byte_here : (c b : ℕ) → eqb c mark ≡ false → fits_byte_law c b ≡ true → b ≡ c
-unfolding fits_byte_law
+byte_here : (c b : ℕ) → eqb c mark ≡ false → fits_byte c b ≡ true → b ≡ c
+unfolding fits_byte
 byte_here c b t e = eqb-true _ _ (rw t at e)
 
 pub line_again : (p l : List ℕ) → fits p l ≡ true → in_form p (digits_in p l) ≡ l
@@ -41,8 +41,8 @@ line_again (c ∷ p) [] e = cc
 line_again (c ∷ p) (b ∷ l) e =
     let r : in_form p (digits_in p l) ≡ l = line_again p l (fits_rest c b p l e) in
     either (eqb c mark)
-    (λ t. rw (t, glyph_digit b (digit_here c b t (fits_byte c b p l e)), r))
-    (λ t. rw (t, byte_here c b t (fits_byte c b p l e), r))
+    (λ t. rw (t, glyph_digit b (digit_here c b t (fits_byte_law c b p l e)), r))
+    (λ t. rw (t, byte_here c b t (fits_byte_law c b p l e), r))
 
 pub digits_small : (p l : List ℕ) → fits p l ≡ true → Digits (digits_in p l)
 unfolding digits_in All fits
@@ -51,7 +51,7 @@ digits_small (c ∷ p) [] e = let z : ◌≡◌ {A = ℕ} 0 1 = cc in absurd (om
 digits_small (c ∷ p) (b ∷ l) e =
     let r : Digits (digits_in p l) = digits_small p l (fits_rest c b p l e) in
     either (eqb c mark)
-    (λ t. rw t (digit_here c b t (fits_byte c b p l e), r))
+    (λ t. rw t (digit_here c b t (fits_byte_law c b p l e), r))
     (λ t. rw t r)
 
 -- digits put into a form are there
@@ -70,11 +70,11 @@ unfolding in_form
 plain_in c p ds t = rw t
 
 fits_mark : (c d : ℕ) (p l : List ℕ) → eqb c mark ≡ true → d < 16 → fits (c ∷ p) (glyph d ∷ l) ≡ fits p l
-unfolding fits fits_byte_law
+unfolding fits fits_byte
 fits_mark c d p l t h = let g : digit_of (glyph d) ≡ d = digit_glyph d h in rw (t, g, lt-ltb d 16 h)
 
 fits_plain : (c : ℕ) (p l : List ℕ) → eqb c mark ≡ false → fits (c ∷ p) (c ∷ l) ≡ fits p l
-unfolding fits fits_byte_law
+unfolding fits fits_byte
 fits_plain c p l t = rw (t, eq-eqb c c refl)
 
 nothing : (ds : List ℕ) → fits [] (in_form [] ds) ≡ true

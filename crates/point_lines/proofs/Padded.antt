@@ -2,7 +2,7 @@
 use Rattle.model.proofs.Prelude.{ℕ, ◌+◌, ◌-◌, ◌<◌, ◌≤◌, false, true, append_assoc, List, [], ◌++◌, ap, sym, ◌∙◌, ◌≡◌, arith, leb, drop, length, length-append}
 use Rattle.model.proofs.Prelude.{length-drop, take, take-append-drop, drop-append-le, drop_at, length-take-le, take-append-le, take_at, le-leb, leb-true}
 use Rattle.model.proofs.Prelude.{lt-leb, and_left, and_right}
-use Rattle.point_lines.specs.Line.{length_digits_law, state_digits, first_at, second_at, state_end, zeros, padded, gained, widens, widened, renewed_in}
+use Rattle.point_lines.specs.Line.{length_digits, state_digits, first_at, second_at, state_end, zeros, padded, gained, widens, widened, renewed_in}
 
 pub padded_none : (i : ℕ) (l : List ℕ) → padded i 0 l ≡ l
 unfolding padded
@@ -29,60 +29,60 @@ length_padded i n l h = omega (
 )
 
 -- a line of the form that is written
-pub widened_none : (l : List ℕ) → widened length_digits_law state_digits l ≡ l
+pub widened_none : (l : List ℕ) → widened length_digits state_digits l ≡ l
 unfolding widened
 widened_none l =
     padded_none first_at _
-    ∙ padded_none (second_at length_digits_law) _
-    ∙ padded_none (state_end length_digits_law state_digits) l
+    ∙ padded_none (second_at length_digits) _
+    ∙ padded_none (state_end length_digits state_digits) l
 
 -- a line and what follows it
 pub widened_more : (w d : ℕ) (p q : List ℕ) → state_end w d ≤ length p → widened w d (p ++ q) ≡ widened w d p ++ q
 unfolding widened
 widened_more w d p q h =
     let p₁ : List ℕ = padded (state_end w d) (state_digits - d) p in
-    let p₂ : List ℕ = padded (second_at w) (length_digits_law - w) p₁ in
+    let p₂ : List ℕ = padded (second_at w) (length_digits - w) p₁ in
     let h₁ : length p ≤ length p₁ = length_padded (state_end w d) (state_digits - d) p h in
-    let h₂ : length p₁ ≤ length p₂ = length_padded (second_at w) (length_digits_law - w) p₁ (omega arith) in
-    ap (λ (l : List ℕ). padded first_at (length_digits_law - w) (padded (second_at w) (length_digits_law - w) l)) (padded_more (state_end w d) (state_digits - d) p q h)
-    ∙ ap (padded first_at (length_digits_law - w)) (padded_more (second_at w) (length_digits_law - w) p₁ q (omega arith))
-    ∙ padded_more first_at (length_digits_law - w) p₂ q (omega arith)
+    let h₂ : length p₁ ≤ length p₂ = length_padded (second_at w) (length_digits - w) p₁ (omega arith) in
+    ap (λ (l : List ℕ). padded first_at (length_digits - w) (padded (second_at w) (length_digits - w) l)) (padded_more (state_end w d) (state_digits - d) p q h)
+    ∙ ap (padded first_at (length_digits - w)) (padded_more (second_at w) (length_digits - w) p₁ q (omega arith))
+    ∙ padded_more first_at (length_digits - w) p₂ q (omega arith)
 
 -- ---- where it has such widths, and room
 
 module _ (room n w d : ℕ) where
-  pub widens_here : w ≤ length_digits_law → d ≤ state_digits → state_end w d ≤ n → n + gained w d ≤ room → widens room n w d ≡ true
+  pub widens_here : w ≤ length_digits → d ≤ state_digits → state_end w d ≤ n → n + gained w d ≤ room → widens room n w d ≡ true
   unfolding widens
-  widens_here g h i j = rw (le-leb w length_digits_law g, le-leb d state_digits h, le-leb (state_end w d) n i, le-leb (n + gained w d) room j)
+  widens_here g h i j = rw (le-leb w length_digits g, le-leb d state_digits h, le-leb (state_end w d) n i, le-leb (n + gained w d) room j)
 
-  pub widens_facts : widens room n w d ≡ true → (w ≤ length_digits_law) × (d ≤ state_digits) × (state_end w d ≤ n) × (n + gained w d ≤ room)
+  pub widens_facts : widens room n w d ≡ true → (w ≤ length_digits) × (d ≤ state_digits) × (state_end w d ≤ n) × (n + gained w d ≤ room)
   unfolding widens
   widens_facts e =
-      let r = and_right (leb w length_digits_law) _ e in
+      let r = and_right (leb w length_digits) _ e in
       let q = and_right (leb d state_digits) _ r in (
-        leb-true _ _ (and_left (leb w length_digits_law) _ e),
+        leb-true _ _ (and_left (leb w length_digits) _ e),
         leb-true _ _ (and_left (leb d state_digits) _ r),
         leb-true _ _ (and_left (leb (state_end w d) n) _ q),
         leb-true _ _ (and_right (leb (state_end w d) n) _ q),
       )
 
-  pub many_lengths : length_digits_law < w → widens room n w d ≡ false
+  pub many_lengths : length_digits < w → widens room n w d ≡ false
   unfolding widens
-  many_lengths g = rw (lt-leb w length_digits_law g)
+  many_lengths g = rw (lt-leb w length_digits g)
 
-  module _ (g : w ≤ length_digits_law) where
+  module _ (g : w ≤ length_digits) where
     pub many_state : state_digits < d → widens room n w d ≡ false
     unfolding widens
-    many_state h = rw (le-leb w length_digits_law g, lt-leb d state_digits h)
+    many_state h = rw (le-leb w length_digits g, lt-leb d state_digits h)
 
     module _ (h : d ≤ state_digits) where
       pub state_cut : n < state_end w d → widens room n w d ≡ false
       unfolding widens
-      state_cut i = rw (le-leb w length_digits_law g, le-leb d state_digits h, lt-leb (state_end w d) n i)
+      state_cut i = rw (le-leb w length_digits g, le-leb d state_digits h, lt-leb (state_end w d) n i)
 
       pub little_room : state_end w d ≤ n → room < n + gained w d → widens room n w d ≡ false
       unfolding widens
-      little_room i j = rw (le-leb w length_digits_law g, le-leb d state_digits h, le-leb (state_end w d) n i, lt-leb (n + gained w d) room j)
+      little_room i j = rw (le-leb w length_digits g, le-leb d state_digits h, le-leb (state_end w d) n i, lt-leb (n + gained w d) room j)
 
 -- what is left of the first n bytes held
 module _ (held : List ℕ) (n w d : ℕ) where
@@ -96,15 +96,15 @@ module _ (held : List ℕ) (n w d : ℕ) where
 
   -- put in from the last on
   pub renewed_by : (third second first : List ℕ) → widens (length held) n w d ≡ true → third ≡ padded (state_end w d) (state_digits - d) (take n held)
-      → second ≡ padded (second_at w) (length_digits_law - w) third → first ≡ padded first_at (length_digits_law - w) second → first ≡ renewed_in held n w d
+      → second ≡ padded (second_at w) (length_digits - w) third → first ≡ padded first_at (length_digits - w) second → first ≡ renewed_in held n w d
   unfolding widened
   renewed_by third second first e f g h =
-      h ∙ ap (padded first_at (length_digits_law - w)) (g ∙ ap (padded (second_at w) (length_digits_law - w)) f) ∙ sym (renewed_here e)
+      h ∙ ap (padded first_at (length_digits - w)) (g ∙ ap (padded (second_at w) (length_digits - w)) f) ∙ sym (renewed_here e)
 
 -- ---- a line in its parts
 module _ (w d : ℕ) (h a s b t i f : List ℕ) (nh : length h ≡ 23) (na : length a ≡ w) (ns : length s ≡ 1) (nb : length b ≡ w) (nt : length t ≡ 51) (ni : length i ≡ d) where
   abbrev j : ℕ
-  j = length_digits_law - w
+  j = length_digits - w
 
   abbrev k : ℕ
   k = state_digits - d

@@ -3,13 +3,13 @@ use Rattle.model.proofs.Prelude.{suc, zero, ℕ, ◌%◌, ◌*◌, ◌+◌, ◌-
 use Rattle.model.proofs.Prelude.{◌≡◌, add-suc, add-zero, pow-succ', add-one, arith, length, length-append, length-replicate, replicate}
 use Rattle.model.proofs.Prelude.{replicate-append-replicate, full, image_length, octas_in, Point, part, full_bytes, part_padded}
 use Rattle.point_lines.proofs.Prelude.{codes, glyph}
-use Rattle.point_lines.specs.Line.{mark, head, bases, middle, close, marks, point_form, length_digits_law, old_length_digits, state_digits, old_state_digits, is_new, is_old, is_short, is_short_old, is_point, widths, widths_of, zeros, widened, renewed}
+use Rattle.point_lines.specs.Line.{mark, head, bases, middle, close, marks, point_form, length_digits, old_length_digits, state_digits, old_state_digits, is_new, is_old, is_short, is_short_old, is_point, widths, widths_of, zeros, widened, renewed}
 use Rattle.point_lines.specs.PointLine.{hex_of, digits_of, in_form, point_digits, line_of, name_of, point_by, point_of, Read, Older}
 use Rattle.point_lines.specs.declared.line.Widths.{Widths}
 use Rattle.point_lines.proofs.Forms.{length_head, length_bases, length_space}
 use Rattle.point_lines.proofs.Formed.{Formed, formed, as_new, point_old, point_short, point_short_old, old_widths, short_widths, short_old_widths}
 use Rattle.point_lines.proofs.Marks.{marks_in, marks_marks, in_append, length_in}
-use Rattle.point_lines.proofs.Hex.{length_hex, length_digits, digits_bytes}
+use Rattle.point_lines.proofs.Hex.{length_hex, length_digits_law, digits_bytes}
 use Rattle.point_lines.proofs.Padded.{widened_none, widened_parts}
 use Rattle.point_lines.proofs.LinePoint.{line_by, ReadBy, read_by}
 
@@ -24,11 +24,11 @@ module _ (l : List ℕ) (w d : ℕ) (e : widths_of l ≡ widths w d) where
   unfolding renewed
   its_own = ap (λ (x : Widths). widened x.lengths x.state l) e
 
-pub new_point : (l : List ℕ) → is_new l ≡ true → point_of l ≡ full (point_by length_digits_law state_digits l)
-new_point l e = its_point l length_digits_law state_digits (as_new l e)
+pub new_point : (l : List ℕ) → is_new l ≡ true → point_of l ≡ full (point_by length_digits state_digits l)
+new_point l e = its_point l length_digits state_digits (as_new l e)
 
 pub new_same : (l : List ℕ) → is_new l ≡ true → renewed l ≡ l
-new_same l e = its_own l length_digits_law state_digits (as_new l e) ∙ widened_none l
+new_same l e = its_own l length_digits state_digits (as_new l e) ∙ widened_none l
 
 -- ---- a form with its digits in it, part by part
 
@@ -131,10 +131,10 @@ more_digits l n e h =
 
 -- ---- a point's line from its line in another form
 
-module _ (w n name : ℕ) (p : Point) (l : List ℕ) (hw : w ≤ length_digits_law) (hn : n ≤ image_length) (long : length p.image ≡ n)
+module _ (w n name : ℕ) (p : Point) (l : List ℕ) (hw : w ≤ length_digits) (hn : n ≤ image_length) (long : length p.image ≡ n)
     (few_a : octas_in p.a < 16 ^ w) (few_b : octas_in p.b < 16 ^ w) (is : line_by w n name p ≡ l) where
   abbrev j : ℕ
-  j = length_digits_law - w
+  j = length_digits - w
 
   abbrev k : ℕ
   k = state_digits - 2 * n
@@ -164,9 +164,9 @@ module _ (w n name : ℕ) (p : Point) (l : List ℕ) (hw : w ≤ length_digits_l
   nt = omega (arith, length-append (hex_of 16 p.base_a) (hex_of 16 p.base_b), length_hex 16 p.base_a, length_hex 16 p.base_b)
 
   ni : length i ≡ 2 * n
-  ni = omega (arith, length_digits p.image)
+  ni = omega (arith, length_digits_law p.image)
 
-  wide : length_digits_law ≡ j + w
+  wide : length_digits ≡ j + w
   wide = omega arith
 
   deep : state_digits ≡ 2 * n + k
@@ -176,18 +176,18 @@ module _ (w n name : ℕ) (p : Point) (l : List ℕ) (hw : w ≤ length_digits_l
   unfolding point_digits
   own_digits = simp append_assoc
 
-  full_digits : point_digits length_digits_law name (full p) ≡ x ++ ((replicate j 0 ++ a) ++ ((replicate j 0 ++ b) ++ (t ++ ((i ++ replicate k 0) ++ v))))
+  full_digits : point_digits length_digits name (full p) ≡ x ++ ((replicate j 0 ++ a) ++ ((replicate j 0 ++ b) ++ (t ++ ((i ++ replicate k 0) ++ v))))
   unfolding point_digits
   full_digits =
-      let e : hex_of length_digits_law (octas_in p.a) ≡ replicate j 0 ++ a = ap (λ (q : ℕ). hex_of q (octas_in p.a)) wide ∙ hex_wide j w (octas_in p.a) few_a in
-      let f : hex_of length_digits_law (octas_in p.b) ≡ replicate j 0 ++ b = ap (λ (q : ℕ). hex_of q (octas_in p.b)) wide ∙ hex_wide j w (octas_in p.b) few_b in
+      let e : hex_of length_digits (octas_in p.a) ≡ replicate j 0 ++ a = ap (λ (q : ℕ). hex_of q (octas_in p.a)) wide ∙ hex_wide j w (octas_in p.a) few_a in
+      let f : hex_of length_digits (octas_in p.b) ≡ replicate j 0 ++ b = ap (λ (q : ℕ). hex_of q (octas_in p.b)) wide ∙ hex_wide j w (octas_in p.b) few_b in
       rw (e, f, more_digits p.image n long hn)
       (ap (λ (r : List ℕ). x ++ ((replicate j 0 ++ a) ++ ((replicate j 0 ++ b) ++ r))) (sym (append_assoc (hex_of 16 p.base_a) (hex_of 16 p.base_b) _)))
 
-  length_more : (u : List ℕ) → length u ≡ w → length (replicate j 0 ++ u) ≡ length_digits_law
+  length_more : (u : List ℕ) → length u ≡ w → length (replicate j 0 ++ u) ≡ length_digits
   length_more u e = omega (arith, length-append (replicate {A = ℕ} j 0) u, length-replicate {A = ℕ} j 0)
 
-  before : (u : List ℕ) → in_form (marks length_digits_law) (replicate j 0 ++ u) ≡ zeros j ++ in_form (marks w) u
+  before : (u : List ℕ) → in_form (marks length_digits) (replicate j 0 ++ u) ≡ zeros j ++ in_form (marks w) u
   before u = ap (λ (q : ℕ). in_form (marks q) (replicate j 0 ++ u)) wide ∙ zeros_before j w u
 
   after : in_form (marks state_digits) (i ++ replicate k 0) ≡ in_form (marks (2 * n)) i ++ zeros k
@@ -199,8 +199,8 @@ module _ (w n name : ℕ) (p : Point) (l : List ℕ) (hw : w ≤ length_digits_l
   becomes : line_of name (full p) ≡ widened w (2 * n) l
   unfolding line_of
   becomes =
-      ap (in_form (point_form length_digits_law state_digits m)) full_digits
-      ∙ in_parts length_digits_law state_digits m x (replicate j 0 ++ a) (replicate j 0 ++ b) t (i ++ replicate k 0) v (length_hex 1 name)
+      ap (in_form (point_form length_digits state_digits m)) full_digits
+      ∙ in_parts length_digits state_digits m x (replicate j 0 ++ a) (replicate j 0 ++ b) t (i ++ replicate k 0) v (length_hex 1 name)
       (length_more a (length_hex w (octas_in p.a))) (length_more b (length_hex w (octas_in p.b))) nt
       (omega (arith, length-append i (replicate {A = ℕ} k 0), length-replicate {A = ℕ} k 0, ni))
       ∙ rw (before a, before b, after)
@@ -228,8 +228,8 @@ read l e =
 older : (l : List ℕ) (w d : ℕ) → is_point l ≡ true → widths_of l ≡ widths w d → Older w d l
 older l w d e f = record { point_is = its_point l w d f; line_is = (read l e).line_is ∙ its_own l w d f }
 
-pub old : (l : List ℕ) → is_old l ≡ true → Older length_digits_law old_state_digits l
-old l e = older l length_digits_law old_state_digits (point_old l e) (old_widths l e)
+pub old : (l : List ℕ) → is_old l ≡ true → Older length_digits old_state_digits l
+old l e = older l length_digits old_state_digits (point_old l e) (old_widths l e)
 
 pub short : (l : List ℕ) → is_short l ≡ true → Older old_length_digits state_digits l
 short l e = older l old_length_digits state_digits (point_short l e) (short_widths l e)

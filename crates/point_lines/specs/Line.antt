@@ -13,15 +13,15 @@ use Rattle.point_lines.specs.declared.line.Widths.{Widths}
 abbrev pub mark : ℕ
 mark = 0x23
 
-unfoldable pub fits_byte_law : ℕ → ℕ → Bool
-fits_byte_law c b = cond (eqb c mark) (ltb (digit_of b) 16) (eqb b c)
+unfoldable pub fits_byte : ℕ → ℕ → Bool
+fits_byte c b = cond (eqb c mark) (ltb (digit_of b) 16) (eqb b c)
 
 -- a line is of a form, byte for byte
 unfoldable pub fits : List ℕ → List ℕ → Bool
 fits [] [] = true
 fits [] (b ∷ l) = false
 fits (c ∷ p) [] = false
-fits (c ∷ p) (b ∷ l) = fits_byte_law c b && fits p l
+fits (c ∷ p) (b ∷ l) = fits_byte c b && fits p l
 
 -- ---- a point's line: w digits for each length, d for the state, 16 for each of m octabytes in both windows
 
@@ -66,8 +66,8 @@ is_form w d k l = leb (octas_a w l) k && (leb (octas_b w l) k && fits (point_for
 
 -- ---- the forms that are read
 
-abbrev pub length_digits_law : ℕ
-length_digits_law = 8
+abbrev pub length_digits : ℕ
+length_digits = 8
 
 abbrev pub old_length_digits : ℕ
 old_length_digits = 4
@@ -87,11 +87,11 @@ old_octas_max = 0x2000
 
 -- the form that is written
 unfoldable pub is_new : List ℕ → Bool
-is_new l = is_form length_digits_law state_digits octas_max l
+is_new l = is_form length_digits state_digits octas_max l
 
 -- with an old image
 unfoldable pub is_old : List ℕ → Bool
-is_old l = is_form length_digits_law old_state_digits octas_max l
+is_old l = is_form length_digits old_state_digits octas_max l
 
 -- with four digits in both lengths, and either image
 unfoldable pub is_short : List ℕ → Bool
@@ -110,8 +110,8 @@ widths w d = record { lengths = w; state = d }
 
 unfoldable pub widths_of : List ℕ → Widths
 widths_of l =
-    cond (is_new l) (widths length_digits_law state_digits)
-    (cond (is_old l) (widths length_digits_law old_state_digits)
+    cond (is_new l) (widths length_digits state_digits)
+    (cond (is_old l) (widths length_digits old_state_digits)
     (cond (is_short l) (widths old_length_digits state_digits)
     (cond (is_short_old l) (widths old_length_digits old_state_digits) (widths 0 0))))
 
@@ -141,15 +141,15 @@ padded i n l = take i l ++ (zeros n ++ drop i l)
 -- a line with w digits for each length and d for the state, in the form that is written
 unfoldable pub widened : ℕ → ℕ → List ℕ → List ℕ
 widened w d l =
-    padded first_at (length_digits_law - w) (padded (second_at w) (length_digits_law - w) (padded (state_end w d) (state_digits - d) l))
+    padded first_at (length_digits - w) (padded (second_at w) (length_digits - w) (padded (state_end w d) (state_digits - d) l))
 
 -- so many more a line has then
 abbrev pub gained : ℕ → ℕ → ℕ
-gained w d = 2 * (length_digits_law - w) + (state_digits - d)
+gained w d = 2 * (length_digits - w) + (state_digits - d)
 
 -- a line of n bytes has its state, and no more digits than the form that is written; and there is room for it in that form
 unfoldable pub widens : ℕ → ℕ → ℕ → ℕ → Bool
-widens room n w d = leb w length_digits_law && (leb d state_digits && (leb (state_end w d) n && leb (n + gained w d) room))
+widens room n w d = leb w length_digits && (leb d state_digits && (leb (state_end w d) n && leb (n + gained w d) room))
 
 -- THE text that is left of the first n bytes held, nothing where they are no such line
 unfoldable pub renewed_in : List ℕ → ℕ → ℕ → ℕ → List ℕ
@@ -161,7 +161,7 @@ renewed l = widened (widths_of l).lengths (widths_of l).state l
 
 -- the longest one: 88 bytes are neither a length's nor the state's nor a window's
 abbrev pub longest_line : ℕ
-longest_line = 88 + 2 * length_digits_law + state_digits + 16 * (octas_max + octas_max)
+longest_line = 88 + 2 * length_digits + state_digits + 16 * (octas_max + octas_max)
 
 -- ---- THEOREM: a line with four digits in one length and eight in the other is no point's
 
@@ -171,5 +171,5 @@ mixed_form v w d m =
     head ++ (marks v ++ (codes " " ++ (marks w ++ (bases ++ (marks d ++ (middle ++ (marks (16 * m) ++ close)))))))
 
 pub record MixedBad : Type 0 where
-  pub short_first : (d m : ℕ) (l : List ℕ) → fits (mixed_form old_length_digits length_digits_law d m) l ≡ true → is_point l ≡ false
-  pub short_second : (d m : ℕ) (l : List ℕ) → fits (mixed_form length_digits_law old_length_digits d m) l ≡ true → is_point l ≡ false
+  pub short_first : (d m : ℕ) (l : List ℕ) → fits (mixed_form old_length_digits length_digits d m) l ≡ true → is_point l ≡ false
+  pub short_second : (d m : ℕ) (l : List ℕ) → fits (mixed_form length_digits old_length_digits d m) l ≡ true → is_point l ≡ false

@@ -3,7 +3,7 @@
 use Rattle.std.specs.Prelude.{ℕ, zero, suc, ◌+◌, ◌*◌, ◌/◌, ◌%◌, ◌<◌, ◌≡◌, true, cond, List, [], ◌∷◌, ◌++◌, eqb, get_or, drop}
 use Rattle.model.specs.Kept.{Point, point_count, full, octas_in, PointFits, OfBytes}
 use Rattle.text.specs.Text.{glyph}
-use Rattle.point_lines.specs.Line.{mark, point_form, digits_at, hex_at, octas_a, octas_b, length_digits_law, old_length_digits, state_digits, old_state_digits, is_new, is_old, is_short, is_short_old, is_point, widths_of, state_at, widened, renewed}
+use Rattle.point_lines.specs.Line.{mark, point_form, digits_at, hex_at, octas_a, octas_b, length_digits, old_length_digits, state_digits, old_state_digits, is_new, is_old, is_short, is_short_old, is_point, widths_of, state_at, widened, renewed}
 
 -- ---- a point's line
 
@@ -30,7 +30,7 @@ point_digits w name p =
 
 -- THE line of a point under a name
 unfoldable pub line_of : ℕ → Point → List ℕ
-line_of name p = in_form (point_form length_digits_law state_digits (octas_in p.a + octas_in p.b)) (point_digits length_digits_law name p)
+line_of name p = in_form (point_form length_digits state_digits (octas_in p.a + octas_in p.b)) (point_digits length_digits name p)
 
 -- ---- a line's point
 
@@ -97,6 +97,6 @@ pub record EachOther : Type 0 where
   -- and of a line in the form that is written it is that line
   pub of_new : (l : List ℕ) → is_new l ≡ true → line_of (name_of l) (point_of l) ≡ l
   -- one of an older form has the point that its own digits are, with an empty mask after an old image, and digits 0 more make it that point's line
-  pub of_old : (l : List ℕ) → is_old l ≡ true → Older length_digits_law old_state_digits l
+  pub of_old : (l : List ℕ) → is_old l ≡ true → Older length_digits old_state_digits l
   pub of_short : (l : List ℕ) → is_short l ≡ true → Older old_length_digits state_digits l
   pub of_short_old : (l : List ℕ) → is_short_old l ≡ true → Older old_length_digits old_state_digits l

@@ -4,7 +4,7 @@ use Rattle.std.specs.Prelude.{ℕ, suc, ◌+◌, ◌≤◌, ◌<◌, ◌≡◌, 
 use Rattle.model.specs.Octa.{written}
 use Rattle.text.specs.Text.{bad_text}
 use Rattle.text.specs.Pieces.{pieces, line_length}
-use Rattle.point_lines.specs.Line.{length_digits_law, state_digits, is_new, is_point, widths_of, state_end, gained, widened, renewed, longest_line}
+use Rattle.point_lines.specs.Line.{length_digits, state_digits, is_new, is_point, widths_of, state_end, gained, widened, renewed, longest_line}
 use Rattle.point_lines.specs.declared.line.Widths.{Widths}
 use Rattle.point_lines.specs.declared.stream.Turn.{Turn}
 use Rattle.point_lines.specs.declared.stream.Turn.TheVariants.{More, Good, Bad}
@@ -71,7 +71,7 @@ Unended h = line_length h ≡ length h
 
 -- a line of n bytes has its state, and no more digits than the form that is written; its state has these but for a mask's; there is room for it anew
 pub record LineFits (w d n room : ℕ) : Type 0 where
-  pub few_lengths : w ≤ length_digits_law
+  pub few_lengths : w ≤ length_digits
   pub few_state : d ≤ state_digits
   pub but_mask : state_digits ≤ d + 16
   pub state_ends : state_end w d ≤ n

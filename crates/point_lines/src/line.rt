@@ -1,6 +1,6 @@
 // A line held against the forms of a point's line, in which '#' stands for a digit and any other byte for itself.
 ghost use Rattle.std.specs.Prelude.{◌≡◌, List, [], ◌∷◌, ◌++◌, ℕ, ◌≤◌, ◌<◌, ◌^◌, replicate};
-ghost use Rattle.point_lines.specs.Line.{mark, fits_byte_law, hex_at, is_form, widths_of};
+ghost use Rattle.point_lines.specs.Line.{mark, fits_byte, hex_at, is_form, widths_of};
 ghost use Rattle.point_lines.specs.Met.{met};
 
 use machine::window::WINDOW_MAX;
@@ -161,7 +161,7 @@ impl Met {
 
 // Whether a byte is what a byte of a form says.
 fn fits_byte(c: u8, b: u8) -> bool
-    ensures { result ≡ fits_byte_law c b }
+    ensures { result ≡ fits_byte c b }
 {
     if c == b'#' {
         return text::read::digit(b) < 16;

@@ -18,10 +18,10 @@ long_none : (p l : List ℕ) → Long p l none
 unfolding Long
 long_none p l vs e = let z : ◌≡◌ {A = ℕ} 0 1 = cc in absurd (omega arith)
 
-length_digits : (l : List ℕ) → length (digits_at l) ≤ length l
+length_digits_law : (l : List ℕ) → length (digits_at l) ≤ length l
 unfolding digits_at
-length_digits [] = omega arith
-length_digits (b ∷ l) = let h = length_digits l in on (λ (ds : List ℕ). length ds ≤ suc (length l)) (ltb (digit_of b) 16) (λ e. omega arith) (λ e. omega arith)
+length_digits_law [] = omega arith
+length_digits_law (b ∷ l) = let h = length_digits_law l in on (λ (ds : List ℕ). length ds ≤ suc (length l)) (ltb (digit_of b) 16) (λ e. omega arith) (λ e. omega arith)
 
 some_digits : (ds : List ℕ) → is_number ds ≡ true → 0 < length ds
 unfolding is_number
@@ -46,7 +46,7 @@ matches_long (c ∷ p) l =
     let byte = matches_long p (drop 1 l) in
     on (Long (c ∷ p) l) (eqb c hex_mark)
     (λ h. on (Long (c ∷ p) l) (is_number (digits_at l))
-    (λ d. long_before c p l (length (digits_at l)) (number_of 0 (digits_at l)) _ (some_digits (digits_at l) d) (length_digits l) number)
+    (λ d. long_before c p l (length (digits_at l)) (number_of 0 (digits_at l)) _ (some_digits (digits_at l) d) (length_digits_law l) number)
     (λ d. long_none (c ∷ p) l))
     (λ h. on (Long (c ∷ p) l) (starts_with c l) (λ d. long_byte c p l _ d byte) (λ d. long_none (c ∷ p) l))
 

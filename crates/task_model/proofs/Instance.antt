@@ -13,7 +13,7 @@ use Rattle.model.proofs.Prelude.{off_run_law, off_run, poppable, ranged, ranged_
 use Rattle.task_model.proofs.Prelude.{needs, State, lent}
 use Rattle.task_model.specs.Tasks.{Own, owns, foreign, refusing_in, turn_judge, turn_plan, task_of, Turn, turn, studies, without32, turn_needs}
 use Rattle.task_model.specs.Schedule.{count_by, refusal_by, any_runs, turn_of, turns_from, rounds, call_by}
-use Rattle.task_model.specs.Call.{part_at, each_below_law, part_ruled, overlaps, part_clear, tasks_ruled, turn_run, call_of}
+use Rattle.task_model.specs.Call.{part_at, each_below, part_ruled, overlaps, part_clear, tasks_ruled, turn_run, call_of}
 use Rattle.task_model.specs.TasksMeant.{tried_turns}
 use Rattle.task_model.specs.Lent.{Once, picked, renamed, TurnsBelow, among_all}
 use Rattle.task_model.specs.CallApart.{turns_tried}
@@ -106,7 +106,7 @@ computed : ((ranged_state (caller 7) ≡ true) × (ranged_state (caller 8) ≡ t
     × ((task_of (called_at (cut [] list) (tasks 7) lent).state 0).pc ≡ (task_of (called_at (cut [] list) (tasks 8) lent).state 0).pc)
     × MetAt (cut [] between) (tasks 7) × (tasks_ruled 48 parts 1 ≡ true) × (turns_tried lent (tasks 7) parts 1 5 ≡ turns_cut (cut [] between))
     × (Met by_fetch × (opcode_in (tetra_of lent (caller 7)) ≡ 0xF2) × (x_at lent (caller 7) ≡ 1))
-unfolding each_below_law part_ruled overlaps part_clear tasks_ruled count_by refusal_by any_runs turn_of turns_from rounds call_by turn_run call_of run_for tried_turns over indexed within tab octa part written value_of bytes_of hideable hides admissible fresh goes halted with_special cleared claim_local stored set_register spilled shape_of ruled_one offset has octa_bytes write_octa shapes_of inside octa_at put_octa both ruled shares map_plan worst named look looks puts perform ups missing needs arm_of tell target_of hole framed slid slide pushed_rule pushed push_frame count_of last_output restored unslide popped pop_to pop_rule no_frame misplaced pop_frame bytes_in unit_at operand_in load_from extended step_on needs_of runs run_needs_by refusal_of unruled_by refusing plan_of guarded from_three step_plan claims tetra_at keeps_claim settled_by taken_back instruction_plan tetra_plan fetched_plan item_plan start owns foreign refusing_in turn_judge turn_plan studies without32 turn_needs own_needs each below ranged_state off_run poppable
+unfolding each_below part_ruled overlaps part_clear tasks_ruled count_by refusal_by any_runs turn_of turns_from rounds call_by turn_run call_of run_for tried_turns over indexed within tab octa part written value_of bytes_of hideable hides admissible fresh goes halted with_special cleared claim_local stored set_register spilled shape_of ruled_one offset has octa_bytes write_octa shapes_of inside octa_at put_octa both ruled shares map_plan worst named look looks puts perform ups missing needs arm_of tell target_of hole framed slid slide pushed_rule pushed push_frame count_of last_output restored unslide popped pop_to pop_rule no_frame misplaced pop_frame bytes_in unit_at operand_in load_from extended step_on needs_of runs run_needs_by refusal_of unruled_by refusing plan_of guarded from_three step_plan claims tetra_at keeps_claim settled_by taken_back instruction_plan tetra_plan fetched_plan item_plan start owns foreign refusing_in turn_judge turn_plan studies without32 turn_needs own_needs each below ranged_state off_run poppable
 computed = (
   (refl, refl, refl, refl, refl),
   (refl, refl, refl, refl, refl, (refl, refl), (refl, refl)),

@@ -4,25 +4,25 @@ use Rattle.model.proofs.Prelude.{◌≡◌, dec_lt, arith, eqb, leb, ltb, length
 use Rattle.model.proofs.Prelude.{and_right, at_each, each, or_left, or_right}
 use Rattle.task_model.proofs.Prelude.{State}
 use Rattle.task_model.specs.Tasks.{Own, owns, Turn, turn}
-use Rattle.task_model.specs.Call.{tasks_in, part_at, each_below_law, part_ruled, overlaps, part_clear, turn_most, tasks_ruled, call_of}
+use Rattle.task_model.specs.Call.{tasks_in, part_at, each_below, part_ruled, overlaps, part_clear, turn_most, tasks_ruled, call_of}
 use Rattle.task_model.specs.TaskDemand.{Disjoint, PartsApart}
 use Rattle.task_model.specs.TasksMeant.{tried_turns, PartsMeant}
 use Rattle.task_model.proofs.Tried.{tried_by}
 
 -- ---- a test at each number below n
 
-each_is : (n : ℕ) (P : ℕ → Bool) → each_below_law n P ≡ each n P
-unfolding each_below_law each
+each_is : (n : ℕ) (P : ℕ → Bool) → each_below n P ≡ each n P
+unfolding each_below each
 each_is zero P = refl
 each_is (suc n) P = rw (each_is n P)
 
-pub at_below : (n : ℕ) (P : ℕ → Bool) → each_below_law n P ≡ true → (k : ℕ) → k < n → P k ≡ true
+pub at_below : (n : ℕ) (P : ℕ → Bool) → each_below n P ≡ true → (k : ℕ) → k < n → P k ≡ true
 at_below n P e = at_each n P (sym (each_is n P) ∙ e)
 
-pub each_below : (n : ℕ) (P : ℕ → Bool) → ((k : ℕ) → k < n → P k ≡ true) → each_below_law n P ≡ true
-unfolding each_below_law
-each_below zero P h = refl
-each_below (suc n) P h = rw (h n (omega arith), each_below n P (λ k l. h k (omega arith)))
+pub each_below_law : (n : ℕ) (P : ℕ → Bool) → ((k : ℕ) → k < n → P k ≡ true) → each_below n P ≡ true
+unfolding each_below
+each_below_law zero P h = refl
+each_below_law (suc n) P h = rw (h n (omega arith), each_below_law n P (λ k l. h k (omega arith)))
 
 -- ---- parts
 
@@ -90,16 +90,16 @@ pub call_ruled : (b : ℕ) (ns : List ℕ) (q : ℕ) → tasks_ruled b ns q ≡ 
 unfolding tasks_ruled
 call_ruled b ns q e =
     let r : ((leb 1 (tasks_in ns) && leb (tasks_in ns) 8) && ((leb 1 q && leb q turn_most)
-    && (each_below_law (tasks_in ns) (λ k. part_ruled b (part_at ns k)) && each_below_law (tasks_in ns) (part_clear ns)))) ≡ true = and_right (eqb (length ns % 2) 0) _ e in
-    let t : ((leb 1 q && leb q turn_most) && (each_below_law (tasks_in ns) (λ k. part_ruled b (part_at ns k)) && each_below_law (tasks_in ns) (part_clear ns))) ≡ true
+    && (each_below (tasks_in ns) (λ k. part_ruled b (part_at ns k)) && each_below (tasks_in ns) (part_clear ns)))) ≡ true = and_right (eqb (length ns % 2) 0) _ e in
+    let t : ((leb 1 q && leb q turn_most) && (each_below (tasks_in ns) (λ k. part_ruled b (part_at ns k)) && each_below (tasks_in ns) (part_clear ns))) ≡ true
     = and_right (leb 1 (tasks_in ns) && leb (tasks_in ns) 8) _ r in
-    let u : (each_below_law (tasks_in ns) (λ k. part_ruled b (part_at ns k)) && each_below_law (tasks_in ns) (part_clear ns)) ≡ true = and_right (leb 1 q && leb q turn_most) _ t in
+    let u : (each_below (tasks_in ns) (λ k. part_ruled b (part_at ns k)) && each_below (tasks_in ns) (part_clear ns)) ≡ true = and_right (leb 1 q && leb q turn_most) _ t in
     record {
       tasks_some = leb-true _ _ (and_left (leb 1 (tasks_in ns)) _ (and_left _ _ r));
       tasks_few = leb-true _ _ (and_right (leb 1 (tasks_in ns)) _ (and_left _ _ r));
       turn_some = leb-true _ _ (and_left (leb 1 q) _ (and_left _ _ t));
       whole_octas = λ k l. ruled_start b (part_at ns k) (at_below (tasks_in ns) (λ k. part_ruled b (part_at ns k)) (and_left _ _ u) k l);
-      clear = at_below (tasks_in ns) (part_clear ns) (and_right (each_below_law (tasks_in ns) (λ k. part_ruled b (part_at ns k))) _ u);
+      clear = at_below (tasks_in ns) (part_clear ns) (and_right (each_below (tasks_in ns) (λ k. part_ruled b (part_at ns k))) _ u);
     }
 
 -- part k overlaps none before it

@@ -12,7 +12,7 @@ use Rattle.task_model.proofs.Schedule.{call_keeps}
 use Rattle.task_model.proofs.Ends.{scheduled}
 use Rattle.task_model.proofs.Counts.{counts_total, none_runs}
 use Rattle.task_model.proofs.Turns.{turn_run_law}
-use Rattle.task_model.proofs.Parts.{at_below, each_below, CallRuled, call_ruled}
+use Rattle.task_model.proofs.Parts.{at_below, each_below_law, CallRuled, call_ruled}
 use Rattle.task_model.proofs.CallOrder.{TasksPass, tasks_by}
 use Rattle.task_model.proofs.Listed.{call_listed}
 
@@ -103,7 +103,7 @@ all_good n ss z e = record {
 
 of_good : (n : ℕ) (ss : List State) → AllGood n ss → all_admissible n ss ≡ true
 unfolding all_admissible
-of_good n ss h = rw (eq-eqb (length ss) n h.count) (each_below n (λ k. admissible (task_of ss k)) (λ k l. adm_of (task_of ss k) (h.good k l).admits))
+of_good n ss h = rw (eq-eqb (length ss) n h.count) (each_below_law n (λ k. admissible (task_of ss k)) (λ k l. adm_of (task_of ss k) (h.good k l).admits))
 
 admitted : (w : Windows) (ss : List State) (ns : List ℕ) (q grant : ℕ) → ((k : ℕ) → Sized (task_of ss k)) → (tasks_of w ss ns q grant).reply ≡ 0
     → all_admissible (tasks_in ns) (tasks_of w ss ns q grant).states ≡ true

@@ -7,7 +7,7 @@ use Rattle.model.proofs.Related.{Related, RelatedRan, RelatedStopped, related_ma
 use Rattle.model.proofs.Unseen.{item_seen}
 use Rattle.task_model.specs.Tasks.{task_of, Turn, turn, turn_judge, turn_plan, studies}
 use Rattle.task_model.specs.Schedule.{Given, count_by, refusal_by}
-use Rattle.task_model.specs.Call.{tasks_in, part_at, each_below_law, all_admissible, call_refusal, turn_run, call_of, tasks_most, tasks_of}
+use Rattle.task_model.specs.Call.{tasks_in, part_at, each_below, all_admissible, call_refusal, turn_run, call_of, tasks_most, tasks_of}
 use Rattle.task_model.specs.TasksMeant.{SameTasks, SameTurns, SameTasked, TasksUnseen}
 use Rattle.task_model.proofs.SameCall.{SameStop, SameDesk, call_same}
 
@@ -59,7 +59,7 @@ desk_same w ss ts ns q grant h =
 admitted_same : (n : ℕ) (ss ts : List State) → SameTasks ss ts → all_admissible n ss ≡ all_admissible n ts
 unfolding all_admissible
 admitted_same n ss ts h =
-    λ i. eqb (h.count_same i) n && each_below_law n (λ k. admissible_same (task_of ss k).mask (task_of ss k) (task_of ts k) (seen_of _ _ (h.seen_same k)) i)
+    λ i. eqb (h.count_same i) n && each_below n (λ k. admissible_same (task_of ss k).mask (task_of ss k) (task_of ts k) (seen_of _ _ (h.seen_same k)) i)
 
 refusal_same : (w : Shapes) (ss ts : List State) (ns : List ℕ) (q grant : ℕ) → SameTasks ss ts → call_refusal w ss ns q grant ≡ call_refusal w ts ns q grant
 unfolding call_refusal

@@ -19,9 +19,9 @@ abbrev pub part_at : List ℕ → ℕ → Own
 part_at ns k = record { start = get_or ns (2 * k) 0; size = get_or ns (2 * k + 1) 0 }
 
 -- P holds of each number below n
-unfoldable pub each_below_law : ℕ → (ℕ → Bool) → Bool
-each_below_law zero P = true
-each_below_law (suc n) P = P n && each_below_law n P
+unfoldable pub each_below : ℕ → (ℕ → Bool) → Bool
+each_below zero P = true
+each_below (suc n) P = P n && each_below n P
 
 -- it does not "split an octabyte" nor "leave the window", of b bytes; start + length is a whole number
 unfoldable pub part_ruled : ℕ → Own → Bool
@@ -33,7 +33,7 @@ overlaps p r = (ltb 0 r.size && owns p r.start) || (ltb 0 p.size && owns r p.sta
 
 -- part k overlaps none before it
 unfoldable pub part_clear : List ℕ → ℕ → Bool
-part_clear ns k = each_below_law k (λ j. not (overlaps (part_at ns j) (part_at ns k)))
+part_clear ns k = each_below k (λ j. not (overlaps (part_at ns j) (part_at ns k)))
 
 -- the largest q
 abbrev pub turn_most : ℕ
@@ -43,13 +43,13 @@ turn_most = 1000
 unfoldable pub tasks_ruled : ℕ → List ℕ → ℕ → Bool
 tasks_ruled b ns q =
     eqb (length ns % 2) 0 && ((leb 1 (tasks_in ns) && leb (tasks_in ns) 8) && ((leb 1 q && leb q turn_most)
-    && (each_below_law (tasks_in ns) (λ k. part_ruled b (part_at ns k)) && each_below_law (tasks_in ns) (part_clear ns))))
+    && (each_below (tasks_in ns) (λ k. part_ruled b (part_at ns k)) && each_below (tasks_in ns) (part_clear ns))))
 
 -- ---- the call
 
 -- "1, for any task's state"; and where there are not as many states as tasks
 unfoldable pub all_admissible : ℕ → List State → Bool
-all_admissible n ss = eqb (length ss) n && each_below_law n (λ k. admissible (task_of ss k))
+all_admissible n ss = eqb (length ss) n && each_below n (λ k. admissible (task_of ss k))
 
 -- Order of the call: 2, 22, 25, 33, then 1 for any task's state; 0 where it is not refused whole
 unfoldable pub call_refusal : Shapes → List State → List ℕ → ℕ → ℕ → ℕ

@@ -5,12 +5,12 @@ use Rattle.model.proofs.Prelude.{Windows, Passes, lent, admissible, Sized, grant
 use Rattle.model.proofs.Prelude.{inside_judged, run_open, written_lent}
 use Rattle.task_run.proofs.Prelude.{State, refusal_on, judged_by, RunNumbered, passed, part_ruled, any_foreign, foreign, mmix_in, Own}
 use Rattle.model.specs.declared.Bases.{Bases}
-use Rattle.task_run.specs.RunIn.{lost, run_in_law, viewed}
+use Rattle.task_run.specs.RunIn.{lost, run_in, viewed}
 use Rattle.task_run.specs.Ask.{is_foreign, asks, OwnOnly, told}
 use Rattle.task_run.specs.declared.ask.Whole.{Whole}
 use Rattle.task_run.proofs.PartShapes.{Part, part_ruled_law, part_shapes, part_unruled, passes_own}
 use Rattle.task_run.proofs.View.{back, view_shapes, back_view}
-use Rattle.task_run.proofs.ViewRun.{seen, run_in}
+use Rattle.task_run.proofs.ViewRun.{seen, run_in_law}
 use Rattle.task_run.proofs.TurnRun.{run_shapes}
 
 -- ---- what refuses a turn whole
@@ -19,8 +19,8 @@ refused : (w : Windows) (s : State) (n m : ℕ) → n ≡ m → RunNumbered (ref
 refused w s n m e = record { reply_is = e; count_is = refl; state_is = refl; window_is = refl }
 
 module _ (p : Own) (w : Windows) (s : State) (grant : ℕ) where
-  pub turn_unopened : (n : ℕ) → n ≡ refusal_on w s → (n ≡ 0 → ⊥) → RunNumbered (run_in_law w s p grant) n 0 s w
-  unfolding refusal_on run_in_law
+  pub turn_unopened : (n : ℕ) → n ≡ refusal_on w s → (n ≡ 0 → ⊥) → RunNumbered (run_in w s p grant) n 0 s w
+  unfolding refusal_on run_in
   turn_unopened n e f = go (admissible s) e
     where
       go : (b : Bool) → n ≡ cond b (unruled_by (shapes_of w)) 1 → RunNumbered (cond b (cond (eqb (unruled_by (shapes_of w)) 0)
@@ -34,17 +34,17 @@ module _ (p : Own) (w : Windows) (s : State) (grant : ℕ) where
     good : (admissible s ≡ true) × (unruled_by (shapes_of w) ≡ 0)
     good = judged_by w s e
 
-    pub turn_large : grant_most < grant → RunNumbered (run_in_law w s p grant) 25 0 s w
-    unfolding run_in_law
+    pub turn_large : grant_most < grant → RunNumbered (run_in w s p grant) 25 0 s w
+    unfolding run_in
     turn_large l = rw (good.0, good.1, lt-ltb grant_most grant l) (refused w s 25 25 refl)
 
     module _ (l : grant ≤ grant_most) where
-      pub turn_partless : part_ruled (length w.b.bytes) p ≡ false → RunNumbered (run_in_law w s p grant) 33 0 s w
-      unfolding run_in_law shapes_of shape_of
+      pub turn_partless : part_ruled (length w.b.bytes) p ≡ false → RunNumbered (run_in w s p grant) 33 0 s w
+      unfolding run_in shapes_of shape_of
       turn_partless f = rw (good.0, good.1, le-ltb grant_most grant l, f) (refused w s 33 33 refl)
 
-      turn_open : part_ruled (length w.b.bytes) p ≡ true → run_in_law w s p grant ≡ run_for both (mmix_in p) fetched grant s w
-      unfolding run_in_law shapes_of shape_of
+      turn_open : part_ruled (length w.b.bytes) p ≡ true → run_in w s p grant ≡ run_for both (mmix_in p) fetched grant s w
+      unfolding run_in shapes_of shape_of
       turn_open f = rw (good.0, good.1, le-ltb grant_most grant l, f)
 
 -- ---- the whole, and the part beside A
@@ -77,13 +77,13 @@ module _ (p : Own) (w : Windows) (f : part_ruled (length w.b.bytes) p ≡ true) 
         sym (foreign_whole p w x) ∙ passes_own p (shapes_of w) u part x (inside_judged (part_shapes p (shapes_of w)) x (ap (λ (g : Shapes). inside g x) (sym fits) ∙ i));
   }
 
-  pub turn_whole : (s : State) (grant : ℕ) → Sized s → refusal_on w s ≡ 0 → grant ≤ grant_most → run_in_law w s p grant ≡ seen p w (run_of (viewed p w) s grant)
+  pub turn_whole : (s : State) (grant : ℕ) → Sized s → refusal_on w s ≡ 0 → grant ≤ grant_most → run_in w s p grant ≡ seen p w (run_of (viewed p w) s grant)
   turn_whole s grant z e l =
       let a : admissible s ≡ true = (judged_by w s e).0 in
       let r : Passes (viewed p w) s = passed (viewed p w) s a view_fine in
       turn_open p w s grant e l f
       ∙ ap (run_for both (mmix_in p) fetched grant s) (sym (back_view p w (part_ruled_law (length w.b.bytes) p f)))
-      ∙ run_in p w u part grant s (viewed p w) fits (record { sized = z; passes = r })
+      ∙ run_in_law p w u part grant s (viewed p w) fits (record { sized = z; passes = r })
       ∙ ap (seen p w) (sym (run_open (viewed p w) s grant (record { passes = r; granted = l })))
 
 -- ---- the part lent as a slice: n bytes from the start on, at a base q
@@ -129,7 +129,7 @@ module _ (at : Bases) (a b : List ℕ) (p : Own) (s : State) (e : refusal_on (le
     unfolding back
     put_back = λ i. record { a = record { base = at.a; bytes = k }; b = record { base = at.b; bytes = written_lent b m p.start n long within i } }
 
-    pub turn_done : RunNumbered (run_in_law (lent at a b) s p grant) r d t (lent at k (take p.start b ++ (m ++ drop n (drop p.start b))))
+    pub turn_done : RunNumbered (run_in (lent at a b) s p grant) r d t (lent at k (take p.start b ++ (m ++ drop n (drop p.start b))))
     unfolding told
     turn_done = rw (turn_whole p (lent at a b) f fine s grant z e l) (record {
       reply_is = viewed_told.reply_is

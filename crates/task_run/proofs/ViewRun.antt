@@ -164,9 +164,9 @@ module _ (p : Own) (w : Windows) (u : unruled_by (shapes_of w) ≡ 0) (k : Part 
 
   -- ---- a run
 
-  pub run_in : (g : ℕ) (s : State) (v : Windows) → Fits v → Ready v s → run_for both (mmix_in p) fetched g s (back p w v) ≡ seen p w (run_for both mmix fetched g s v)
-  run_in zero s v e r = run_none both (mmix_in p) fetched s (back p w v) ∙ ap (seen p w) (sym (run_none both mmix fetched s v))
-  run_in (suc g) s v e r = go (ℕ_discrete (fetched_of v s).reply 0) (run_in g (fetched_of v s).state (fetched_of v s).memory (fetched_shapes v s ∙ e) (fetched_ready v s r))
+  pub run_in_law : (g : ℕ) (s : State) (v : Windows) → Fits v → Ready v s → run_for both (mmix_in p) fetched g s (back p w v) ≡ seen p w (run_for both mmix fetched g s v)
+  run_in_law zero s v e r = run_none both (mmix_in p) fetched s (back p w v) ∙ ap (seen p w) (sym (run_none both mmix fetched s v))
+  run_in_law (suc g) s v e r = go (ℕ_discrete (fetched_of v s).reply 0) (run_in_law g (fetched_of v s).state (fetched_of v s).memory (fetched_shapes v s ∙ e) (fetched_ready v s r))
     where
       go : Dec ((fetched_of v s).reply ≡ 0)
           → run_for both (mmix_in p) fetched g (fetched_of v s).state (back p w (fetched_of v s).memory) ≡ seen p w (run_for both mmix fetched g (fetched_of v s).state (fetched_of v s).memory)

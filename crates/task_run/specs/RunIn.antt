@@ -9,8 +9,8 @@ use Rattle.task_model.specs.Tasks.{Own, mmix_in}
 use Rattle.task_model.specs.Call.{part_ruled}
 
 -- 1, 2, 22 and 25 as a run judges them, then 33 where the part is none of B's; then instruction by instruction
-unfoldable pub run_in_law : Windows → State → Own → ℕ → Stopped State Windows
-run_in_law w s p grant =
+unfoldable pub run_in : Windows → State → Own → ℕ → Stopped State Windows
+run_in w s p grant =
     cond (admissible s)
     (cond (eqb (unruled_by (shapes_of w)) 0)
     (cond (ltb grant_most grant) (refused_whole 25 w s)

@@ -10,7 +10,7 @@ ghost use Rattle.model.specs.Run.{run_of};
 ghost use Rattle.model.specs.Parts.{made, lent};
 ghost use Rattle.task_model.specs.Call.{part_ruled};
 ghost use Rattle.instruction.specs.StepAnswer.{RunNumbered};
-ghost use Rattle.task_run.specs.RunIn.{lost, run_in_law};
+ghost use Rattle.task_run.specs.RunIn.{lost, run_in};
 ghost use Rattle.task_run.specs.Ask.{OwnOnly, told};
 
 use ask::Whole;
@@ -54,7 +54,7 @@ pub fn run(
     done: &mut u64,
 ) -> u64
     ensures { RunNumbered
-        (run_in_law (lent at a.old b.old)
+        (run_in (lent at a.old b.old)
         (made general.old special.old pc.old halt.old marks mask) (record { start = start; size = len }) grant)
         result done.new
         (made general.new special.new pc.new halt.new marks mask) (lent at a.new b.new) }

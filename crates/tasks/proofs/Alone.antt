@@ -1,7 +1,7 @@
 -- What every instruction keeps, a task's run keeps: its instructions are as on all of B, or 32 leaves everything. And a run that nothing refuses whole.
 use Rattle.model.proofs.Prelude.{ℕ, ◌≤◌, true, ⊎_elim, ap, subst, sym, ◌∙◌, ◌≡◌, le-ltb, Bytes, Fits, step_on, both, Shapes, shapes_of, Windows, Outcome}
 use Rattle.model.proofs.Prelude.{admissible, Sized, Words, grant_most, run_for, Stopped, fetched, mmix, unruled_by, items_keep, run_by, fetched_on, fetched_shapes}
-use Rattle.tasks.proofs.Prelude.{State, part_ruled, mmix_in, Own, run_in_law}
+use Rattle.tasks.proofs.Prelude.{State, part_ruled, mmix_in, Own, run_in}
 use Rattle.task_model.proofs.Foreign.{foreign_meant}
 
 -- ---- what a task's run keeps
@@ -41,6 +41,6 @@ module _ (m : ℕ) (h : Shapes) where
 
 -- where nothing refuses it whole
 pub run_in_open : (w : Windows) (s : State) (p : Own) (g : ℕ) → admissible s ≡ true → unruled_by (shapes_of w) ≡ 0 → g ≤ grant_most → part_ruled (shapes_of w).b.size p ≡ true
-    → run_in_law w s p g ≡ run_for both (mmix_in p) fetched g s w
-unfolding run_in_law
+    → run_in w s p g ≡ run_for both (mmix_in p) fetched g s w
+unfolding run_in
 run_in_open w s p g a u l r = rw (a, u, le-ltb grant_most g l, r)

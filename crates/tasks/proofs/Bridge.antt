@@ -2,7 +2,7 @@
 use Rattle.model.proofs.Prelude.{ℕ, ◌*◌, ◌+◌, ◌<◌, ◌≤◌, true, List, inl, inr, ◌⊎◌, ap, refl, subst, sym, ◌∙◌, ◌≡◌, dec_lt, ℕ_discrete, arith, length, length-set}
 use Rattle.model.proofs.Prelude.{set, ext_get_or, get_or-set_other, get_or-set_same, Bytes, both, Shapes, shapes_of, Windows, part, written, admissible, fresh, Words}
 use Rattle.model.proofs.Prelude.{run_for, Stopped, fetched, unruled_by, length_written, part_written, map_stopped, length_part, part_apart}
-use Rattle.tasks.proofs.Prelude.{State, part_at, part_ruled, turn_most, turn_run, call_by, mmix_in, task_of, call_same, SameDesk, SameStop, run_in_law, image_as}
+use Rattle.tasks.proofs.Prelude.{State, part_at, part_ruled, turn_most, turn_run, call_by, mmix_in, task_of, call_same, SameDesk, SameStop, run_in, image_as}
 use Rattle.tasks.proofs.Prelude.{is_image, state_of, stored_in, as_same, keeps_length, round_trips}
 use Rattle.task_model.proofs.Turns.{turn_run_law}
 use Rattle.tasks.specs.Images.{image_in, states_from}
@@ -116,7 +116,7 @@ module _ (e n : ℕ) (h : Shapes) where
           runs = turn_run_law ns k g ss w (omega (arith, ap length r.states_are, length_states e l 0 n))
               ∙ ap (λ (t : State). map_stopped (set ss k) (run_for both (mmix_in (part_at ns k)) fetched g t w)) found
 
-          opened : run_in_law w s (part_at ns k) g ≡ o
+          opened : run_in w s (part_at ns k) g ≡ o
           opened = run_in_open w s (part_at ns k) g (r.wholes k b).admitted (ap unruled_by r.shapes_are ∙ fine) (omega arith)
               (ap (λ (x : Shapes). part_ruled x.b.size (part_at ns k)) r.shapes_are ∙ ruled k b)
 

@@ -4,7 +4,7 @@ use Rattle.model.proofs.Prelude.{eqb, ltb, get_or, length, length-set, get_or_eq
 use Rattle.model.proofs.Prelude.{le-ltb, lt-ltb, ne_eqb, tab, both, shapes_of, Windows, written, admissible, grant_most, Stopped, fetched, unruled_by, and_right}
 use Rattle.model.proofs.Prelude.{on, lt_or_le, run_most, get_d_tab, length_tab}
 use Rattle.tasks.proofs.Prelude.{State, part_at, part_ruled, tasks_in, tasks_most, count_by, Desk, gave, Given, refusal_by, running, turn_of, mmix_in, Own}
-use Rattle.tasks.proofs.Prelude.{run_in_law, state_of, stored_in}
+use Rattle.tasks.proofs.Prelude.{run_in, state_of, stored_in}
 use Rattle.tasks.specs.Images.{images_fit, image_in}
 use Rattle.tasks.specs.Desks.{image_turn, images_turn, Turned, At, Ready, Played}
 use Rattle.instruction.specs.StepAnswer.{RunNumbered}
@@ -12,11 +12,11 @@ use Rattle.tasks.proofs.ImageParts.{lent_at, lent_is, back_at, back_is}
 
 -- ---- on an image
 
-pub turned : (l : List ℕ) (w : Windows) (p : Own) (g : ℕ) (s : State) → s ≡ state_of l → (r i : ℕ) (t : State) (v : Windows) → RunNumbered (run_in_law w s p g) r i t v
+pub turned : (l : List ℕ) (w : Windows) (p : Own) (g : ℕ) (s : State) → s ≡ state_of l → (r i : ℕ) (t : State) (v : Windows) → RunNumbered (run_in w s p g) r i t v
     → (m : List ℕ) → m ≡ stored_in l t → Turned (image_turn w l p g) r i m v
 unfolding image_turn
 turned l w p g s e r i t v h m k =
-    let d : run_in_law w s p g ≡ run_in_law w (state_of l) p g = ap (λ (a : State). run_in_law w a p g) e in
+    let d : run_in w s p g ≡ run_in w (state_of l) p g = ap (λ (a : State). run_in w a p g) e in
     record {
       reply_is = h.reply_is ∙ ap (λ (o : Stopped State Windows). o.reply) d;
       count_is = h.count_is ∙ ap (λ (o : Stopped State Windows). o.done) d;
@@ -25,8 +25,8 @@ turned l w p g s e r i t v h m k =
     }
 
 -- no more is done than is granted
-pub run_in_most : (w : Windows) (s : State) (p : Own) (g : ℕ) → (run_in_law w s p g).done ≤ g
-unfolding run_in_law
+pub run_in_most : (w : Windows) (s : State) (p : Own) (g : ℕ) → (run_in w s p g).done ≤ g
+unfolding run_in
 run_in_most w s p g =
     on Most (admissible s)
     (λ a. on Most (eqb (unruled_by (shapes_of w)) 0)
@@ -55,7 +55,7 @@ module _ (e : ℕ) (ns : List ℕ) (k g : ℕ) (l : List ℕ) (w : Windows) (h :
 
 pub turned_most : (w : Windows) (l : List ℕ) (p : Own) (g r i : ℕ) (m : List ℕ) (v : Windows) → Turned (image_turn w l p g) r i m v → i ≤ g
 unfolding image_turn
-turned_most w l p g r i m v t = let h : (run_in_law w (state_of l) p g).done ≤ g = run_in_most w (state_of l) p g in omega (arith, t.count_is)
+turned_most w l p g r i m v t = let h : (run_in w (state_of l) p g).done ≤ g = run_in_most w (state_of l) p g in omega (arith, t.count_is)
 
 -- ---- counts and refusals
 

@@ -57,8 +57,8 @@ zeros_at (suc n) zero = refl
 zeros_at (suc n) (suc k) = zeros_at n k
 
 -- a part of bytes is bytes
-part_bytes : (l : List ℕ) (o n : ℕ) → ((i : ℕ) → get_or l i 0 < 256) → (i : ℕ) → get_or (part l o n) i 0 < 256
-part_bytes l o n b i = at (lt_or_le i n)
+part_bytes_law : (l : List ℕ) (o n : ℕ) → ((i : ℕ) → get_or l i 0 < 256) → (i : ℕ) → get_or (part l o n) i 0 < 256
+part_bytes_law l o n b i = at (lt_or_le i n)
   where
     at : (i < n) ⊎ (n ≤ i) → get_or (part l o n) i 0 < 256
     at (inl c) = rw (get_d_part l o n i c) (b (o + i))
@@ -116,8 +116,8 @@ module _ (l : List ℕ) (w : Windows) (ns : List ℕ) (q grant : ℕ) where
         states_are = states_fit tasks l fit;
         wholes = λ k b. record {
           admitted = admitted_at tasks l fit pass.admitted k b;
-          words = round_trips.state_words (image_in each l k) (part_bytes l (k * each) each image_bytes);
-          back = keeps_length.as_state (image_in each l k) (image_in_law tasks l l k) (part_bytes l (k * each) each image_bytes);
+          words = round_trips.state_words (image_in each l k) (part_bytes_law l (k * each) each image_bytes);
+          back = keeps_length.as_state (image_in each l k) (image_in_law tasks l l k) (part_bytes_law l (k * each) each image_bytes);
         };
         shapes_are = refl;
         bytes = window_bytes;

@@ -2,7 +2,7 @@
 use Rattle.model.proofs.Prelude.{suc, zero, ℕ, ◌*◌, ◌+◌, ◌-◌, ◌<◌, ◌≤◌, Bool, cond, false, not, true, ◌&&◌, ◌||◌, List, [], ◌++◌, inl, inr, ◌⊎◌, ⊎_elim, ap}
 use Rattle.model.proofs.Prelude.{refl, sym, ◌∙◌, ◌≡◌, mul-le-mul, mul-le-mul_right, arith, eqb, drop, length, take, eq-eqb, eqb-true, ne_eqb, image_length}
 use Rattle.model.proofs.Prelude.{old_image_length, written, admissible, and_left, denied, granted, on, length_written, length_part, part_lent, written_lent}
-use Rattle.tasks.proofs.Prelude.{all_admissible, each_below_law, task_of, at_below, is_image, state_of, is_new', is_old'}
+use Rattle.tasks.proofs.Prelude.{all_admissible, each_below, task_of, at_below, is_image, state_of, is_new', is_old'}
 use Rattle.tasks.specs.Images.{images_fit, each_length, image_in, states_from, states_in}
 use Rattle.tasks.proofs.Judged.{below_more, below_fails, below_all}
 
@@ -136,10 +136,10 @@ module _ (e : ℕ) (l : List ℕ) where
 
 -- the states of the first k images are admissible
 abbrev pub admitted_so : ℕ → List ℕ → ℕ → Bool
-admitted_so e l k = each_below_law k (λ j. admissible (state_of (image_in e l j)))
+admitted_so e l k = each_below k (λ j. admissible (state_of (image_in e l j)))
 
-below_same : (n : ℕ) (P Q : ℕ → Bool) → ((k : ℕ) → k < n → P k ≡ Q k) → each_below_law n P ≡ each_below_law n Q
-unfolding each_below_law
+below_same : (n : ℕ) (P Q : ℕ → Bool) → ((k : ℕ) → k < n → P k ≡ Q k) → each_below n P ≡ each_below n Q
+unfolding each_below
 below_same zero P Q h = refl
 below_same (suc n) P Q h = rw (h n (omega arith), below_same n P Q (λ k m. h k (omega arith)))
 
@@ -180,7 +180,7 @@ module _ (n : ℕ) (l : List ℕ) where
   fit_from a = go (images_fit n l)
     where
       go : (b : Bool) → (eqb (length (cond b (states_from (each_length n l) l 0 n) [])) n
-          && each_below_law n (λ k. admissible (task_of (cond b (states_from (each_length n l) l 0 n) []) k))) ≡ true → b ≡ true
+          && each_below n (λ k. admissible (task_of (cond b (states_from (each_length n l) l 0 n) []) k))) ≡ true → b ≡ true
       go true e = refl
       go false e = absurd (let z : 0 ≡ n = eqb-true 0 n (and_left (eqb 0 n) _ e) in omega arith)
 

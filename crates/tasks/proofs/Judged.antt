@@ -2,7 +2,7 @@
 use Rattle.model.proofs.Prelude.{suc, zero, ℕ, ◌%◌, ◌+◌, ◌<◌, ◌≤◌, Bool, false, not, true, ◌&&◌, List, ap, refl, sym, ◌∙◌, ◌≡◌, ℕ_discrete, add-one, arith, eqb}
 use Rattle.model.proofs.Prelude.{leb, ltb, length, eq-eqb, le-leb, le-ltb, leb-true, lt-leb, lt-ltb, ne_eqb, Shapes, grant_most, unruled_by, and_left, and_right}
 use Rattle.model.proofs.Prelude.{denied, granted}
-use Rattle.tasks.proofs.Prelude.{State, all_admissible, call_refusal, each_below_law, overlaps, part_at, part_clear, part_ruled, tasks_in, tasks_ruled, turn_most}
+use Rattle.tasks.proofs.Prelude.{State, all_admissible, call_refusal, each_below, overlaps, part_at, part_clear, part_ruled, tasks_in, tasks_ruled, turn_most}
 use Rattle.tasks.proofs.Prelude.{Own, owns, at_below}
 
 pub and_false : (t : Bool) → (t && false) ≡ false
@@ -11,25 +11,25 @@ and_false false = refl
 
 -- ---- a test at each number below n
 
-pub below_none : (P : ℕ → Bool) → each_below_law 0 P ≡ true
-unfolding each_below_law
+pub below_none : (P : ℕ → Bool) → each_below 0 P ≡ true
+unfolding each_below
 below_none P = refl
 
-pub below_more : (k : ℕ) (P : ℕ → Bool) → each_below_law k P ≡ true → P k ≡ true → each_below_law (k + 1) P ≡ true
-unfolding each_below_law
+pub below_more : (k : ℕ) (P : ℕ → Bool) → each_below k P ≡ true → P k ≡ true → each_below (k + 1) P ≡ true
+unfolding each_below
 below_more k P e f = rw (add-one k, f, e)
 
-pub below_fails : (n : ℕ) (P : ℕ → Bool) (k : ℕ) → k < n → P k ≡ false → each_below_law n P ≡ false
-unfolding each_below_law
+pub below_fails : (n : ℕ) (P : ℕ → Bool) (k : ℕ) → k < n → P k ≡ false → each_below n P ≡ false
+unfolding each_below
 below_fails zero P k l e = absurd (omega arith)
 below_fails (suc n) P k l e = go (ℕ_discrete k n) (below_fails n P k)
   where
-    go : Dec (k ≡ n) → (k < n → P k ≡ false → each_below_law n P ≡ false) → (P n && each_below_law n P) ≡ false
+    go : Dec (k ≡ n) → (k < n → P k ≡ false → each_below n P ≡ false) → (P n && each_below n P) ≡ false
     go (yes q) f = rw (← q, e)
     go (no q) f = rw (f (omega (arith, q)) e, and_false)
 
-pub below_all : (n k : ℕ) (P : ℕ → Bool) → k ≡ n → each_below_law k P ≡ true → true ≡ each_below_law n P
-below_all n k P q e = sym (ap (λ (i : ℕ). each_below_law i P) (sym q) ∙ e)
+pub below_all : (n k : ℕ) (P : ℕ → Bool) → k ≡ n → each_below k P ≡ true → true ≡ each_below n P
+below_all n k P q e = sym (ap (λ (i : ℕ). each_below i P) (sym q) ∙ e)
 
 -- ---- parts
 
@@ -52,7 +52,7 @@ overlaps_else p r e = rw e
 
 -- part k overlaps none of the first j
 abbrev pub clear_so : List ℕ → ℕ → ℕ → Bool
-clear_so ns k j = each_below_law j (λ i. not (overlaps (part_at ns i) (part_at ns k)))
+clear_so ns k j = each_below j (λ i. not (overlaps (part_at ns i) (part_at ns k)))
 
 -- part k against one before it, as code holds them
 module _ (ns : List ℕ) (k j : ℕ) (p r : Own) (e : p ≡ part_at ns j) (f : r ≡ part_at ns k) (t : Bool) (h : t ≡ overlaps p r) where
@@ -72,7 +72,7 @@ clear_all ns k j e c = below_all k j (λ i. not (overlaps (part_at ns i) (part_a
 
 -- the first k parts obey their rule
 abbrev pub ruled_so : ℕ → List ℕ → ℕ → Bool
-ruled_so b ns k = each_below_law k (λ j. part_ruled b (part_at ns j))
+ruled_so b ns k = each_below k (λ j. part_ruled b (part_at ns j))
 
 -- part k by its rule, as code holds it and tests it by `!t`
 module _ (b : ℕ) (ns : List ℕ) (k : ℕ) (p : Own) (e : p ≡ part_at ns k) (t : Bool) (h : t ≡ part_ruled b p) where
@@ -113,7 +113,7 @@ module _ (b : ℕ) (ns : List ℕ) (q : ℕ) where
   rule_part e = simp (e, and_false)
 
   pub rule_clear : length ns % 2 ≡ 0 → 1 ≤ tasks_in ns → tasks_in ns ≤ 8 → 1 ≤ q → q ≤ turn_most → ruled_so b ns (tasks_in ns) ≡ true
-      → each_below_law (tasks_in ns) (part_clear ns) ≡ tasks_ruled b ns q
+      → each_below (tasks_in ns) (part_clear ns) ≡ tasks_ruled b ns q
   unfolding tasks_ruled
   rule_clear a d e f g h = rw (eq-eqb (length ns % 2) 0 a, le-leb 1 (tasks_in ns) d, le-leb (tasks_in ns) 8 e, le-leb 1 q f, le-leb q turn_most g, h)
 

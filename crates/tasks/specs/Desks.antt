@@ -8,16 +8,16 @@ use Rattle.image.specs.Image.{state_of, stored_in}
 use Rattle.task_model.specs.Tasks.{Own}
 use Rattle.task_model.specs.Schedule.{count_by, refusal_by, Desk}
 use Rattle.task_model.specs.Call.{tasks_in, part_at, tasks_most}
-use Rattle.task_run.specs.RunIn.{run_in_law}
+use Rattle.task_run.specs.RunIn.{run_in}
 use Rattle.tasks.specs.Images.{images_fit, each_length, image_in}
 
 -- the turn of a task on its image
 unfoldable pub image_turn : Windows → List ℕ → Own → ℕ → Stopped (List ℕ) Windows
 image_turn w l p g = record {
-  done = (run_in_law w (state_of l) p g).done;
-  reply = (run_in_law w (state_of l) p g).reply;
-  state = stored_in l (run_in_law w (state_of l) p g).state;
-  memory = (run_in_law w (state_of l) p g).memory;
+  done = (run_in w (state_of l) p g).done;
+  reply = (run_in w (state_of l) p g).reply;
+  state = stored_in l (run_in w (state_of l) p g).state;
+  memory = (run_in w (state_of l) p g).memory;
 }
 
 -- of task k on all images, of e bytes each

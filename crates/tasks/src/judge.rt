@@ -3,7 +3,7 @@ ghost use Rattle.std.specs.Prelude.{◌≡◌, ◌&&◌, List, ℕ, ◌+◌, ◌
 ghost use Rattle.model.specs.Memory.{shapes_of};
 ghost use Rattle.model.specs.Parts.{lent};
 ghost use Rattle.task_model.specs.Tasks.{owns};
-ghost use Rattle.task_model.specs.Call.{tasks_in, part_at, each_below_law, part_ruled, overlaps, part_clear, tasks_ruled, all_admissible, call_refusal};
+ghost use Rattle.task_model.specs.Call.{tasks_in, part_at, each_below, part_ruled, overlaps, part_clear, tasks_ruled, all_admissible, call_refusal};
 ghost use Rattle.tasks.specs.Images.{each_length, states_in};
 
 use model::{Bases, GRANT_MOST, IMAGE_LEN, OLD_IMAGE_LEN, replies};
@@ -84,7 +84,7 @@ fn is_clear(parts: &[u64], k: usize) -> bool
 /// Whether no two of the first n parts overlap.
 fn are_clear(parts: &[u64], n: usize) -> bool
     requires { 2 * n ≤ length parts.now }
-    ensures { result ≡ each_below_law n (part_clear parts.now) }
+    ensures { result ≡ each_below n (part_clear parts.now) }
 {
     let mut k: usize = 0;
     while k < n {
@@ -99,7 +99,7 @@ fn are_clear(parts: &[u64], n: usize) -> bool
 /// Whether each of the first n parts lies in a window of `b_len` bytes and splits no octabyte.
 fn are_ruled(parts: &[u64], n: usize, b_len: u64) -> bool
     requires { 2 * n ≤ length parts.now }
-    ensures { result ≡ each_below_law n (λ k. part_ruled b_len (part_at parts.now k)) }
+    ensures { result ≡ each_below n (λ k. part_ruled b_len (part_at parts.now k)) }
 {
     let mut k: usize = 0;
     while k < n {

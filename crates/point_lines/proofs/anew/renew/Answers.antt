@@ -1,13 +1,13 @@
 -- `renew` meets its contract: digits 0 put in at three places, from the last on, for which there is room.
 use Rattle.model.proofs.Prelude.{◌+◌, ◌≤◌, ℕ, Bool, true, refl, sym, ◌∙◌, ◌≡◌, arith}
-use Rattle.point_lines.specs.Line.{length_digits_law, state_digits, state_end, gained, widens}
+use Rattle.point_lines.specs.Line.{length_digits, state_digits, state_end, gained, widens}
 use Rattle.point_lines.proofs.Moved.{three_behind}
 use Rattle.point_lines.proofs.Padded.{widens_facts, renewed_none, renewed_by}
 use Rattle.std.proofs.Common.{rules}
 use Rattle.point_lines.proofs.anew.renew.Goals as goal
 
 facts : (room shown w d : ℕ) (t : Bool) → t ≡ widens room shown w d → t ≡ true →
-    (w ≤ length_digits_law) × (d ≤ state_digits) × (state_end w d ≤ shown) × (shown + gained w d ≤ room)
+    (w ≤ length_digits) × (d ≤ state_digits) × (state_end w d ≤ shown) × (shown + gained w d ≤ room)
 facts room shown w d t e f = widens_facts room shown w d (sym e ∙ f)
 
 pub overflow_sub-lengths : goal.overflow_sub-lengths
