@@ -22,7 +22,8 @@ export MMIX_LIB_DIR := $(abspath $(LIB_DIR))
 RATTLE = crates.txt $(shell find crates -path '*/out' -prune -o \( -name '*.rt' -o -name '*.antt' \) -print)
 WARNINGS = -Wall -Wextra -Wpedantic -Werror
 # Of what rt prints: which crate it has come to, and what became of it.
-TOLD = grep -a --line-buffered '^rt: [^n]\|^crate \|^logic='
+TOLD = grep -a --line-buffered '^rt: [^n]\|^crate \|^library \|^logic='
+SHOWN = grep --line-buffered -v '^library '
 HEADERS = build/mmix.h build/mmix_text.h build/mmix_disassemble.h build/mmix_points.h
 VERSION = $(shell sed -n 's/^\#define MMIX_VERSION_[MI].* //p' include/mmix.h | paste -s -d .)
 
@@ -89,7 +90,7 @@ CRATE_bench = bench
 CRATE_points = point_lines_program
 build/bench build/points: build/%: $(RATTLE) examples/scripts/bench
 	@mkdir -p build
-	@set -o pipefail; (cd crates/$(CRATE_$*) && rt run < /dev/null) 2>&1 | tee build/$*.log | $(TOLD) | docs/progress $(CRATE_$*) || { cat build/$*.log; exit 1; }
+	@set -o pipefail; (cd crates/$(CRATE_$*) && rt run < /dev/null) 2>&1 | tee build/$*.log | $(TOLD) | docs/progress $(CRATE_$*) | $(SHOWN) || { cat build/$*.log; exit 1; }
 	@cp crates/$(CRATE_$*)/out/$(CRATE_$*) $@-proved
 	@cp examples/scripts/bench $@
 
@@ -134,7 +135,7 @@ lib: build/libmmix.a $(HEADERS)
 build/libmmix.a: $(RATTLE)
 	@$(MAKE) --no-print-directory need-rt
 	@mkdir -p build
-	@set -o pipefail; (cd crates/mmix_c && rt lib) 2>&1 | tee build/lib.log | $(TOLD) | docs/progress mmix_c || { cat build/lib.log; exit 1; }
+	@set -o pipefail; (cd crates/mmix_c && rt lib) 2>&1 | tee build/lib.log | $(TOLD) | docs/progress mmix_c | $(SHOWN) || { cat build/lib.log; exit 1; }
 	@cp crates/mmix_c/out/libmmix_c.a $@
 
 # The whole archive: no other object asks for its functions.
