@@ -33,6 +33,7 @@ pub mod Reader
 pub mod Numbers
 pub mod Field
 pub mod Parts
+pub mod Lent
 pub mod Kept
 pub mod StepRule
 -- theorems: statements; proofs/ has the proofs

@@ -4,6 +4,8 @@
 
 ghost use Rattle.std.specs.Prelude.{◌≡◌};
 ghost use Rattle.model.specs.Registers.{fresh, fresh_at};
+ghost use Rattle.model.specs.Parts.{lent};
+ghost use Rattle.model.specs.Lent.{windows_lent, windows_read, SaidBy};
 
 pub mod number;
 pub mod replies;
@@ -28,8 +30,67 @@ pub struct State {
     pub mask: u64,
 }
 
-/// The reply of a call: done, or one of the refusals in the order of their numbers.
+/// A state that is lent for a call, in parts, as a C host may hold it: changed in place.
+#[derive(Drop)]
+pub struct StateMut<'s> {
+    pub general: &'s mut [u64; 256],
+    pub special: &'s mut [u64; 32],
+    pub pc: &'s mut u64,
+    pub halt: &'s mut u64,
+    pub marks: u64,
+    pub mask: u64,
+}
+
+/// The two windows that are lent for a call, A and B, the stack's: changed in place.
+#[derive(Drop)]
+pub struct WindowsMut<'w> {
+    pub a: &'w mut [u8],
+    pub b: &'w mut [u8],
+    pub at: Bases,
+}
+
+/// The two windows, only read.
 #[derive(Clone, Copy)]
+pub struct WindowsRef<'w> {
+    pub a: &'w [u8],
+    pub b: &'w [u8],
+    pub at: Bases,
+}
+
+impl WindowsMut<'_> {
+    /// The same windows, only read.
+    pub fn read(&self) -> WindowsRef<'_>
+        ensures { windows_read result ≡ windows_lent self.now }
+    {
+        WindowsRef {
+            a: self.a,
+            b: self.b,
+            at: self.at,
+        }
+    }
+}
+
+/// An instruction: its opcode, X, Y and Z.
+#[derive(Clone, Copy, PartialEq, Eq)]
+pub struct Instruction {
+    pub op: u8,
+    pub x: u8,
+    pub y: u8,
+    pub z: u8,
+}
+
+impl From<u32> for Instruction {
+    ghost from_gives = { SaidBy };
+
+    /// The instruction that a tetra says.
+    fn from(tetra: u32) -> Instruction {
+        let [op, x, y, z] = tetra.to_be_bytes();
+        Instruction { op, x, y, z }
+    }
+}
+
+/// The reply of a call: done, or one of the refusals in the order of their numbers.
+#[derive(Clone, Copy, PartialEq, Eq)]
 pub enum Reply {
     Done,
     // 1 to 6 leave everything as it was.
