@@ -70,13 +70,7 @@ pub const TRIP: u8 = 0xFF;
 pub fn is_among(op: u8, first: u8, last: u8) -> bool
     ensures { result ≡ among first last op }
 {
-    if op < first {
-        return false;
-    }
-    if op <= last {
-        return true;
-    }
-    false
+    first <= op && op <= last
 }
 
 /// Opcodes with no arm at which a range of those that claim begins or ends.
@@ -89,34 +83,18 @@ const LDVTSI: u8 = 0x99;
 const ANDNL: u8 = 0xEF;
 
 /// Whether $X is claimed before the arm of an instruction that is fetched (`writes_general_register_x`).
+#[tactic(auto, unfolding(model::specs::Step::claims, model::specs::Opcodes::among))]
 pub fn claims(op: u8) -> bool
     ensures { result ≡ claims op }
 {
-    if is_among(op, FCMP, LAST_ARITHMETIC) {
-        return true;
-    }
-    if is_among(op, CSN, LDVTSI) {
-        return true;
-    }
-    if is_among(op, GO, GOI) {
-        return true;
-    }
-    if is_among(op, PUSHGO, ANDNL) {
-        return true;
-    }
-    if is_among(op, PUSHJ, GETAB) {
-        return true;
-    }
-    if op == SAVE {
-        return true;
-    }
-    if op == GET {
-        return true;
-    }
-    false
+    matches!(
+        op,
+        FCMP..=LAST_ARITHMETIC | CSN..=LDVTSI | GO..=GOI | PUSHGO..=ANDNL | PUSHJ..=GETAB | SAVE | GET
+    )
 }
 
 /// The operation of an opcode.
+#[tactic(auto, unfolding(model::specs::Opcodes::operation_of))]
 pub fn operation_of(op: u8) -> Operation
     ensures { result ≡ operation_of op }
 {

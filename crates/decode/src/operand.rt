@@ -88,9 +88,9 @@ pub fn loaded(op: u8, addr: u64, v: u64) -> u64
 }
 
 /// The tetra at `addr`, of the octabyte v that `addr` names.
-pub fn tetra_at(addr: u64, v: u64) -> u64
-    ensures { (result ≡ operand_in tetra addr v) × (result < 2 ^ 32) }
+pub fn tetra_at(addr: u64, v: u64) -> u32
+    ensures { result ≡ operand_in tetra addr v }
 {
     let shift = 32 - 32 * (addr % 8 / 4);
-    (v >> shift) % 0x1_0000_0000
+    ((v >> shift) % 0x1_0000_0000) as u32
 }

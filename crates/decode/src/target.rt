@@ -5,6 +5,8 @@ ghost use Rattle.model.specs.Opcodes.{direction_of, condition_of};
 ghost use Rattle.model.specs.Control.{branch_fields, jump_fields, yz_of, xyz_of, target_of, holds};
 ghost use Rattle.decode.specs.Counts.{count_of, moved_by};
 
+use model::Instruction;
+
 /// How many fields YZ there are, and how many XYZ.
 pub const BRANCH_FIELDS: u64 = 65536;
 
@@ -40,23 +42,32 @@ fn count_of(op: u8, size: u64, field: u64) -> i64
     field as i64 - size as i64
 }
 
-/// The target of a field YZ: an odd opcode's is YZ − 65536, a negative count.
-pub fn near(pc: u64, op: u8, y: u8, z: u8) -> u64
-    ensures { result ≡ target_of pc (direction_of op) branch_fields (yz_of y z) }
+/// The target of a field of `size` values: an odd opcode's is field − size, a negative count.
+fn target_of(pc: u64, op: u8, size: u64, field: u64) -> u64
+    requires { (field < size) × (size ≤ 2 ^ 24) }
+    ensures { result ≡ target_of pc (direction_of op) size field }
 {
-    let field = 256 * (y as u64) + z as u64;
-    move_by(pc, count_of(op, BRANCH_FIELDS, field))
+    move_by(pc, count_of(op, size, field))
+}
+
+/// The target of a field YZ: an odd opcode's is YZ − 65536, a negative count.
+pub fn near(pc: u64, i: Instruction) -> u64
+    ensures { result ≡ target_of pc (direction_of i.op) branch_fields (yz_of i.y i.z) }
+{
+    let field = 256 * u64::from(i.y) + u64::from(i.z);
+    target_of(pc, i.op, BRANCH_FIELDS, field)
 }
 
 /// The target of a field XYZ: an odd opcode's is XYZ − 16777216, a negative count.
-pub fn far(pc: u64, op: u8, x: u8, y: u8, z: u8) -> u64
-    ensures { result ≡ target_of pc (direction_of op) jump_fields (xyz_of x y z) }
+pub fn far(pc: u64, i: Instruction) -> u64
+    ensures { result ≡ target_of pc (direction_of i.op) jump_fields (xyz_of i.x i.y i.z) }
 {
-    let field = 65536 * (x as u64) + (256 * (y as u64) + z as u64);
-    move_by(pc, count_of(op, JUMP_FIELDS, field))
+    let field = super::word::xyz_of(i);
+    target_of(pc, i.op, JUMP_FIELDS, field)
 }
 
 /// Whether a branch with opcode `op` is taken on a register that holds v.
+#[tactic(auto, unfolding(model::specs::Control::holds, model::specs::Opcodes::condition_of))]
 pub fn is_taken(op: u8, v: u64) -> bool
     ensures { result ≡ holds (condition_of op) v }
 {

@@ -22,30 +22,28 @@ unfolding interrupted
 interrupted_is g l pc halt marks mask b w x y z word u v n e =
     ap (λ (k : ℕ). made (set g 255 (get_or l 4 0)) (set (set (set (set (set l b (get_or g 255 0)) w k) x word) y u) z v) pc halt marks mask) e
 
-module _ (s : State) (k word u v : ℕ) (g l : List ℕ) (e : with_parts s g l ≡ tripped s word u v) where
-  pub trip_loaded : is_loaded s k ≡ true → Told (trip_to s k word u v) Done (made g l (16 * k) s.halt s.marks s.mask)
+module _ (s t : State) (k word u v : ℕ) (e : t ≡ tripped s word u v) where
+  pub trip_loaded : is_loaded s k ≡ true → Told (trip_to s k word u v) Done (made t.general t.special (16 * k) t.halt t.marks t.mask)
   unfolding trip_to trip_rule reply_of
-  trip_loaded h = rw h (record { reply_is = refl; state_is = goes_is s _ g l e (16 * k) })
+  trip_loaded h = rw h (record { reply_is = refl; state_is = goes_is t _ e (16 * k) })
 
-  pub trip_not_loaded : is_loaded s k ≡ false → Told (trip_to s k word u v) NotLoaded (made g l s.pc 1 s.marks s.mask)
+  pub trip_not_loaded : is_loaded s k ≡ false → Told (trip_to s k word u v) NotLoaded (made t.general t.special t.pc 1 t.marks t.mask)
   unfolding trip_to reply_of
-  trip_not_loaded h = rw h (record { reply_is = refl; state_is = halted_is s _ g l e })
+  trip_not_loaded h = rw h (record { reply_is = refl; state_is = halted_is t _ e })
 
 module _ (s : State) (op x y z : ℕ) where
-  pub trip_word : (word : ℕ) (r : Reply) (t : State) → word ≡ word_of op x y z → Told (trip_to s 0 word (reg s y) (reg s z)) r t → Told (trip_of s op x y z) r t
+  pub trip_says : (r : Reply) (t : State) → Told (trip_to s 0 (word_of op x y z) (reg s y) (reg s z)) r t → Told (trip_of s op x y z) r t
   unfolding trip_of
-  trip_word word r t e h = rw e at h
+  trip_says r t h = h
 
   pub trap_named' : (eqb x 0 && is_named y) ≡ true → Told (trap_step s op x y z) NamedTrap s
   unfolding trap_step reply_of
   trap_named' h = rw h (record { reply_is = refl; state_is = refl })
 
-  pub trap_done : (word : ℕ) (g l : List ℕ) → (eqb x 0 && is_named y) ≡ false → word ≡ word_of op x y z → with_parts s g l ≡ trapped s word (reg s y) (reg s z)
-      → Told (trap_step s op x y z) Trapped (made g l s.pc 1 s.marks s.mask)
+  pub trap_done : (t : State) → (eqb x 0 && is_named y) ≡ false → t ≡ trapped s (word_of op x y z) (reg s y) (reg s z)
+      → Told (trap_step s op x y z) Trapped (made t.general t.special t.pc 1 t.marks t.mask)
   unfolding trap_step trap_of reply_of
-  trap_done word g l h q e =
-      let f : with_parts s g l ≡ trapped s (word_of op x y z) (reg s y) (reg s z) = e ∙ ap (λ (n : ℕ). trapped s n (reg s y) (reg s z)) q in
-      rw h (record { reply_is = refl; state_is = halted_is s _ g l f })
+  trap_done t h e = rw h (record { reply_is = refl; state_is = halted_is t _ e })
 
 -- ---- exceptions
 
@@ -89,20 +87,20 @@ leftmost_is n h q =
     let small : count_leading_zeros 8 n + 1 ≤ 8 = vector_small n h (omega (arith, q)) in
     rw (ne_eqb n 0 q) (eqb-true _ _ (at_each 8 halves halves_are (count_leading_zeros 8 n) (omega arith)))
 
-module _ (s : State) (f word u v : ℕ) (b : f < 256) (l : List ℕ) (same : with_parts s s.general l ≡ with_added s f) where
+module _ (s t : State) (f word u v : ℕ) (b : f < 256) (same : t ≡ with_added s f) where
   byte : f % 256 ≡ f
   byte = omega arith
 
   -- e are the flags raised and enabled
-  pub none_taken : (n e : ℕ) → e ≡ bit_and f (enables s) → e ≡ 0 → n ≡ (s.pc + 4) % 2 ^ 64
-      → Told (raised s f word u v) Done (made s.general l n s.halt s.marks s.mask)
+  pub none_taken : (n e : ℕ) → e ≡ bit_and f (enables s) → e ≡ 0 → n ≡ (t.pc + 4) % 2 ^ 64
+      → Told (raised s f word u v) Done (made t.general t.special n t.halt t.marks t.mask)
   unfolding raised reply_of
-  none_taken n e w q h = rw (byte, ← w, q) (record { reply_is = refl; state_is = next_is s _ s.general l same n h })
+  none_taken n e w q h = rw (byte, ← w, q) (record { reply_is = refl; state_is = next_is t _ same n h })
 
-  pub one_taken : (k e : ℕ) (r : Reply) (t : State) → e ≡ bit_and f (enables s) → (e ≡ 0 → ⊥) → k ≡ count_leading_zeros 8 e + 1
-      → Told (trip_to (with_parts s s.general l) k word u v) r t → Told (raised s f word u v) r t
+  pub one_taken : (k e : ℕ) (r : Reply) (o : State) → e ≡ bit_and f (enables s) → (e ≡ 0 → ⊥) → k ≡ count_leading_zeros 8 e + 1
+      → Told (trip_to t k word u v) r o → Told (raised s f word u v) r o
   unfolding raised
-  one_taken k e r t w q i h = rw (byte, ← w, ne_eqb _ 0 q) (rw (same, i) at h)
+  one_taken k e r o w q i h = rw (byte, ← w, ne_eqb _ 0 q) (rw (same, i) at h)
 
 -- the entry: 1, then what is raised
 module _ (s : State) (f op x y z u v : ℕ) where
@@ -110,6 +108,6 @@ module _ (s : State) (f op x y z u v : ℕ) where
   unfolding exception_of reply_of
   not_admissible a = rw a (record { reply_is = refl; state_is = refl })
 
-  pub exception_told : (word : ℕ) (r : Reply) (t : State) → admissible s ≡ true → word ≡ word_of op x y z → Told (raised s f word u v) r t → Told (exception_of s f op x y z u v) r t
+  pub exception_told : (r : Reply) (t : State) → admissible s ≡ true → Told (raised s f (word_of op x y z) u v) r t → Told (exception_of s f op x y z u v) r t
   unfolding exception_of
-  exception_told word r t a w h = rw a (rw w at h)
+  exception_told r t a h = rw a h

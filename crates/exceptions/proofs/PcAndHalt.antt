@@ -1,16 +1,16 @@
--- Laws of the parts that code leaves, over plain variables: registers of a state, with PC sent on, or with the halt code set.
-use Rattle.model.proofs.Prelude.{ℕ, ◌%◌, ◌+◌, ◌^◌, List, ap, ◌∙◌, ◌≡◌, made, goes, halted, next, with_parts}
+-- Laws of what code leaves where the state is known but for the last store: PC sent on, or the halt code set.
+use Rattle.model.proofs.Prelude.{ℕ, ◌%◌, ◌+◌, ◌^◌, ap, ◌∙◌, ◌≡◌, made, goes, halted, next}
 use Rattle.model.specs.declared.State.{State}
 
-module _ (s t : State) (g l : List ℕ) (e : with_parts s g l ≡ t) where
-  pub goes_is : (n : ℕ) → made g l n s.halt s.marks s.mask ≡ goes t n
+module _ (r t : State) (e : r ≡ t) where
+  pub goes_is : (n : ℕ) → made r.general r.special n r.halt r.marks r.mask ≡ goes t n
   unfolding goes
   goes_is n = ap (λ (u : State). goes u n) e
 
-  pub next_is : (n : ℕ) → n ≡ (s.pc + 4) % 2 ^ 64 → made g l n s.halt s.marks s.mask ≡ next t
+  pub next_is : (n : ℕ) → n ≡ (r.pc + 4) % 2 ^ 64 → made r.general r.special n r.halt r.marks r.mask ≡ next t
   unfolding goes
-  next_is n h = ap (λ (k : ℕ). made g l k s.halt s.marks s.mask) h ∙ ap next e
+  next_is n h = ap (λ (k : ℕ). made r.general r.special k r.halt r.marks r.mask) h ∙ ap next e
 
-  pub halted_is : made g l s.pc 1 s.marks s.mask ≡ halted t
+  pub halted_is : made r.general r.special r.pc 1 r.marks r.mask ≡ halted t
   unfolding halted
   halted_is = ap halted e

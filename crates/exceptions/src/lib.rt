@@ -1,15 +1,51 @@
-//! TRIP, TRAP and the exceptions entry in place on lent registers (exceptions.rs, system.rs); no window is known here.
+//! TRIP, TRAP and the exceptions entry in place on a lent state (exceptions.rs, system.rs); no window is known here.
 #![tactic(auto)]
 
 ghost use Rattle.std.specs.Prelude.{◌≡◌, ◌&&◌, List, ℕ, ◌/◌, ◌%◌, ◌^◌, ◌<◌, ◌≤◌, eqb};
 ghost use Rattle.std.specs.Int.Bits.{bit_and};
-ghost use Rattle.model.specs.Trips.{interrupted, trip_to, vector_of, leftmost, with_added, raised};
+ghost use Rattle.model.specs.Registers.{reg};
+ghost use Rattle.model.specs.Trips.{word_of, interrupted, trip_to, vector_of, leftmost, with_added, raised};
 ghost use Rattle.model.specs.Step.{is_named, exception_of};
-ghost use Rattle.model.specs.Parts.{made};
+ghost use Rattle.model.specs.Lent.{state_lent, SameState};
 ghost use Rattle.exceptions.specs.Interrupts.{trip_of, trap_step};
 ghost use Rattle.exceptions.specs.Told.{Told};
 
-use model::{Reply, State};
+use decode::target;
+use model::{Instruction, Reply, State, StateMut};
+
+/// What an interrupt keeps of the instruction: its word and two operands.
+#[derive(Clone, Copy)]
+pub struct Kept {
+    pub word: u64,
+    pub y: u64,
+    pub z: u64,
+}
+
+/// The special registers of an interrupt: where $255 goes, where PC goes on, the word and the two operands.
+#[derive(Clone, Copy)]
+struct Bank {
+    b: usize,
+    w: usize,
+    x: usize,
+    y: usize,
+    z: usize,
+}
+
+const TRIP_BANK: Bank = Bank {
+    b: State::RB,
+    w: State::RW,
+    x: State::RX,
+    y: State::RY,
+    z: State::RZ,
+};
+
+const TRAP_BANK: Bank = Bank {
+    b: State::RBB,
+    w: State::RWW,
+    x: State::RXX,
+    y: State::RYY,
+    z: State::RZZ,
+};
 
 /// Whether vector k is marked loaded.
 fn is_loaded(marks: u64, k: u64) -> bool
@@ -19,94 +55,56 @@ fn is_loaded(marks: u64, k: u64) -> bool
     (marks >> k) % 2 == 1
 }
 
-/// The registers of a trip or a trap, whose numbers are b, w, x, y and z.
-fn set_interrupt(
-    general: &mut [u64; 256],
-    special: &mut [u64; 32],
-    pc: u64,
-    b: usize,
-    w: usize,
-    x: usize,
-    y: usize,
-    z: usize,
-    word: u64,
-    u: u64,
-    v: u64,
-)
-    requires { (b < 32) × (w < 32) × (x < 32) × (y < 32) × (z < 32) }
-    ensures { (halt marks mask : ℕ) → made general.new special.new pc halt marks mask
-        ≡ interrupted (made general.old special.old pc halt marks mask) b w x y z word u v }
+/// The registers of a trip or a trap.
+fn set_interrupt(s: &mut StateMut<'_>, bank: Bank, kept: Kept)
+    requires { (bank.b < 32) × (bank.w < 32) × (bank.x < 32) × (bank.y < 32) × (bank.z < 32) }
+    ensures same { SameState s.old s.new }
+    ensures set { state_lent s.new ≡ interrupted (state_lent s.old) bank.b bank.w bank.x bank.y bank.z kept.word kept.y kept.z }
 {
-    let rj = special[State::RJ];
-    let last = general[255];
-    let next = decode::target::following(pc);
-    special[b] = last;
-    general[255] = rj;
-    special[w] = next;
-    special[x] = word;
-    special[y] = u;
-    special[z] = v;
+    let rj = s.special[State::RJ];
+    s.special[bank.b] = s.general[255];
+    s.general[255] = rj;
+    s.special[bank.w] = target::following(*s.pc);
+    s.special[bank.x] = kept.word;
+    s.special[bank.y] = kept.y;
+    s.special[bank.z] = kept.z;
 }
 
 /// A trip through vector k, of 0 to 8: PC goes there if it is loaded, else the halt code is 1 (19).
-fn trip(
-    general: &mut [u64; 256],
-    special: &mut [u64; 32],
-    pc: &mut u64,
-    halt: &mut u64,
-    marks: u64,
-    k: u64,
-    word: u64,
-    u: u64,
-    v: u64,
-) -> Reply
+fn trip(s: &mut StateMut<'_>, k: u64, kept: Kept) -> Reply
     requires { k ≤ 8 }
-    ensures { (mask : ℕ) → Told
-        (trip_to (made general.old special.old pc.old halt.old marks mask) k word u v)
-        result (made general.new special.new pc.new halt.new marks mask) }
+    ensures same { SameState s.old s.new }
+    ensures told { Told (trip_to (state_lent s.old) k kept.word kept.y kept.z) result (state_lent s.new) }
 {
-    let at = *pc;
-    set_interrupt(
-        general,
-        special,
-        at,
-        State::RB,
-        State::RW,
-        State::RX,
-        State::RY,
-        State::RZ,
-        word,
-        u,
-        v,
-    );
-    if is_loaded(marks, k) {
-        *pc = 16 * k;
+    let loaded = is_loaded(s.marks, k);
+    set_interrupt(s, TRIP_BANK, kept);
+    if loaded {
+        *s.pc = 16 * k;
         return Reply::Done;
     }
-    *halt = 1;
+    *s.halt = 1;
     Reply::NotLoaded
 }
 
-/// TRIP: through vector 0, its operands $Y and $Z from before.
-pub fn trip_arm(
-    general: &mut [u64; 256],
-    special: &mut [u64; 32],
-    pc: &mut u64,
-    halt: &mut u64,
-    marks: u64,
-    op: u8,
-    x: u8,
-    y: u8,
-    z: u8,
-) -> Reply
-    ensures { (mask : ℕ) → Told
-        (trip_of (made general.old special.old pc.old halt.old marks mask) op x y z)
-        result (made general.new special.new pc.new halt.new marks mask) }
+/// An instruction with its operands $Y and $Z.
+fn kept_of(s: &StateMut<'_>, i: Instruction) -> Kept
+    ensures { result ≡ record { word = word_of i.op i.x i.y i.z; y = reg (state_lent s.now) i.y; z = reg (state_lent s.now) i.z } }
 {
-    let word = decode::word::word_of(op, x, y, z);
-    let u = general[y as usize];
-    let v = general[z as usize];
-    trip(general, special, pc, halt, marks, 0, word, u, v)
+    let general = &*s.general;
+    Kept {
+        word: decode::word::word_of(i),
+        y: general[usize::from(i.y)],
+        z: general[usize::from(i.z)],
+    }
+}
+
+/// TRIP: through vector 0, its operands $Y and $Z from before.
+pub fn trip_arm(s: &mut StateMut<'_>, i: Instruction) -> Reply
+    ensures same { SameState s.old s.new }
+    ensures told { Told (trip_of (state_lent s.old) i.op i.x i.y i.z) result (state_lent s.new) }
+{
+    let kept = kept_of(s, i);
+    trip(s, 0, kept)
 }
 
 /// The system calls that `from_u8` names go from Halt, 0, to Ftell, and from Fputc to Debug.
@@ -117,59 +115,24 @@ const FPUTC: u8 = 0x80;
 const DEBUG: u8 = 0x82;
 
 /// Whether a TRAP names a system call: X is 0, and `from_u8` names Y.
+#[tactic(auto, unfolding(model::specs::SystemRows::is_named))]
 fn is_named(x: u8, y: u8) -> bool
     ensures { result ≡ (eqb x 0 && is_named y) }
 {
-    if x != 0 {
-        return false;
-    }
-    if y <= FTELL {
-        return true;
-    }
-    if y < FPUTC {
-        return false;
-    }
-    if y <= DEBUG {
-        return true;
-    }
-    false
+    x == 0 && matches!(y, 0..=FTELL | FPUTC..=DEBUG)
 }
 
 /// TRAP: 4 where it is named; else the trap registers, the halt code 1, PC unmoved (20).
-pub fn trap_arm(
-    general: &mut [u64; 256],
-    special: &mut [u64; 32],
-    pc: u64,
-    halt: &mut u64,
-    op: u8,
-    x: u8,
-    y: u8,
-    z: u8,
-) -> Reply
-    ensures { (marks mask : ℕ) → Told
-        (trap_step (made general.old special.old pc halt.old marks mask) op x y z)
-        result (made general.new special.new pc halt.new marks mask) }
+pub fn trap_arm(s: &mut StateMut<'_>, i: Instruction) -> Reply
+    ensures same { SameState s.old s.new }
+    ensures told { Told (trap_step (state_lent s.old) i.op i.x i.y i.z) result (state_lent s.new) }
 {
-    if is_named(x, y) {
+    if is_named(i.x, i.y) {
         return Reply::NamedTrap;
     }
-    let word = decode::word::word_of(op, x, y, z);
-    let u = general[y as usize];
-    let v = general[z as usize];
-    set_interrupt(
-        general,
-        special,
-        pc,
-        State::RBB,
-        State::RWW,
-        State::RXX,
-        State::RYY,
-        State::RZZ,
-        word,
-        u,
-        v,
-    );
-    *halt = 1;
+    let kept = kept_of(s, i);
+    set_interrupt(s, TRAP_BANK, kept);
+    *s.halt = 1;
     Reply::Trapped
 }
 
@@ -187,19 +150,19 @@ fn leftmost_flag(flags: u8) -> u8
     if flags == 0 {
         return 0;
     }
-    0x80 >> u8::leading_zeros(flags)
+    0x80 >> flags.leading_zeros()
 }
 
 /// The flags raised but the taken one are added to rA, enabled or not.
-fn add_untaken(special: &mut [u64; 32], flags: u8)
-    ensures { (general : List ℕ) (pc halt marks mask : ℕ) → made general special.new pc halt marks mask
-        ≡ with_added (made general special.old pc halt marks mask) flags }
+fn add_untaken(s: &mut StateMut<'_>, flags: u8)
+    ensures same { SameState s.old s.new }
+    ensures added { state_lent s.new ≡ with_added (state_lent s.old) flags }
 {
-    let ra = special[State::RA];
+    let ra = s.special[State::RA];
     let enabled = enabled_of(ra, flags);
     let taken = leftmost_flag(enabled);
     let others = flags & (255 - taken);
-    special[State::RA] = ra | (others as u64);
+    s.special[State::RA] = ra | u64::from(others);
 }
 
 /// The vector of the leftmost of some flags.
@@ -207,60 +170,31 @@ fn vector_of(enabled: u8) -> u64
     requires { 0 < enabled }
     ensures { (result ≡ vector_of enabled) × (result ≤ 8) }
 {
-    u8::leading_zeros(enabled) as u64 + 1
+    u64::from(enabled.leading_zeros()) + 1
 }
 
-/// A byte of flags is raised by an instruction of word `word` with two operands.
-pub fn raise(
-    general: &mut [u64; 256],
-    special: &mut [u64; 32],
-    pc: &mut u64,
-    halt: &mut u64,
-    marks: u64,
-    flags: u8,
-    word: u64,
-    u: u64,
-    v: u64,
-) -> Reply
-    ensures { (mask : ℕ) → Told
-        (raised (made general.old special.old pc.old halt.old marks mask) flags word u v)
-        result (made general.new special.new pc.new halt.new marks mask) }
+/// A byte of flags is raised by an instruction.
+pub fn raise(s: &mut StateMut<'_>, flags: u8, kept: Kept) -> Reply
+    ensures same { SameState s.old s.new }
+    ensures told { Told (raised (state_lent s.old) flags kept.word kept.y kept.z) result (state_lent s.new) }
 {
-    let ra = special[State::RA];
-    let enabled = enabled_of(ra, flags);
-    add_untaken(special, flags);
+    let enabled = enabled_of(s.special[State::RA], flags);
+    add_untaken(s, flags);
     if enabled == 0 {
-        *pc = decode::target::following(*pc);
+        *s.pc = target::following(*s.pc);
         return Reply::Done;
     }
-    let k = vector_of(enabled);
-    trip(general, special, pc, halt, marks, k, word, u, v)
+    trip(s, vector_of(enabled), kept)
 }
 
-/// The exceptions entry: a byte of flags is raised by the instruction op X Y Z with two operands; 1 where the state is not admissible.
-pub fn raise_exceptions(
-    general: &mut [u64; 256],
-    special: &mut [u64; 32],
-    pc: &mut u64,
-    halt: &mut u64,
-    marks: u64,
-    mask: u64,
-    flags: u8,
-    op: u8,
-    x: u8,
-    y: u8,
-    z: u8,
-    y_val: u64,
-    z_val: u64,
-) -> Reply
-    ensures { Told
-        (exception_of (made general.old special.old pc.old halt.old marks mask)
-        flags op x y z y_val z_val)
-        result (made general.new special.new pc.new halt.new marks mask) }
+/// The exceptions entry: a byte of flags is raised by an instruction with two operands; 1 where the state is not admissible.
+pub fn raise_exceptions(s: &mut StateMut<'_>, flags: u8, i: Instruction, y: u64, z: u64) -> Reply
+    ensures same { SameState s.old s.new }
+    ensures told { Told (exception_of (state_lent s.old) flags i.op i.x i.y i.z y z) result (state_lent s.new) }
 {
-    if !stack::pass::admissible(special, marks, mask) {
+    if !stack::pass::admissible(s.special, s.marks, s.mask) {
         return Reply::NotAdmissible;
     }
-    let word = decode::word::word_of(op, x, y, z);
-    raise(general, special, pc, halt, marks, flags, word, y_val, z_val)
+    let word = decode::word::word_of(i);
+    raise(s, flags, Kept { word, y, z })
 }

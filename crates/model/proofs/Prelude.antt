@@ -61,6 +61,7 @@ pub use Rattle.model.specs.Opcodes.{trip, unsave, unsigned, Width, wyde}
 unfoldable pub use Rattle.model.specs.Opcodes.{arm_of, condition_of, first_of, operation_of, sign_of, width_of}
 pub use Rattle.model.specs.Order.{Passes, refused_by}
 pub use Rattle.model.specs.Parts.{lent, made}
+pub use Rattle.model.specs.Lent.{state_lent, windows_lent, windows_read}
 pub use Rattle.model.specs.Plan.{Agree, answer, clear, Off, Outcome, Plan, read}
 unfoldable pub use Rattle.model.specs.Plan.{All, look, looks, map_outcome, map_plan, missing, named, perform, puts, ups, worst}
 pub use Rattle.model.specs.Reader.{across, checked, empty_part, nowhere, octabytes, Part, part_bytes, read_context, Span, window_of}

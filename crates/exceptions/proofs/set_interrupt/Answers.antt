@@ -2,5 +2,5 @@
 use Rattle.exceptions.proofs.Interrupts.{interrupted_is}
 use Rattle.exceptions.proofs.set_interrupt.Goals as goal
 
-pub returns : goal.returns
-returns c = λ halt marks mask. interrupted_is _ _ _ _ _ _ _ _ _ _ _ _ _ _ _ c.following-next.ensures
+pub returns-clause-set : goal.returns-clause-set
+returns-clause-set c = interrupted_is _ _ _ _ _ _ _ _ _ _ _ _ _ _ _ c.following.ensures

@@ -4,4 +4,4 @@ use Rattle.decode.proofs.Operands.{tetra_is}
 use Rattle.decode.proofs.operand.tetra_at.Goals as goal
 
 pub returns : goal.returns
-returns c = (tetra_is _ _, omega arith)
+returns c = tetra_is _ _
