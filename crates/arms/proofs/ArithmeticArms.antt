@@ -45,7 +45,7 @@ module _ (s : State) (op x y z u v : ℕ) (o : Operation) (r : Results) (g l : L
   computed_done n h f =
       let k : (results_in s o u v).flags ≡ 0 = ap (λ (q : Results). q.flags) (sym er) ∙ h in
       subst (λ (d : Said). Told d Done (made g (set (set l r_h r.rh) r_r r.rr) n s.halt s.marks s.mask)) (sym (says ∙ pick (results_in s o u v).flags k _ _))
-      (record { reply_is = refl; state_is = next_is s _ g _ written n f })
+      (record { reply_is = refl; state_is = next_is after _ written n f })
     where
       pick : (m : ℕ) → m ≡ 0 → (d c : Said) → cond (eqb m 0) d c ≡ d
       pick m q d c = rw q

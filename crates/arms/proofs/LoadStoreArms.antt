@@ -43,7 +43,7 @@ module _ (w : Windows) (s : State) (op x y z a : ℕ) (h : a ≡ sum_of s (last_
         → with_parts s g l ≡ set_register s x u → n ≡ (s.pc + 4) % 2 ^ 64 → Replied (load_of w s op x y z) Done (made g l n s.halt s.marks s.mask) w
     unfolding load_from
     load_done v u g l n p q r f = rw (← h, read_there w s a _ e)
-        (unfold perform worst puts reply_of in (record { reply_is = refl; state_is = next_is s _ g l (r ∙ ap (set_register s x) (q ∙ ap (λ (k : ℕ). extended (width_of op) (sign_of op) (operand_in (width_of op) a k)) p)) n f; window_is = refl }))
+        (unfold perform worst puts reply_of in (record { reply_is = refl; state_is = next_is (with_parts s g l) _ (r ∙ ap (set_register s x) (q ∙ ap (λ (k : ℕ). extended (width_of op) (sign_of op) (operand_in (width_of op) a k)) p)) n f; window_is = refl }))
 
   -- ---- stores
 
@@ -58,7 +58,7 @@ module _ (w : Windows) (s : State) (op x y z a : ℕ) (h : a ≡ sum_of s (last_
 
     pub store_fits : (n : ℕ) → fits (width_of op) (sign_of op) (reg s x) ≡ true → n ≡ (s.pc + 4) % 2 ^ 64 → Replied (store_of w s op x y z) Done (made s.general s.special n s.halt s.marks s.mask) u
     unfolding store_says reply_of
-    store_fits n f i = rw (store_says_law, f) (record { reply_is = refl; state_is = next_is s s s.general s.special refl n i; window_is = refl })
+    store_fits n f i = rw (store_says_law, f) (record { reply_is = refl; state_is = next_is s s refl n i; window_is = refl })
 
     pub store_raises : (word : ℕ) (k : Reply) (t : State) → fits (width_of op) (sign_of op) (reg s x) ≡ false → word ≡ word_of op x y z → Told (raised s flag_v word a (reg s x)) k t
         → Replied (store_of w s op x y z) k t u

@@ -1,9 +1,9 @@
 -- Laws of what an arm that touches no memory tells, over plain variables: a reply and the parts that code leaves, from what its callees ensure.
--- 31, GET, PUT (with the tags of replies), SYNC. Trips and traps: Interrupts of crate exceptions.
+-- 31, GET, PUT, SYNC. Trips and traps: Interrupts of crate exceptions.
 use Rattle.model.proofs.Prelude.{ℕ, ◌%◌, ◌+◌, ◌<◌, ◌^◌, ◌≤◌, cond, false, true, List, refl, sym, ◌∙◌, ◌≡◌, arith, eqb, le-leb, le-ltb, lt-leb, lt-ltb, ne_eqb}
-use Rattle.model.proofs.Prelude.{tag_of, Among, Said, reply_of, made, halted, hides, with_parts, get_special, got, put_refusal, put_special, put_state, sync_of}
-use Rattle.model.proofs.Prelude.{unless_hidden, put_most, not_done, refusals, tag_is}
-use Rattle.arms.proofs.Prelude.{Reply, Done, Hidden, NoSpecial, SyncIllegal, SyncPrivileged, State, the_type, Told, halted_is, next_is}
+use Rattle.model.proofs.Prelude.{Said, reply_of, made, halted, hides, with_parts, get_special, got, put_refusal, put_special, put_state, sync_of}
+use Rattle.model.proofs.Prelude.{unless_hidden, put_most, done_zero, refused_not_zero}
+use Rattle.arms.proofs.Prelude.{Reply, Done, Hidden, NoSpecial, SyncIllegal, SyncPrivileged, State, Told, halted_is, next_is}
 use Rattle.arms.specs.NoMemoryArms.{get_of}
 
 -- ---- 31, of GET and of PUT
@@ -18,7 +18,7 @@ module _ (s : State) (x z : ℕ) where
   pub get_done : (g l : List ℕ) (n : ℕ) → z ≤ 31 → hides s.mask z ≡ false → with_parts s g l ≡ got s x z → n ≡ (s.pc + 4) % 2 ^ 64
       → Told (get_of s x z) Done (made g l n s.halt s.marks s.mask)
   unfolding get_of get_special unless_hidden reply_of
-  get_done g l n h u e f = rw (le-ltb 31 z h, u) (record { reply_is = refl; state_is = next_is s (got s x z) g l e n f })
+  get_done g l n h u e f = rw (le-ltb 31 z h, u) (record { reply_is = refl; state_is = next_is (with_parts s g l) (got s x z) e n f })
 
   pub get_hidden : z ≤ 31 → hides s.mask z ≡ true → Told (get_of s x z) Hidden (halted s)
   unfolding get_of get_special
@@ -37,20 +37,20 @@ put_hidden s x v u = hidden_told s x _ u
 module _ (s : State) (x v : ℕ) (r : Reply) (g l : List ℕ)
     (e : r ≡ reply_of (put_refusal s x v)) (f : with_parts s g l ≡ cond (eqb (put_refusal s x v) 0) (put_state s x v) s)
     (u : hides s.mask x ≡ false) where
-  number : tag_of the_type r ≡ put_refusal s x v
-  number = tag_is (put_refusal s x v) r (let h = put_most s x v in omega arith) e
+  small : put_refusal s x v ≤ 33
+  small = let h = put_most s x v in omega arith
 
-  pub put_done_law : (n : ℕ) → tag_of the_type r ≡ 0 → n ≡ (s.pc + 4) % 2 ^ 64 → Told (put_special s x v) r (made g l n s.halt s.marks s.mask)
+  pub put_done_law : (n : ℕ) → r ≡ Done → n ≡ (s.pc + 4) % 2 ^ 64 → Told (put_special s x v) r (made g l n s.halt s.marks s.mask)
   unfolding put_special unless_hidden
   put_done_law n h q =
-      let z : put_refusal s x v ≡ 0 = sym number ∙ h in
-      rw (u, z) (record { reply_is = rw z at e; state_is = next_is s _ g l (rw z at f) n q })
+      let z : put_refusal s x v ≡ 0 = done_zero _ r small e h in
+      rw (u, z) (record { reply_is = rw z at e; state_is = next_is (with_parts s g l) _ (rw z at f) n q })
 
-  pub put_refused : Among refusals (tag_of the_type r) → Told (put_special s x v) r (made g l s.pc 1 s.marks s.mask)
+  pub put_refused : (r ≡ Done → ⊥) → Told (put_special s x v) r (made g l s.pc 1 s.marks s.mask)
   unfolding put_special unless_hidden
   put_refused h =
-      let z : eqb (put_refusal s x v) 0 ≡ false = ne_eqb _ 0 (λ q. not_done _ h (number ∙ q)) in
-      rw (u, z) (record { reply_is = e; state_is = halted_is s _ g l (rw z at f) })
+      let z : eqb (put_refusal s x v) 0 ≡ false = ne_eqb _ 0 (refused_not_zero _ r e h) in
+      rw (u, z) (record { reply_is = e; state_is = halted_is (with_parts s g l) _ (rw z at f) })
 
 -- ---- SYNC
 
@@ -65,4 +65,4 @@ module _ (s : State) (n : ℕ) where
 
   pub sync_done : (m : ℕ) → n < 4 → m ≡ (s.pc + 4) % 2 ^ 64 → Told (sync_of s n) Done (made s.general s.special m s.halt s.marks s.mask)
   unfolding sync_of reply_of
-  sync_done m h q = rw (le-ltb 7 n (omega arith), lt-leb 4 n h) (record { reply_is = refl; state_is = next_is s s s.general s.special refl m q })
+  sync_done m h q = rw (le-ltb 7 n (omega arith), lt-leb 4 n h) (record { reply_is = refl; state_is = next_is s s refl m q })

@@ -1,9 +1,9 @@
 -- Laws of calls and returns, over plain variables: the stack leaves PC as it was, and where it is done the arm sends PC on. First the outcome of a
 -- plan with PC sent on, then PUSH, then POP. SAVE and UNSAVE: SaveUnsaveSent.
-use Rattle.model.proofs.Prelude.{ℕ, ◌≤◌, Bool, cond, false, true, List, [], ap, refl, sym, ◌∙◌, ◌≡◌, arith, eqb, ne_eqb, tag_of, Among, hole, misplaced, no_frame}
+use Rattle.model.proofs.Prelude.{ℕ, ◌≤◌, Bool, cond, false, true, List, [], ap, refl, sym, ◌∙◌, ◌≡◌, arith, eqb, ne_eqb, hole, misplaced, no_frame}
 use Rattle.model.proofs.Prelude.{pop_frame, pop_rule, pop_to, push_frame, Windows, tell, reply_of, Outcome, Plan, puts, goes, halted, Answers, on, perform_on, Any}
-use Rattle.model.proofs.Prelude.{not_done, refusals, tag_is, perform_meets, pop_sent, push_sent, sent}
-use Rattle.arms.proofs.Prelude.{Reply, State, the_type, Gives, only_if, placed, pop_answer, PopGives, pop_in, pop_number, push_in, return_to}
+use Rattle.model.proofs.Prelude.{done_zero, refused_not_zero, perform_meets, pop_sent, push_sent, sent}
+use Rattle.arms.proofs.Prelude.{Reply, State, Gives, only_if, placed, pop_answer, PopGives, pop_in, pop_number, push_in, return_to}
 use Rattle.stack.specs.declared.frame.PopFrame.{PopFrame}
 use Rattle.stack.specs.declared.frame.PopFrame.TheVariants.{Frame, NoFrame, Rejected, Missing, NotAdmissible, WindowRule, Shared}
 use Rattle.arms.specs.Replied.{Replied}
@@ -68,20 +68,20 @@ module _ (w : Windows) (s : State) (x target : ℕ) (r : Reply) (t : State) (v :
   unfolding push_in
   push_open = only_sent (placed s) w s _ _ target (push_sent w s (hole s x) target s.pc)
 
-  number : tag_of the_type r ≡ (push_in w s x).reply
+  small : (push_in w s x).reply ≤ 33
   unfolding push_in Stays
-  number = tag_is _ r (let h = (push_stays (placed s) w s (hole s x)).0 in omega arith) g.reply_is
+  small = let h = (push_stays (placed s) w s (hole s x)).0 in omega arith
 
   at_start : (push_in w s x).state.pc ≡ s.pc
   unfolding push_in Stays
   at_start = (push_stays (placed s) w s (hole s x)).1
 
-  pub push_done : tag_of the_type r ≡ 0 → Replied (only_if (placed s) w s (push_frame s (hole s x) target)) r (goes t target) v
-  push_done z = sent_done s _ _ target r t v push_open g.reply_is g.state_is g.window_is (sym number ∙ z)
+  pub push_done : r ≡ reply.Done → Replied (only_if (placed s) w s (push_frame s (hole s x) target)) r (goes t target) v
+  push_done d = sent_done s _ _ target r t v push_open g.reply_is g.state_is g.window_is (done_zero _ r small g.reply_is d)
 
-  pub push_refused : Among refusals (tag_of the_type r) → Replied (only_if (placed s) w s (push_frame s (hole s x) target)) r t v
+  pub push_refused : (r ≡ reply.Done → ⊥) → Replied (only_if (placed s) w s (push_frame s (hole s x) target)) r t v
   push_refused h =
-      let z : eqb (push_in w s x).reply 0 ≡ false = ne_eqb _ 0 (λ q. not_done _ h (number ∙ q)) in
+      let z : eqb (push_in w s x).reply 0 ≡ false = ne_eqb _ 0 (refused_not_zero _ r g.reply_is h) in
       sent_not s _ _ target r t v push_open g.reply_is g.state_is g.window_is at_start z
 
 -- ---- POP

@@ -1,9 +1,9 @@
 -- Laws of SAVE and UNSAVE, over plain variables: first which outcomes send PC on to @ + 4, then the whole outcome from what the stack gives, done or
 -- refused. PUSH and POP: PushPopSent.
-use Rattle.model.proofs.Prelude.{ℕ, ◌%◌, ◌+◌, ◌^◌, ◌≤◌, Bool, cond, false, true, List, ap, refl, sym, ◌∙◌, ◌≡◌, arith, eqb, ltb, eq-eqb, ne_eqb, tag_of, Among}
+use Rattle.model.proofs.Prelude.{ℕ, ◌%◌, ◌+◌, ◌^◌, ◌≤◌, Bool, cond, false, true, List, ap, refl, sym, ◌∙◌, ◌≡◌, arith, eqb, ltb, eq-eqb, ne_eqb}
 use Rattle.model.proofs.Prelude.{save_context, unsave_context, unsaved, Windows, tell, made, Outcome, Plan, admissible, following, goes, halted, next, r_g, sp}
-use Rattle.model.proofs.Prelude.{Answers, context_meets, on, perform_on, Any, not_done, refusals, tag_is, perform_meets, back_to, save_sent, sent, unsave_sent}
-use Rattle.arms.proofs.Prelude.{Reply, State, the_type, Gives, only_if}
+use Rattle.model.proofs.Prelude.{Answers, context_meets, on, perform_on, Any, done_zero, refused_not_zero, perform_meets, back_to, save_sent, sent, unsave_sent}
+use Rattle.arms.proofs.Prelude.{Reply, Done, State, Gives, only_if}
 use Rattle.arms.specs.Replied.{Replied}
 
 -- an outcome with a reply of 0 to 22, and PC at @ + 4 where it is done, else as it was
@@ -47,24 +47,24 @@ module _ (w : Windows) (s : State) where
 
 module _ (o : Outcome State Windows) (s : State) (h : Onward o s) (r : Reply) (g l : List ℕ) (k : ℕ) (v : Windows)
     (e : Gives o s r (made g l s.pc k s.marks s.mask) v) where
-  number : tag_of the_type r ≡ o.reply
-  number = tag_is o.reply r (let m = h.most in omega arith) e.reply_is
+  small : o.reply ≤ 33
+  small = let m = h.most in omega arith
 
   state_at_law : (b : Bool) → eqb o.reply 0 ≡ b → o.state ≡ cond b (goes (goes o.state s.pc) (following s)) (goes o.state s.pc)
   state_at_law b q = ap (λ (p : Outcome State Windows). p.state) h.sent_on ∙ (unfold sent back_to in ap (λ (t : Bool). cond t (goes (goes o.state s.pc) (following s)) (goes o.state s.pc)) q)
 
-  pub onward_done : (n : ℕ) → tag_of the_type r ≡ 0 → n ≡ (s.pc + 4) % 2 ^ 64 → Replied o r (made g l n k s.marks s.mask) v
+  pub onward_done : (n : ℕ) → r ≡ Done → n ≡ (s.pc + 4) % 2 ^ 64 → Replied o r (made g l n k s.marks s.mask) v
   onward_done n z q = record { reply_is = e.reply_is; state_is = state; window_is = e.window_is }
     where
       moved : made g l (following s) k s.marks s.mask ≡ goes (goes o.state s.pc) (following s)
       moved = unfold goes in (ap (λ (t : State). goes t (following s)) e.state_is)
 
       state : made g l n k s.marks s.mask ≡ o.state
-      state = ap (λ (m : ℕ). made g l m k s.marks s.mask) q ∙ moved ∙ sym (state_at_law true (eq-eqb _ _ (sym number ∙ z)))
+      state = ap (λ (m : ℕ). made g l m k s.marks s.mask) q ∙ moved ∙ sym (state_at_law true (eq-eqb _ _ (done_zero _ r small e.reply_is z)))
 
-  pub onward_refused : Among refusals (tag_of the_type r) → Replied o r (made g l s.pc k s.marks s.mask) v
+  pub onward_refused : (r ≡ Done → ⊥) → Replied o r (made g l s.pc k s.marks s.mask) v
   onward_refused z = record {
     reply_is = e.reply_is;
-    state_is = e.state_is ∙ sym (state_at_law false (ne_eqb _ 0 (λ q. not_done _ z (number ∙ q))));
+    state_is = e.state_is ∙ sym (state_at_law false (ne_eqb _ 0 (refused_not_zero _ r e.reply_is z)));
     window_is = e.window_is;
   }

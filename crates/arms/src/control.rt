@@ -4,67 +4,55 @@ ghost use Rattle.model.specs.Opcodes.{last_of};
 ghost use Rattle.model.specs.NoMemory.{say};
 ghost use Rattle.model.specs.Control.{sum_of};
 ghost use Rattle.model.specs.Parts.{made};
+ghost use Rattle.model.specs.Lent.{state_lent, SameState};
 ghost use Rattle.exceptions.specs.Told.{Told};
 ghost use Rattle.arms.specs.Arms.{branch_of, jump_of, go_of};
 
 use super::registers;
 use decode::target;
-use model::Reply;
+use model::{Instruction, Reply, StateMut};
 
 /// A branch.
-pub fn branch(general: &[u64; 256], pc: &mut u64, op: u8, x: u8, y: u8, z: u8) -> Reply
-    ensures { (special : List ℕ) (halt marks mask : ℕ) → Told
-        (say 0 (branch_of (made general.now special pc.old halt marks mask) op x y z))
-        result (made general.now special pc.new halt marks mask) }
+pub fn branch(s: &mut StateMut<'_>, i: Instruction) -> Reply
+    ensures same { SameState s.old s.new }
+    ensures told { Told (say 0 (branch_of (state_lent s.old) i.op i.x i.y i.z)) result (state_lent s.new) }
 {
-    let v = general[x as usize];
-    let at = *pc;
-    if target::is_taken(op, v) {
-        *pc = target::near(at, op, y, z);
+    let at = *s.pc;
+    if target::is_taken(i.op, s.general[i.x as usize]) {
+        *s.pc = target::near(at, i);
         return Reply::Done;
     }
-    *pc = target::following(at);
+    *s.pc = target::following(at);
     Reply::Done
 }
 
 /// JMP and JMPB.
-pub fn jump(pc: &mut u64, op: u8, x: u8, y: u8, z: u8) -> Reply
-    ensures { (general special : List ℕ) (halt marks mask : ℕ) → Told
-        (say 0 (jump_of (made general special pc.old halt marks mask) op x y z))
-        result (made general special pc.new halt marks mask) }
+pub fn jump(s: &mut StateMut<'_>, i: Instruction) -> Reply
+    ensures same { SameState s.old s.new }
+    ensures told { Told (say 0 (jump_of (state_lent s.old) i.op i.x i.y i.z)) result (state_lent s.new) }
 {
-    *pc = target::far(*pc, op, x, y, z);
+    *s.pc = target::far(*s.pc, i);
     Reply::Done
 }
 
 /// $Y + $Z for an even opcode, $Y + Z for an odd one.
-pub fn sum(general: &[u64; 256], op: u8, y: u8, z: u8) -> u64
+pub fn sum(general: &[u64; 256], i: Instruction) -> u64
     ensures { (special : List ℕ) (pc halt marks mask : ℕ) → result
-        ≡ sum_of (made general.now special pc halt marks mask) (last_of op) y z }
+        ≡ sum_of (made general.now special pc halt marks mask) (last_of i.op) i.y i.z }
 {
-    let v = general[y as usize];
-    if op % 2 == 0 {
-        let last = general[z as usize];
-        return model::number::wrapping_add(v, last);
+    let first = general[i.y as usize];
+    if i.op % 2 == 0 {
+        return model::number::wrapping_add(first, general[i.z as usize]);
     }
-    model::number::wrapping_add(v, z as u64)
+    model::number::wrapping_add(first, i.z as u64)
 }
 
 /// GO and GOI.
-pub fn go_by(
-    general: &mut [u64; 256],
-    special: &mut [u64; 32],
-    pc: &mut u64,
-    op: u8,
-    x: u8,
-    y: u8,
-    z: u8,
-) -> Reply
-    ensures { (halt marks mask : ℕ) → Told
-        (say 0 (go_of (made general.old special.old pc.old halt marks mask) op x y z))
-        result (made general.new special.new pc.new halt marks mask) }
+pub fn go_by(s: &mut StateMut<'_>, i: Instruction) -> Reply
+    ensures same { SameState s.old s.new }
+    ensures told { Told (say 0 (go_of (state_lent s.old) i.op i.x i.y i.z)) result (state_lent s.new) }
 {
-    let target = sum(general, op, y, z);
-    registers::go_to(general, special, pc, x, target);
+    let target = sum(s.general, i);
+    registers::go_to(s, i.x, target);
     Reply::Done
 }

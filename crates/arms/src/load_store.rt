@@ -1,78 +1,61 @@
 // Loads and stores, once 1, 2 and 22 have passed.
-ghost use Rattle.std.specs.Prelude.{ℕ};
-ghost use Rattle.model.specs.Parts.{made, lent};
+ghost use Rattle.model.specs.Lent.{state_lent, windows_lent, SameState, SameWindows};
 ghost use Rattle.arms.specs.Replied.{Replied};
 ghost use Rattle.arms.specs.Arms.{load_of, store_of};
 
 use super::control;
-use decode::{operand, target};
-use model::{Bases, Reply};
+use decode::{operand, target, word};
+use exceptions::Kept;
+use model::{Instruction, Reply, StateMut, WindowsMut};
 
 /// Integer overflow, among the flags of an exception.
 const FLAG_V: u8 = 0x40;
 
 /// LDB to LDOU: 6 comes before $X is claimed.
-pub fn load(
-    general: &mut [u64; 256],
-    special: &mut [u64; 32],
-    pc: &mut u64,
-    a: &[u8],
-    b: &[u8],
-    at: Bases,
-    op: u8,
-    x: u8,
-    y: u8,
-    z: u8,
-) -> Reply
-    ensures { (halt marks mask : ℕ) → Replied
-        (load_of (lent at a.now b.now)
-        (made general.old special.old pc.old halt marks mask) op x y z)
-        result (made general.new special.new pc.new halt marks mask) (lent at a.now b.now) }
+pub fn load(s: &mut StateMut<'_>, w: &WindowsMut<'_>, i: Instruction) -> Reply
+    ensures same { SameState s.old s.new }
+    ensures replied { Replied (load_of (windows_lent w.now) (state_lent s.old) i.op i.x i.y i.z)
+        result (state_lent s.new) (windows_lent w.now) }
 {
-    let addr = control::sum(general, op, y, z);
-    if stack::pass::run_refusal(a, b, at, addr, 1) != 0 {
+    let addr = control::sum(s.general, i);
+    if stack::pass::run_refusal(w.a, w.b, w.at, addr, 1) != 0 {
         return Reply::Missing;
     }
-    let found = stack::pass::read_octa(a, b, at, addr);
-    let v = found.value;
-    let u = operand::loaded(op, addr, v);
-    stack::pass::set_register(general, special, x, u);
-    *pc = target::following(*pc);
+    let found = stack::pass::read_octa(w.a, w.b, w.at, addr);
+    let u = operand::loaded(i.op, addr, found.value);
+    stack::pass::set_register(s.general, s.special, i.x, u);
+    *s.pc = target::following(*s.pc);
     Reply::Done
 }
 
 /// STB to STOU: the store is made, then V is raised where $X does not fit.
-pub fn store(
-    general: &mut [u64; 256],
-    special: &mut [u64; 32],
-    pc: &mut u64,
-    halt: &mut u64,
-    marks: u64,
-    a: &mut [u8],
-    b: &mut [u8],
-    at: Bases,
-    op: u8,
-    x: u8,
-    y: u8,
-    z: u8,
-) -> Reply
-    ensures { (mask : ℕ) → Replied
-        (store_of (lent at a.old b.old)
-        (made general.old special.old pc.old halt.old marks mask) op x y z)
-        result (made general.new special.new pc.new halt.new marks mask) (lent at a.new b.new) }
+pub fn store(s: &mut StateMut<'_>, w: &mut WindowsMut<'_>, i: Instruction) -> Reply
+    ensures same { SameState s.old s.new × SameWindows w.old w.new }
+    ensures replied { Replied (store_of (windows_lent w.old) (state_lent s.old) i.op i.x i.y i.z)
+        result (state_lent s.new) (windows_lent w.new) }
 {
-    let addr = control::sum(general, op, y, z);
-    if stack::pass::run_refusal(a, b, at, addr, 1) != 0 {
+    let addr = control::sum(s.general, i);
+    let lent = w.read();
+    if stack::pass::run_refusal(lent.a, lent.b, lent.at, addr, 1) != 0 {
         return Reply::Missing;
     }
-    let found = stack::pass::read_octa(a, b, at, addr);
-    let v = found.value;
-    let u = general[x as usize];
-    stack::pass::write_octa(a, b, at, addr, operand::merged(op, addr, v, u));
-    if operand::fits(op, u) {
-        *pc = target::following(*pc);
+    let found = stack::pass::read_octa(lent.a, lent.b, lent.at, addr);
+    let u = s.general[i.x as usize];
+    let merged = operand::merged(i.op, addr, found.value, u);
+    let at = w.at;
+    stack::pass::write_octa(w.a, w.b, at, addr, merged);
+    if operand::fits(i.op, u) {
+        *s.pc = target::following(*s.pc);
         return Reply::Done;
     }
-    let word = decode::word::word_of(op, x, y, z);
-    exceptions::raise(general, special, pc, halt, marks, FLAG_V, word, addr, u)
+    let word = word::word_of(i);
+    exceptions::raise(
+        s,
+        FLAG_V,
+        Kept {
+            word,
+            y: addr,
+            z: u,
+        },
+    )
 }

@@ -1,72 +1,59 @@
 // Whole-number arithmetic in a step: the operation and its operands by the opcode, then $X, rH, rR and the flag.
-ghost use Rattle.std.specs.Prelude.{◌≡◌, List, ℕ};
+ghost use Rattle.std.specs.Prelude.{◌≡◌};
 ghost use Rattle.model.specs.Opcodes.{first_of, last_of};
 ghost use Rattle.model.specs.Control.{operand_of};
-ghost use Rattle.model.specs.Parts.{made};
+ghost use Rattle.model.specs.Lent.{state_lent, SameState};
 ghost use Rattle.exceptions.specs.Told.{Told};
 ghost use Rattle.arms.specs.NoMemoryArms.{arithmetic_of};
 
-use decode::{opcode, target};
-use model::{Operands, Reply, State};
+use decode::{opcode, target, word};
+use exceptions::Kept;
+use model::{Instruction, Operands, Reply, State, StateMut};
 
 /// $Y, or Y itself.
-fn first(general: &[u64; 256], op: u8, y: u8) -> u64
-    ensures { (special : List ℕ) (pc halt marks mask : ℕ) → result
-        ≡ operand_of (made general.now special pc halt marks mask) (first_of op) y }
+fn first(s: &StateMut<'_>, i: Instruction) -> u64
+    ensures { result ≡ operand_of (state_lent s.now) (first_of i.op) i.y }
 {
-    if opcode::is_among(op, opcode::FIRST_NEGATION, opcode::LAST_NEGATION) {
-        return y as u64;
+    if opcode::is_among(i.op, opcode::FIRST_NEGATION, opcode::LAST_NEGATION) {
+        return i.y as u64;
     }
-    general[y as usize]
+    let general = &*s.general;
+    general[i.y as usize]
 }
 
 /// $Z for an even opcode, Z for an odd one.
-pub fn last(general: &[u64; 256], op: u8, z: u8) -> u64
-    ensures { (special : List ℕ) (pc halt marks mask : ℕ) → result
-        ≡ operand_of (made general.now special pc halt marks mask) (last_of op) z }
+pub fn last(s: &StateMut<'_>, i: Instruction) -> u64
+    ensures { result ≡ operand_of (state_lent s.now) (last_of i.op) i.z }
 {
-    if op % 2 == 0 {
-        return general[z as usize];
+    if i.op % 2 == 0 {
+        let general = &*s.general;
+        return general[i.z as usize];
     }
-    z as u64
+    i.z as u64
 }
 
 /// MUL to SRU.
-pub fn compute(
-    general: &mut [u64; 256],
-    special: &mut [u64; 32],
-    pc: &mut u64,
-    halt: &mut u64,
-    marks: u64,
-    op: u8,
-    x: u8,
-    y: u8,
-    z: u8,
-) -> Reply
-    ensures { (mask : ℕ) → Told
-        (arithmetic_of (made general.old special.old pc.old halt.old marks mask) op x y z)
-        result (made general.new special.new pc.new halt.new marks mask) }
+pub fn compute(s: &mut StateMut<'_>, i: Instruction) -> Reply
+    ensures same { SameState s.old s.new }
+    ensures told { Told (arithmetic_of (state_lent s.old) i.op i.x i.y i.z) result (state_lent s.new) }
 {
-    let u = first(general, op, y);
-    let v = last(general, op, z);
-    let rd = special[State::RD];
-    let rh = special[State::RH];
-    let rr = special[State::RR];
+    let y = first(s, i);
+    let z = last(s, i);
     let operands = Operands {
-        y: u,
-        z: v,
-        rd: rd,
-        rh: rh,
-        rr: rr,
+        y,
+        z,
+        rd: s.special[State::RD],
+        rh: s.special[State::RH],
+        rr: s.special[State::RR],
     };
-    let results = arithmetic::operation::perform(opcode::operation_of(op), operands);
-    stack::pass::set_register(general, special, x, results.x);
-    special[State::RH] = results.rh;
-    special[State::RR] = results.rr;
+    let results = arithmetic::operation::perform(opcode::operation_of(i.op), operands);
+    stack::pass::set_register(s.general, s.special, i.x, results.x);
+    s.special[State::RH] = results.rh;
+    s.special[State::RR] = results.rr;
     if results.flags == 0 {
-        *pc = target::following(*pc);
+        *s.pc = target::following(*s.pc);
         return Reply::Done;
     }
-    let word = decode::word::word_of(op, x, y, z);
-    exceptions::raise(general, special, pc, halt, marks, results.flags, word, u, v)
+    let word = word::word_of(i);
+    exceptions::raise(s, results.flags, Kept { word, y, z })
 }

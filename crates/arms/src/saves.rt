@@ -1,64 +1,39 @@
 // Arms that work on saved contexts (system.rs: SAVE, UNSAVE), in place: the stack moves registers and octabytes, and PC goes on to
 // @ + 4 where that is done. State and windows are judged before the choice of the arm.
-ghost use Rattle.std.specs.Prelude.{ℕ};
-ghost use Rattle.model.specs.Parts.{made, lent};
 ghost use Rattle.contexts.specs.SaveUnsave.{save_in, unsave_in};
+ghost use Rattle.model.specs.Lent.{state_lent, windows_lent, SameState, SameWindows};
 ghost use Rattle.arms.specs.Replied.{Replied};
 
-use model::{Bases, Reply};
+use contexts::context;
+use decode::target;
+use model::{Reply, StateMut, WindowsMut};
 
 /// Does not judge 2 or 22: the caller has; 1 is judged. SAVE $x.
-pub fn save_to_judged(
-    general: &mut [u64; 256],
-    special: &mut [u64; 32],
-    pc: &mut u64,
-    halt: &mut u64,
-    marks: u64,
-    mask: u64,
-    a: &mut [u8],
-    b: &mut [u8],
-    at: Bases,
-    x: u8,
-) -> Reply
-    ensures { Replied
-        (save_in (lent at a.old b.old)
-        (made general.old special.old pc.old halt.old marks mask) x)
-        result (made general.new special.new pc.new halt.new marks mask) (lent at a.new b.new) }
+pub fn save_to_judged(s: &mut StateMut<'_>, w: &mut WindowsMut<'_>, x: u8) -> Reply
+    ensures same { SameState s.old s.new × SameWindows w.old w.new }
+    ensures replied { Replied (save_in (windows_lent w.old) (state_lent s.old) x)
+        result (state_lent s.new) (windows_lent w.new) }
 {
-    let reply = contexts::context::save_context_judged(
-        general, special, halt, marks, mask, a, b, at, x,
+    let reply = context::save_context_judged(
+        s.general, s.special, s.halt, s.marks, s.mask, w.a, w.b, w.at, x,
     );
-    match reply {
-        Reply::Done => {
-            *pc = decode::target::following(*pc);
-        }
-        _ => {}
+    if reply == Reply::Done {
+        *s.pc = target::following(*s.pc);
     }
     reply
 }
 
 /// Does not judge 1, 2 or 22: the caller has. UNSAVE of the context at `address`.
-pub fn unsave_from_judged(
-    general: &mut [u64; 256],
-    special: &mut [u64; 32],
-    pc: &mut u64,
-    halt: &mut u64,
-    a: &[u8],
-    b: &[u8],
-    at: Bases,
-    address: u64,
-) -> Reply
-    ensures { (marks mask : ℕ) → Replied
-        (unsave_in (lent at a.now b.now)
-        (made general.old special.old pc.old halt.old marks mask) address)
-        result (made general.new special.new pc.new halt.new marks mask) (lent at a.now b.now) }
+pub fn unsave_from_judged(s: &mut StateMut<'_>, w: &WindowsMut<'_>, address: u64) -> Reply
+    ensures same { SameState s.old s.new }
+    ensures replied { Replied (unsave_in (windows_lent w.now) (state_lent s.old) address)
+        result (state_lent s.new) (windows_lent w.now) }
 {
-    let reply = contexts::context::unsave_context_judged(general, special, halt, a, b, at, address);
-    match reply {
-        Reply::Done => {
-            *pc = decode::target::following(*pc);
-        }
-        _ => {}
+    let reply = context::unsave_context_judged(
+        s.general, s.special, s.halt, w.a, w.b, w.at, address,
+    );
+    if reply == Reply::Done {
+        *s.pc = target::following(*s.pc);
     }
     reply
 }

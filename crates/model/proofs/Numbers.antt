@@ -1,7 +1,9 @@
 -- The numbers of the replies, and their tags, by which code tells the cases of a match.
 use Rattle.model.proofs.Logic.{ℕ, ◌<◌, ◌≤◌, cond, true, List, [], ◌∷◌, inl, inr, ◌⊎◌, ap, refl, sym, ◌∙◌, ◌≡◌, arith, eqb, leb, get_or_eq_default}
-use Rattle.model.proofs.Logic.{eqb-false, eqb-true, le-leb, tag_of, has_key, Among}
+use Rattle.model.proofs.Logic.{false, not, eqb-false, eqb-true, le-leb, tag_of, has_key, Among}
 use borrow.Enum.Refused.{not_key, opened}
+use denote.Enum.Bare.{sameb, same_true, same_false, differs_true, differs_false}
+use Rattle.std.proofs.Common.{rules}
 use Rattle.model.specs.Numbers.{Halting, number_of, in_order, reply_of, RepliesNumbered}
 use Rattle.model.specs.declared.Reply.{Reply}
 use Rattle.model.specs.declared.Reply.TheVariants.{Done, NotAdmissible, WindowRule, NoArm, NamedTrap, NoSpecial, Missing, PutUnknown, PutPrivileged, PutIllegal, PutThreshold, PutStatus, Misplaced, SaveLocal, SavedThreshold, SavedStatus, SavedCount, SyncPrivileged, SyncIllegal, NotLoaded, Trapped, OutOfReach, Shared, Across, NotFetched, GrantTooLarge, StoreTooShort, NoPoint, OtherPoint, NoFrame, TooManyPairs, Hidden, Foreign, TasksRule}
@@ -103,3 +105,26 @@ reply_other n m = go (lt_or_le n 1) (lt_or_le n 34)
     go (inl a) b = let z : n ≡ 0 = omega arith in rw z
     go (inr a) (inl b) = absurd (here a b)
     go (inr a) (inr b) = sym (get_or_eq_default in_order Done b)
+
+-- a reply that is a number's: done where it is 0, and there alone
+pub done_zero : (n : ℕ) (r : Reply) → n ≤ 33 → r ≡ reply_of n → r ≡ Done → n ≡ 0
+unfolding number_of
+done_zero n r h e d = sym (numbered.number_reply n h) ∙ ap number_of (sym e ∙ d)
+
+pub refused_not_zero : (n : ℕ) (r : Reply) → r ≡ reply_of n → (r ≡ Done → ⊥) → n ≡ 0 → ⊥
+unfolding reply_of
+refused_not_zero n r e d z = d (e ∙ ap reply_of z)
+
+-- what a test for `Reply::Done` tells
+pub is_done : {r : Reply} → sameb the_type r Done ≡ true → r ≡ Done
+is_done e = same_true the_type (search rules) _ _ e
+
+pub is_refused : {r : Reply} → sameb the_type r Done ≡ false → r ≡ Done → ⊥
+is_refused e = same_false the_type _ _ e
+
+-- and a test for any other
+pub is_not_done : {r : Reply} → not (sameb the_type r Done) ≡ true → r ≡ Done → ⊥
+is_not_done e = differs_true the_type _ _ e
+
+pub is_not_refused : {r : Reply} → not (sameb the_type r Done) ≡ false → r ≡ Done
+is_not_refused e = differs_false the_type (search rules) _ _ e

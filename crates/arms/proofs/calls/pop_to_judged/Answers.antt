@@ -1,54 +1,47 @@
 -- `pop_to_judged` meets its contract: each answer of the stack is a number, and with 0 PC is sent on.
-use Rattle.model.proofs.Prelude.{refl, yz_of, reply_of, lent, made, goes}
+use Rattle.model.proofs.Prelude.{refl, yz_of, reply_of, windows_lent, state_lent, goes}
 use Rattle.arms.proofs.Prelude.{pop_number}
 use Rattle.arms.proofs.PushPopSent.{pop_done, pop_refused}
 use Rattle.arms.proofs.calls.pop_to_judged.Goals as goal
 
-pub returns-in-Frame : goal.returns-in-Frame
+pub returns-in-Frame-clause-replied : goal.returns-in-Frame-clause-replied
 unfolding goes
-returns-in-Frame c =
-    λ marks mask.
+returns-in-Frame-clause-replied c =
     let a = c.args in
-    pop_done (lent a.at a.a.now a.b.now) (made a.general.now a.special.now a.pc.now a.halt.now marks mask) a.x (yz_of a.y a.z) _ _ (c.pop_frame_judged-found.ensures a.pc.now marks mask) _ c.in-Frame.is
+    pop_done (windows_lent a.w.now) (state_lent a.s.now) a.i.x (yz_of a.i.y a.i.z) _ _ (c.pop_frame_judged-found.ensures _ _ _) _ c.in-Frame.is
 
-pub returns-in-NoFrame : goal.returns-in-NoFrame
+pub returns-in-NoFrame-clause-replied : goal.returns-in-NoFrame-clause-replied
 unfolding reply_of pop_number
-returns-in-NoFrame c =
-    λ marks mask.
+returns-in-NoFrame-clause-replied c =
     let a = c.args in
-    pop_refused (lent a.at a.a.now a.b.now) (made a.general.now a.special.now a.pc.now a.halt.now marks mask) a.x (yz_of a.y a.z) _ _ (c.pop_frame_judged-found.ensures a.pc.now marks mask) _ _ c.in-NoFrame.is refl refl
+    pop_refused (windows_lent a.w.now) (state_lent a.s.now) a.i.x (yz_of a.i.y a.i.z) _ _ (c.pop_frame_judged-found.ensures _ _ _) _ _ c.in-NoFrame.is refl refl
 
-pub returns-in-Rejected : goal.returns-in-Rejected
+pub returns-in-Rejected-clause-replied : goal.returns-in-Rejected-clause-replied
 unfolding reply_of pop_number
-returns-in-Rejected c =
-    λ marks mask.
+returns-in-Rejected-clause-replied c =
     let a = c.args in
-    pop_refused (lent a.at a.a.now a.b.now) (made a.general.now a.special.now a.pc.now a.halt.now marks mask) a.x (yz_of a.y a.z) _ _ (c.pop_frame_judged-found.ensures a.pc.now marks mask) _ _ c.in-Rejected.is refl refl
+    pop_refused (windows_lent a.w.now) (state_lent a.s.now) a.i.x (yz_of a.i.y a.i.z) _ _ (c.pop_frame_judged-found.ensures _ _ _) _ _ c.in-Rejected.is refl refl
 
-pub returns-in-Missing : goal.returns-in-Missing
+pub returns-in-Missing-clause-replied : goal.returns-in-Missing-clause-replied
 unfolding reply_of pop_number
-returns-in-Missing c =
-    λ marks mask.
+returns-in-Missing-clause-replied c =
     let a = c.args in
-    pop_refused (lent a.at a.a.now a.b.now) (made a.general.now a.special.now a.pc.now a.halt.now marks mask) a.x (yz_of a.y a.z) _ _ (c.pop_frame_judged-found.ensures a.pc.now marks mask) _ _ c.in-Missing.is refl refl
+    pop_refused (windows_lent a.w.now) (state_lent a.s.now) a.i.x (yz_of a.i.y a.i.z) _ _ (c.pop_frame_judged-found.ensures _ _ _) _ _ c.in-Missing.is refl refl
 
-pub returns-in-NotAdmissible : goal.returns-in-NotAdmissible
+pub returns-in-NotAdmissible-clause-replied : goal.returns-in-NotAdmissible-clause-replied
 unfolding reply_of pop_number
-returns-in-NotAdmissible c =
-    λ marks mask.
+returns-in-NotAdmissible-clause-replied c =
     let a = c.args in
-    pop_refused (lent a.at a.a.now a.b.now) (made a.general.now a.special.now a.pc.now a.halt.now marks mask) a.x (yz_of a.y a.z) _ _ (c.pop_frame_judged-found.ensures a.pc.now marks mask) _ _ c.in-NotAdmissible.is refl refl
+    pop_refused (windows_lent a.w.now) (state_lent a.s.now) a.i.x (yz_of a.i.y a.i.z) _ _ (c.pop_frame_judged-found.ensures _ _ _) _ _ c.in-NotAdmissible.is refl refl
 
-pub returns-in-WindowRule : goal.returns-in-WindowRule
+pub returns-in-WindowRule-clause-replied : goal.returns-in-WindowRule-clause-replied
 unfolding reply_of pop_number
-returns-in-WindowRule c =
-    λ marks mask.
+returns-in-WindowRule-clause-replied c =
     let a = c.args in
-    pop_refused (lent a.at a.a.now a.b.now) (made a.general.now a.special.now a.pc.now a.halt.now marks mask) a.x (yz_of a.y a.z) _ _ (c.pop_frame_judged-found.ensures a.pc.now marks mask) _ _ c.in-WindowRule.is refl refl
+    pop_refused (windows_lent a.w.now) (state_lent a.s.now) a.i.x (yz_of a.i.y a.i.z) _ _ (c.pop_frame_judged-found.ensures _ _ _) _ _ c.in-WindowRule.is refl refl
 
-pub returns-in-Shared : goal.returns-in-Shared
+pub returns-in-Shared-clause-replied : goal.returns-in-Shared-clause-replied
 unfolding reply_of pop_number
-returns-in-Shared c =
-    λ marks mask.
+returns-in-Shared-clause-replied c =
     let a = c.args in
-    pop_refused (lent a.at a.a.now a.b.now) (made a.general.now a.special.now a.pc.now a.halt.now marks mask) a.x (yz_of a.y a.z) _ _ (c.pop_frame_judged-found.ensures a.pc.now marks mask) _ _ c.in-Shared.is refl refl
+    pop_refused (windows_lent a.w.now) (state_lent a.s.now) a.i.x (yz_of a.i.y a.i.z) _ _ (c.pop_frame_judged-found.ensures _ _ _) _ _ c.in-Shared.is refl refl

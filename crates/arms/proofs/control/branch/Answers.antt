@@ -1,26 +1,24 @@
 -- `branch` meets its contract: where it is taken PC goes to the target, else to the next tetra.
-use Rattle.model.proofs.Prelude.{refl, reply_of, made, goes}
+use Rattle.model.proofs.Prelude.{refl, reply_of, state_lent, goes}
 use Rattle.arms.proofs.ControlArms.{branch_taken, branch_not}
 use Rattle.arms.proofs.control.branch.Goals as goal
 
-pub returns-then-is_taken : goal.returns-then-is_taken
+pub returns-then-is_taken-clause-told : goal.returns-then-is_taken-clause-told
 unfolding goes reply_of
-returns-then-is_taken c =
-    λ special halt marks mask.
+returns-then-is_taken-clause-told c =
     let a = c.args in
-    let s = made a.general.now special a.pc.now halt marks mask in
+    let s = state_lent a.s.now in
     record {
       reply_is = refl;
-      state_is = branch_taken s a.op a.x a.y a.z _ _ c.is_taken.ensures c.if-is_taken.true c.near.ensures;
+      state_is = branch_taken s a.i.op a.i.x a.i.y a.i.z _ _ c.is_taken.ensures c.if-is_taken.true c.near-s.ensures;
     }
 
-pub returns : goal.returns
+pub returns-clause-told : goal.returns-clause-told
 unfolding goes reply_of
-returns c =
-    λ special halt marks mask.
+returns-clause-told c =
     let a = c.args in
-    let s = made a.general.now special a.pc.now halt marks mask in
+    let s = state_lent a.s.now in
     record {
       reply_is = refl;
-      state_is = branch_not s a.op a.x a.y a.z _ _ c.is_taken.ensures c.if-is_taken.false c.following.ensures;
+      state_is = branch_not s a.i.op a.i.x a.i.y a.i.z _ _ c.is_taken.ensures c.if-is_taken.false c.following-s.ensures;
     }

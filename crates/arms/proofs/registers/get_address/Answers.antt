@@ -1,15 +1,14 @@
 -- `get_address` meets its contract: the target goes into $X, and PC to the next tetra.
-use Rattle.model.proofs.Prelude.{ap, refl, ◌∙◌, reply_of, made, set_register}
+use Rattle.model.proofs.Prelude.{ap, refl, ◌∙◌, reply_of, state_lent, set_register, with_parts}
 use Rattle.arms.proofs.Prelude.{next_is}
 use Rattle.arms.proofs.registers.get_address.Goals as goal
 
-pub returns : goal.returns
+pub returns-clause-told : goal.returns-clause-told
 unfolding reply_of
-returns c =
-    λ halt marks mask.
+returns-clause-told c =
     let a = c.args in
-    let s = made a.general.now a.special.now a.pc.now halt marks mask in
+    let s = state_lent a.s.now in
     record {
       reply_is = refl;
-      state_is = next_is s _ _ _ (c.set_register.ensures s ∙ ap (set_register s a.x) c.near-target.ensures) _ c.following.ensures;
+      state_is = next_is (with_parts s _ _) _ (c.set_register.ensures s ∙ ap (set_register s a.i.x) c.near.ensures) _ c.following-s.ensures;
     }

@@ -1,21 +1,19 @@
 -- `unsave_from_judged` meets its contract: the reply's number is the outcome's, so the match tells whether PC goes on.
-use Rattle.model.proofs.Prelude.{lent, made}
+use Rattle.model.proofs.Prelude.{is_done, is_refused, sym, windows_lent, state_lent}
 use Rattle.arms.proofs.Prelude.{unsave_in}
 use Rattle.arms.proofs.SaveUnsaveSent.{unsave_onward, onward_done, onward_refused}
 use Rattle.arms.proofs.saves.unsave_from_judged.Goals as goal
 
-pub returns-in-Done : goal.returns-in-Done
+pub returns-then-eq-clause-replied : goal.returns-then-eq-clause-replied
 unfolding unsave_in
-returns-in-Done c =
-    λ marks mask.
+returns-then-eq-clause-replied c =
     let a = c.args in
-    let s = made a.general.now a.special.now a.pc.now a.halt.now marks mask in
-    onward_done _ s (unsave_onward (lent a.at a.a.now a.b.now) s a.address) _ _ _ _ _ (c.unsave_context_judged-reply.ensures a.pc.now marks mask) _ c.in-Done.in-Done-own.keys1 c.following.ensures
+    let s = state_lent a.s.now in
+    onward_done _ s (unsave_onward (windows_lent a.w.now) s a.address) _ _ _ _ _ (c.unsave_context_judged-reply.ensures _ _ _) _ (is_done (sym c.if-eq.ensures)) c.following-s.ensures
 
-pub returns-in_default : goal.returns-in_default
+pub returns-else-eq-clause-replied : goal.returns-else-eq-clause-replied
 unfolding unsave_in
-returns-in_default c =
-    λ marks mask.
+returns-else-eq-clause-replied c =
     let a = c.args in
-    let s = made a.general.now a.special.now a.pc.now a.halt.now marks mask in
-    onward_refused _ s (unsave_onward (lent a.at a.a.now a.b.now) s a.address) _ _ _ _ _ (c.unsave_context_judged-reply.ensures a.pc.now marks mask) c.in_default.in_default-own.keys2
+    let s = state_lent a.s.now in
+    onward_refused _ s (unsave_onward (windows_lent a.w.now) s a.address) _ _ _ _ _ (c.unsave_context_judged-reply.ensures _ _ _) (is_refused (sym c.if-eq.ensures))
