@@ -2,7 +2,7 @@
 -- 4 and 5 are judged by their arms: SystemArms.
 use Rattle.model.proofs.Prelude.{ℕ, ◌≤◌, true, List, ⊎_elim, ap, refl, sym, ◌∙◌, ◌≡◌, arith, shapes_of, Windows, say, number_of, reply_of, among, arm_of}
 use Rattle.model.proofs.Prelude.{first_branch, last_branch, made, admissible, from_three, step_of, step_plan, unruled_by, plan_replies, Any, perform_meets}
-use Rattle.model.proofs.Prelude.{step_meets}
+use Rattle.model.proofs.Prelude.{step_meets, on, ruled, shares}
 use Rattle.instruction.proofs.Prelude.{State, branch_arm, guarded_on, refusal_on, refused_guarded, branch_of, quiet_step}
 use Rattle.model.specs.declared.Reply.{Reply}
 use Rattle.exceptions.specs.Told.{Told}
@@ -16,11 +16,6 @@ refused_step w s op x y z n e f = rw refused (record { reply_is = refl; state_is
     refused : step_of w s op x y z ≡ record { reply = n; state = s; memory = w }
     refused = unfold step_of step_plan guarded_on in (refused_guarded w s (from_three s (arm_of op) op x y z) n e f)
 
--- the number rests on the special registers, the marks and the mask alone
-pub refusal_alike : (w : Windows) (l : List ℕ) (m k : ℕ) (g h : List ℕ) (p q i j : ℕ) → refusal_on w (made g l p i m k) ≡ 0 → refusal_on w (made h l q j m k) ≡ 0
-unfolding refusal_on admissible
-refusal_alike w l m k g h p q i j e = e
-
 -- a step's reply, of any state, is 31 at most
 step_most : (w : Windows) (s : State) (op x y z : ℕ) → (step_of w s op x y z).reply ≤ 31
 unfolding step_of
@@ -30,16 +25,24 @@ step_most w s op x y z =
     (λ a. plan_replies (λ r. r ≤ 31) (omega arith) (omega arith) (λ n e. ⊎_elim (λ l. omega arith) (⊎_elim (λ q. omega arith) (λ q. omega arith)) e) (omega arith) s (arm_of op) op x y z (λ q. omega arith)))
 
 -- so the number of the reply that it names is its own
-pub numbered : (w : Windows) (s : State) (op x y z : ℕ) (r : Reply) (t : State) (v : Windows) (n : ℕ) → Replied (step_of w s op x y z) r t v → n ≡ number_of r → Numbered (step_of w s op x y z) n t v
-numbered w s op x y z r t v n h e =
+pub numbered : (w : Windows) (s : State) (op x y z : ℕ) (r : Reply) (t : State) (v : Windows) → Replied (step_of w s op x y z) r t v → Numbered (step_of w s op x y z) (number_of r) t v
+numbered w s op x y z r t v h =
     let most : (step_of w s op x y z).reply ≤ 31 = step_most w s op x y z in
-    record { reply_is = e ∙ ap number_of h.reply_is ∙ numbers.number_reply (step_of w s op x y z).reply (omega arith); state_is = h.state_is; window_is = h.window_is }
+    record { reply_is = ap number_of h.reply_is ∙ numbers.number_reply (step_of w s op x y z).reply (omega arith); state_is = h.state_is; window_is = h.window_is }
 
 -- a branch is done
 pub done_numbered : (w : Windows) (s : State) (op x y z : ℕ) (r : Reply) (t : State) → admissible s ≡ true → unruled_by (shapes_of w) ≡ 0 → among first_branch last_branch op ≡ true
-    → Told (say 0 (branch_of s op x y z)) r t → Numbered (step_of w s op x y z) 0 t w
-unfolding number_of reply_of branch_of
-done_numbered w s op x y z r t a u b h =
-    let k = quiet_step w s a u op x y z r t _ (branch_arm op b) _ refl refl h in
-    let e : 0 ≡ number_of r = sym (ap number_of h.reply_is) in
-    numbered w s op x y z r t w 0 k e
+    → Told (say 0 (branch_of s op x y z)) r t → Numbered (step_of w s op x y z) (number_of r) t w
+unfolding branch_of
+done_numbered w s op x y z r t a u b h = numbered w s op x y z r t w (quiet_step w s a u op x y z r t _ (branch_arm op b) _ refl refl h)
+
+-- the reply of a number by which state or windows are refused has that number
+refusal_small : (w : Windows) (s : State) → refusal_on w s ≤ 33
+unfolding refusal_on unruled_by
+refusal_small w s = on (λ n. n ≤ 33) (admissible s) (λ a. on (λ n. n ≤ 33) (ruled (shapes_of w)) (λ b. on (λ n. n ≤ 33) (shares (shapes_of w)) (λ c. omega arith) (λ c. omega arith)) (λ b. omega arith)) (λ a. omega arith)
+
+pub refused_reply : (w : Windows) (s : State) (n : ℕ) (r : Reply) → n ≡ refusal_on w s → r ≡ reply_of n → number_of r ≡ refusal_on w s
+refused_reply w s n r e q = ap number_of q ∙ numbers.number_reply n (let h = refusal_small w s in omega arith) ∙ e
+
+pub refused_not_done : (w : Windows) (s : State) (n : ℕ) (r : Reply) → n ≡ refusal_on w s → r ≡ reply_of n → (n ≡ 0 → ⊥) → number_of r ≡ 0 → ⊥
+refused_not_done w s n r e q f z = f (e ∙ sym (refused_reply w s n r e q) ∙ z)

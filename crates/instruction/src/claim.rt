@@ -2,43 +2,38 @@
 ghost use Rattle.std.specs.Prelude.{◌≡◌, true, ◌&&◌, List, ℕ, ◌≤◌, ◌<◌, get_or};
 ghost use Rattle.model.specs.Registers.{r_l, admissible, is_marginal};
 ghost use Rattle.model.specs.Memory.{shapes_of};
+ghost use Rattle.model.specs.Numbers.{number_of};
 ghost use Rattle.model.specs.Step.{unruled_by, claims, keeps_claim};
-ghost use Rattle.model.specs.Parts.{made, lent};
+ghost use Rattle.model.specs.Parts.{made};
+ghost use Rattle.model.specs.Lent.{state_lent, windows_lent, SameState, SameWindows};
 ghost use Rattle.instruction.specs.StepAnswer.{Numbered};
 ghost use Rattle.instruction.specs.FetchedArms.{claimed_of};
 
 use super::step;
 use decode::opcode;
-use model::{Bases, State, replies};
+use model::{Instruction, Reply, State, StateMut, WindowsMut};
 
-/// Whether a claim is kept by a reply of this number.
-fn keeps_claim(number: u64) -> bool
-    ensures { result ≡ keeps_claim number }
+/// Whether a claim is kept by a reply.
+#[tactic(auto, unfolding(model::specs::Step::keeps_claim, model::specs::Numbers::number_of))]
+fn keeps_claim(reply: Reply) -> bool
+    ensures { result ≡ keeps_claim (number_of reply) }
 {
-    if number == replies::DONE {
-        return true;
-    }
-    if number == replies::NOT_LOADED {
-        return true;
-    }
-    false
+    matches!(reply, Reply::Done | Reply::NotLoaded)
 }
 
-/// Whether an instruction claims $x and $x is marginal: a claim of any other changes nothing.
-pub fn is_claimed(special: &[u64; 32], op: u8, x: u8) -> bool
+/// Whether an instruction claims $X and $X is marginal: a claim of any other changes nothing.
+pub fn is_claimed(special: &[u64; 32], i: Instruction) -> bool
     ensures { (general : List ℕ) (pc halt marks mask : ℕ) → result
-        ≡ (is_marginal (made general special.now pc halt marks mask) x && claims op) }
+        ≡ (is_marginal (made general special.now pc halt marks mask) i.x && claims i.op) }
 {
-    let rl = special[State::RL];
-    let rg = special[State::RG];
-    let reg = x as u64;
-    if reg < rl {
+    let reg = i.x as u64;
+    if reg < special[State::RL] {
         return false;
     }
-    if rg <= reg {
+    if special[State::RG] <= reg {
         return false;
     }
-    opcode::claims(op)
+    opcode::claims(i.op)
 }
 
 /// Whether the registers from `from` up to $x are all zero.
@@ -46,129 +41,71 @@ fn is_clear(general: &[u64; 256], from: u64, x: u8) -> bool
     ensures { result ≡ true → (k : ℕ) → from ≤ k → k ≤ x → get_or general.now k 0 ≡ 0 }
 {
     let last = x as u64;
-    let mut i = from;
-    while i <= last {
-        if general[i as usize] != 0 {
+    for k in from..last + 1 {
+        if general[k as usize] != 0 {
             return false;
         }
-        i += 1;
     }
     true
 }
 
 /// The claim where what it clears is zero: rL alone is set, and put back.
-fn claimed_clear(
-    general: &mut [u64; 256],
-    special: &mut [u64; 32],
-    pc: &mut u64,
-    halt: &mut u64,
-    marks: u64,
-    mask: u64,
-    a: &mut [u8],
-    b: &mut [u8],
-    at: Bases,
-    op: u8,
-    x: u8,
-    y: u8,
-    z: u8,
-) -> u64
-    requires { (admissible (made general.old special.old pc.old halt.old marks mask) ≡ true)
-        × (unruled_by (shapes_of (lent at a.old b.old)) ≡ 0)
-        × (claims op ≡ true)
-        × (is_marginal (made general.old special.old pc.old halt.old marks mask) x ≡ true)
-        × ((k : ℕ) → get_or special.old r_l 0 ≤ k → k ≤ x → get_or general.old k 0 ≡ 0) }
-    ensures { Numbered
-        (claimed_of (lent at a.old b.old)
-        (made general.old special.old pc.old halt.old marks mask) op x y z)
-        result (made general.new special.new pc.new halt.new marks mask) (lent at a.new b.new) }
+fn claimed_clear(s: &mut StateMut<'_>, w: &mut WindowsMut<'_>, i: Instruction) -> Reply
+    requires { (admissible (state_lent s.old) ≡ true)
+        × (unruled_by (shapes_of (windows_lent w.old)) ≡ 0)
+        × (claims i.op ≡ true)
+        × (is_marginal (state_lent s.old) i.x ≡ true)
+        × ((k : ℕ) → get_or s.old.special.now r_l 0 ≤ k → k ≤ i.x → get_or s.old.general.now k 0 ≡ 0) }
+    ensures same { SameState s.old s.new × SameWindows w.old w.new }
+    ensures numbered { Numbered (claimed_of (windows_lent w.old) (state_lent s.old) i.op i.x i.y i.z)
+        (number_of result) (state_lent s.new) (windows_lent w.new) }
 {
-    stack::pass::counted(general, special);
-    let rl = special[State::RL];
-    special[State::RL] = x as u64 + 1;
-    let code = step::JUDGED + op as u64;
-    let number = step::stepped(
-        at.a, at.b, code, x, y, z, general, special, pc, halt, marks, mask, a, b,
-    );
-    if keeps_claim(number) {
-        return number;
+    stack::pass::counted(s.general, s.special);
+    let rl = s.special[State::RL];
+    s.special[State::RL] = i.x as u64 + 1;
+    let reply = step::dispatch(s, w, i);
+    if keeps_claim(reply) {
+        return reply;
     }
-    special[State::RL] = rl;
-    number
+    s.special[State::RL] = rl;
+    reply
 }
 
-/// The claim where it clears something: the general registers are kept, and put back with rL.
-fn claimed_kept(
-    general: &mut [u64; 256],
-    special: &mut [u64; 32],
-    pc: &mut u64,
-    halt: &mut u64,
-    marks: u64,
-    mask: u64,
-    a: &mut [u8],
-    b: &mut [u8],
-    at: Bases,
-    op: u8,
-    x: u8,
-    y: u8,
-    z: u8,
-) -> u64
-    requires { (admissible (made general.old special.old pc.old halt.old marks mask) ≡ true)
-        × (unruled_by (shapes_of (lent at a.old b.old)) ≡ 0)
-        × (claims op ≡ true)
-        × (is_marginal (made general.old special.old pc.old halt.old marks mask) x ≡ true) }
-    ensures { Numbered
-        (claimed_of (lent at a.old b.old)
-        (made general.old special.old pc.old halt.old marks mask) op x y z)
-        result (made general.new special.new pc.new halt.new marks mask) (lent at a.new b.new) }
+/// The claim where it clears a register: all are kept, and put back with rL.
+fn claimed_kept(s: &mut StateMut<'_>, w: &mut WindowsMut<'_>, i: Instruction) -> Reply
+    requires { (admissible (state_lent s.old) ≡ true)
+        × (unruled_by (shapes_of (windows_lent w.old)) ≡ 0)
+        × (claims i.op ≡ true)
+        × (is_marginal (state_lent s.old) i.x ≡ true) }
+    ensures same { SameState s.old s.new × SameWindows w.old w.new }
+    ensures numbered { Numbered (claimed_of (windows_lent w.old) (state_lent s.old) i.op i.x i.y i.z)
+        (number_of result) (state_lent s.new) (windows_lent w.new) }
 {
-    stack::pass::counted(general, special);
-    let kept = *general;
-    let rl = special[State::RL];
-    stack::pass::claim_local(general, special, x);
-    let code = step::JUDGED + op as u64;
-    let number = step::stepped(
-        at.a, at.b, code, x, y, z, general, special, pc, halt, marks, mask, a, b,
-    );
-    if keeps_claim(number) {
-        return number;
+    stack::pass::counted(s.general, s.special);
+    let kept = *s.general;
+    let rl = s.special[State::RL];
+    stack::pass::claim_local(s.general, s.special, i.x);
+    let reply = step::dispatch(s, w, i);
+    if keeps_claim(reply) {
+        return reply;
     }
-    *general = kept;
-    special[State::RL] = rl;
-    number
+    *s.general = kept;
+    s.special[State::RL] = rl;
+    reply
 }
 
-/// An instruction that claims $x, a marginal one: claimed before the arm, and the claim taken back where it is refused by any number but 19.
-pub(crate) fn claimed(
-    general: &mut [u64; 256],
-    special: &mut [u64; 32],
-    pc: &mut u64,
-    halt: &mut u64,
-    marks: u64,
-    mask: u64,
-    a: &mut [u8],
-    b: &mut [u8],
-    at: Bases,
-    op: u8,
-    x: u8,
-    y: u8,
-    z: u8,
-) -> u64
-    requires { (admissible (made general.old special.old pc.old halt.old marks mask) ≡ true)
-        × (unruled_by (shapes_of (lent at a.old b.old)) ≡ 0)
-        × (claims op ≡ true)
-        × (is_marginal (made general.old special.old pc.old halt.old marks mask) x ≡ true) }
-    ensures { Numbered
-        (claimed_of (lent at a.old b.old)
-        (made general.old special.old pc.old halt.old marks mask) op x y z)
-        result (made general.new special.new pc.new halt.new marks mask) (lent at a.new b.new) }
+/// An instruction that claims $X, a marginal one: claimed before the arm, and the claim taken back where it is refused by any number but 19.
+pub(crate) fn claimed(s: &mut StateMut<'_>, w: &mut WindowsMut<'_>, i: Instruction) -> Reply
+    requires { (admissible (state_lent s.old) ≡ true)
+        × (unruled_by (shapes_of (windows_lent w.old)) ≡ 0)
+        × (claims i.op ≡ true)
+        × (is_marginal (state_lent s.old) i.x ≡ true) }
+    ensures same { SameState s.old s.new × SameWindows w.old w.new }
+    ensures numbered { Numbered (claimed_of (windows_lent w.old) (state_lent s.old) i.op i.x i.y i.z)
+        (number_of result) (state_lent s.new) (windows_lent w.new) }
 {
-    let rl = special[State::RL];
-    if is_clear(general, rl, x) {
-        return claimed_clear(
-            general, special, pc, halt, marks, mask, a, b, at, op, x, y, z,
-        );
+    if is_clear(s.general, s.special[State::RL], i.x) {
+        return claimed_clear(s, w, i);
     }
-    claimed_kept(
-        general, special, pc, halt, marks, mask, a, b, at, op, x, y, z,
-    )
+    claimed_kept(s, w, i)
 }

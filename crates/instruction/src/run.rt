@@ -1,154 +1,100 @@
 // Instructions that are fetched at PC: one, and as many as a grant says.
 // State and windows are judged once a call.
-ghost use Rattle.std.specs.Prelude.{◌≡◌, true, ◌^◌, ◌<◌};
+ghost use Rattle.std.specs.Prelude.{◌≡◌, true};
 ghost use Rattle.model.specs.Registers.{admissible};
 ghost use Rattle.model.specs.Memory.{shapes_of, both};
+ghost use Rattle.model.specs.Numbers.{number_of};
 ghost use Rattle.model.specs.Step.{unruled_by, fetched_of, fetched, mmix};
 ghost use Rattle.model.specs.Run.{run_for, run_of};
-ghost use Rattle.model.specs.Parts.{made, lent};
+ghost use Rattle.model.specs.Lent.{state_lent, windows_lent, SameState, SameWindows};
 ghost use Rattle.instruction.specs.StepAnswer.{Numbered, RunNumbered};
 ghost use Rattle.instruction.specs.FetchedArms.{said_by};
 
 use super::{claim, step};
 use arms::control;
-use decode::opcode;
-use model::{Bases, GRANT_MOST, Octabyte, replies};
+use decode::{opcode, operand};
+use model::{GRANT_MOST, Instruction, Octabyte, Reply, StateMut, WindowsMut, replies};
+
+/// What a run came to: the reply of its last instruction, and how many were done.
+#[derive(Clone, Copy)]
+pub struct Ran {
+    pub reply: Reply,
+    pub done: u64,
+}
 
 /// The instruction that a tetra says, from 3 on. A branch claims nothing, and is done here: what a loop does most is not to wait for the choice.
-fn attempt(
-    general: &mut [u64; 256],
-    special: &mut [u64; 32],
-    pc: &mut u64,
-    halt: &mut u64,
-    marks: u64,
-    mask: u64,
-    a: &mut [u8],
-    b: &mut [u8],
-    at: Bases,
-    tetra: u64,
-) -> u64
-    requires { (admissible (made general.old special.old pc.old halt.old marks mask) ≡ true)
-        × (unruled_by (shapes_of (lent at a.old b.old)) ≡ 0)
-        × (tetra < 2 ^ 32) }
-    ensures { Numbered
-        (said_by (lent at a.old b.old)
-        (made general.old special.old pc.old halt.old marks mask) tetra)
-        result (made general.new special.new pc.new halt.new marks mask) (lent at a.new b.new) }
+fn attempt(s: &mut StateMut<'_>, w: &mut WindowsMut<'_>, tetra: u32) -> Reply
+    requires { (admissible (state_lent s.old) ≡ true) × (unruled_by (shapes_of (windows_lent w.old)) ≡ 0) }
+    ensures same { SameState s.old s.new × SameWindows w.old w.new }
+    ensures numbered { Numbered (said_by (windows_lent w.old) (state_lent s.old) tetra)
+        (number_of result) (state_lent s.new) (windows_lent w.new) }
 {
-    stack::pass::counted(general, special);
-    let op = (tetra / 0x100_0000) as u8;
-    let x = (tetra / 0x1_0000 % 0x100) as u8;
-    let y = (tetra / 0x100 % 0x100) as u8;
-    let z = (tetra % 0x100) as u8;
-    if opcode::is_among(op, opcode::FIRST_BRANCH, opcode::LAST_BRANCH) {
-        control::branch(general, pc, op, x, y, z);
-        return replies::DONE;
+    stack::pass::counted(s.general, s.special);
+    let i = Instruction::from(tetra);
+    if opcode::is_among(i.op, opcode::FIRST_BRANCH, opcode::LAST_BRANCH) {
+        return control::branch(s, i);
     }
-    if claim::is_claimed(special, op, x) {
-        return claim::claimed(
-            general, special, pc, halt, marks, mask, a, b, at, op, x, y, z,
-        );
+    if claim::is_claimed(s.special, i) {
+        return claim::claimed(s, w, i);
     }
-    let code = step::JUDGED + op as u64;
-    step::stepped(
-        at.a, at.b, code, x, y, z, general, special, pc, halt, marks, mask, a, b,
-    )
+    step::dispatch(s, w, i)
 }
 
 /// One instruction at PC, once 1, 2 and 22 have passed: 24, then the instruction that the tetra there says.
-fn fetched(
-    general: &mut [u64; 256],
-    special: &mut [u64; 32],
-    pc: &mut u64,
-    halt: &mut u64,
-    marks: u64,
-    mask: u64,
-    a: &mut [u8],
-    b: &mut [u8],
-    at: Bases,
-) -> u64
-    requires { (admissible (made general.old special.old pc.old halt.old marks mask) ≡ true)
-        × (unruled_by (shapes_of (lent at a.old b.old)) ≡ 0) }
-    ensures { Numbered
-        (fetched_of (lent at a.old b.old)
-        (made general.old special.old pc.old halt.old marks mask))
-        result (made general.new special.new pc.new halt.new marks mask) (lent at a.new b.new) }
+fn fetched(s: &mut StateMut<'_>, w: &mut WindowsMut<'_>) -> Reply
+    requires { (admissible (state_lent s.old) ≡ true) × (unruled_by (shapes_of (windows_lent w.old)) ≡ 0) }
+    ensures same { SameState s.old s.new × SameWindows w.old w.new }
+    ensures numbered { Numbered (fetched_of (windows_lent w.old) (state_lent s.old))
+        (number_of result) (state_lent s.new) (windows_lent w.new) }
 {
-    let from = *pc;
-    let found = stack::pass::read_octa(a, b, at, from);
+    let from = *s.pc;
+    let lent = w.read();
+    let found = stack::pass::read_octa(lent.a, lent.b, lent.at, from);
     if found.holder == Octabyte::IN_NEITHER {
-        return replies::NOT_FETCHED;
+        return Reply::NotFetched;
     }
-    let v = found.value;
-    let tetra = decode::operand::tetra_at(from, v);
-    attempt(general, special, pc, halt, marks, mask, a, b, at, tetra)
+    attempt(s, w, operand::tetra_at(from, found.value))
 }
 
 /// Instruction by instruction, until the grant is spent or one is refused, which isn't counted.
-fn turns(
-    general: &mut [u64; 256],
-    special: &mut [u64; 32],
-    pc: &mut u64,
-    halt: &mut u64,
-    marks: u64,
-    mask: u64,
-    a: &mut [u8],
-    b: &mut [u8],
-    at: Bases,
-    grant: u64,
-    done: &mut u64,
-) -> u64
-    requires { (admissible (made general.old special.old pc.old halt.old marks mask) ≡ true)
-        × (unruled_by (shapes_of (lent at a.old b.old)) ≡ 0) }
-    ensures { RunNumbered
-        (run_for both mmix fetched grant
-        (made general.old special.old pc.old halt.old marks mask) (lent at a.old b.old))
-        result done.new
-        (made general.new special.new pc.new halt.new marks mask) (lent at a.new b.new) }
+fn turns(s: &mut StateMut<'_>, w: &mut WindowsMut<'_>, grant: u64) -> Ran
+    requires { (admissible (state_lent s.old) ≡ true) × (unruled_by (shapes_of (windows_lent w.old)) ≡ 0) }
+    ensures same { SameState s.old s.new × SameWindows w.old w.new }
+    ensures numbered { RunNumbered (run_for both mmix fetched grant (state_lent s.old) (windows_lent w.old))
+        (number_of result.reply) result.done (state_lent s.new) (windows_lent w.new) }
 {
-    stack::pass::counted(general, special);
-    let mut i: u64 = 0;
-    while i < grant {
-        let number = fetched(general, special, pc, halt, marks, mask, a, b, at);
-        if number != replies::DONE {
-            *done = i;
-            return number;
+    stack::pass::counted(s.general, s.special);
+    for done in 0..grant {
+        let reply = fetched(s, w);
+        if reply != Reply::Done {
+            return Ran { reply, done };
         }
-        i += 1;
     }
-    *done = i;
-    replies::DONE
+    Ran {
+        reply: Reply::Done,
+        done: grant,
+    }
 }
 
-/// A run in place: 1, 2, 22 and 25 judged once, in this order; then up to `grant` instructions. How many were done is written at every reply.
-pub fn run(
-    general: &mut [u64; 256],
-    special: &mut [u64; 32],
-    pc: &mut u64,
-    halt: &mut u64,
-    marks: u64,
-    mask: u64,
-    a: &mut [u8],
-    b: &mut [u8],
-    at: Bases,
-    grant: u64,
-    done: &mut u64,
-) -> u64
-    ensures { RunNumbered
-        (run_of (lent at a.old b.old)
-        (made general.old special.old pc.old halt.old marks mask) grant)
-        result done.new
-        (made general.new special.new pc.new halt.new marks mask) (lent at a.new b.new) }
+/// A run in place: 1, 2, 22 and 25 judged once, in this order; then up to `grant` instructions.
+pub fn run(s: &mut StateMut<'_>, w: &mut WindowsMut<'_>, grant: u64) -> Ran
+    ensures same { SameState s.old s.new × SameWindows w.old w.new }
+    ensures numbered { RunNumbered (run_of (windows_lent w.old) (state_lent s.old) grant)
+        (number_of result.reply) result.done (state_lent s.new) (windows_lent w.new) }
 {
-    *done = 0;
-    let number = stack::pass::refusal(special, marks, mask, a, b, at);
-    if number != replies::DONE {
-        return number;
+    let lent = w.read();
+    let number = stack::pass::refusal(s.special, s.marks, s.mask, lent.a, lent.b, lent.at);
+    if number != 0 {
+        return Ran {
+            reply: replies::reply_of(number),
+            done: 0,
+        };
     }
     if GRANT_MOST < grant {
-        return replies::GRANT_TOO_LARGE;
+        return Ran {
+            reply: Reply::GrantTooLarge,
+            done: 0,
+        };
     }
-    turns(
-        general, special, pc, halt, marks, mask, a, b, at, grant, done,
-    )
+    turns(s, w, grant)
 }

@@ -1,228 +1,101 @@
 // One step in place: the judging of 1, 2 and 22, then the choice by opcode. The arms are in the other files.
-ghost use Rattle.std.specs.Prelude.{◌≡◌, true, false, List, ℕ, ◌%◌, ◌≤◌};
+ghost use Rattle.std.specs.Prelude.{◌≡◌, true, false};
 ghost use Rattle.model.specs.Memory.{shapes_of};
 ghost use Rattle.model.specs.Registers.{admissible};
+ghost use Rattle.model.specs.Numbers.{number_of};
 ghost use Rattle.model.specs.Opcodes.{first_branch, last_branch, among};
-ghost use Rattle.model.specs.Parts.{made, lent};
+ghost use Rattle.model.specs.Lent.{state_lent, windows_lent, SameState, SameWindows};
 ghost use Rattle.model.specs.Step.{unruled_by, step_of};
-ghost use Rattle.stack.specs.GivenBack.{refusal_on};
 ghost use Rattle.arms.specs.Replied.{Replied};
-ghost use Rattle.instruction.specs.StepAnswer.{Numbered, judged_code, lent_at};
+ghost use Rattle.instruction.specs.StepAnswer.{Numbered};
 ghost use Rattle.arms.specs.Arms.{NoCall, ranged_of};
 
 use arms::{calls, control, load_store, operations, registers, saves, system};
 use decode::{opcode, target};
-use model::replies::number_of;
-use model::{Bases, Reply, replies};
+use model::{Instruction, Reply, StateMut, WindowsMut, replies};
 
 /// The opcodes that come in ranges, the branches apart: a question for each range, then 3. PUT and PUTI are asked for together, so that their arm is called
 /// once and stands in line.
-fn by_range(
-    general: &mut [u64; 256],
-    special: &mut [u64; 32],
-    pc: &mut u64,
-    halt: &mut u64,
-    marks: u64,
-    mask: u64,
-    a: &mut [u8],
-    b: &mut [u8],
-    at: Bases,
-    op: u8,
-    x: u8,
-    y: u8,
-    z: u8,
-) -> Reply
-    ensures { Replied
-        (ranged_of (lent at a.old b.old)
-        (made general.old special.old pc.old halt.old marks mask) op x y z)
-        result (made general.new special.new pc.new halt.new marks mask) (lent at a.new b.new) }
+fn by_range(s: &mut StateMut<'_>, w: &mut WindowsMut<'_>, i: Instruction) -> Reply
+    ensures same { SameState s.old s.new × SameWindows w.old w.new }
+    ensures replied { Replied (ranged_of (windows_lent w.old) (state_lent s.old) i.op i.x i.y i.z)
+        result (state_lent s.new) (windows_lent w.new) }
 {
-    if opcode::is_among(op, opcode::FIRST_LOAD, opcode::LAST_LOAD) {
-        return load_store::load(general, special, pc, a, b, at, op, x, y, z);
+    if opcode::is_among(i.op, opcode::FIRST_LOAD, opcode::LAST_LOAD) {
+        return load_store::load(s, w, i);
     }
-    if opcode::is_among(op, opcode::FIRST_STORE, opcode::LAST_STORE) {
-        return load_store::store(general, special, pc, halt, marks, a, b, at, op, x, y, z);
+    if opcode::is_among(i.op, opcode::FIRST_STORE, opcode::LAST_STORE) {
+        return load_store::store(s, w, i);
     }
-    if opcode::is_among(op, opcode::FIRST_ARITHMETIC, opcode::LAST_ARITHMETIC) {
-        return operations::compute(general, special, pc, halt, marks, op, x, y, z);
+    if opcode::is_among(i.op, opcode::FIRST_ARITHMETIC, opcode::LAST_ARITHMETIC) {
+        return operations::compute(s, i);
     }
-    if opcode::is_among(op, opcode::PUT, opcode::PUTI) {
-        return system::put_by(general, special, pc, halt, mask, op, x, z);
+    if opcode::is_among(i.op, opcode::PUT, opcode::PUTI) {
+        return system::put_by(s, i);
     }
     Reply::NoArm
 }
 
 /// The arm of an opcode that is no branch and no call, or 3. Each opcode of the match is a key by itself, so that the choice is a jump and no chain of tests.
-fn by_key(
-    general: &mut [u64; 256],
-    special: &mut [u64; 32],
-    pc: &mut u64,
-    halt: &mut u64,
-    marks: u64,
-    mask: u64,
-    a: &mut [u8],
-    b: &mut [u8],
-    at: Bases,
-    op: u8,
-    x: u8,
-    y: u8,
-    z: u8,
-) -> Reply
-    requires { (admissible (made general.old special.old pc.old halt.old marks mask) ≡ true)
-        × (unruled_by (shapes_of (lent at a.old b.old)) ≡ 0) × (among first_branch last_branch op ≡ false) × (NoCall op) }
-    ensures { Replied
-        (step_of (lent at a.old b.old)
-        (made general.old special.old pc.old halt.old marks mask) op x y z)
-        result (made general.new special.new pc.new halt.new marks mask) (lent at a.new b.new) }
+fn by_key(s: &mut StateMut<'_>, w: &mut WindowsMut<'_>, i: Instruction) -> Reply
+    requires { (admissible (state_lent s.old) ≡ true)
+        × (unruled_by (shapes_of (windows_lent w.old)) ≡ 0) × (among first_branch last_branch i.op ≡ false) × (NoCall i.op) }
+    ensures same { SameState s.old s.new × SameWindows w.old w.new }
+    ensures replied { Replied (step_of (windows_lent w.old) (state_lent s.old) i.op i.x i.y i.z)
+        result (state_lent s.new) (windows_lent w.new) }
 {
-    match op {
-        opcode::TRAP => exceptions::trap_arm(general, special, *pc, halt, op, x, y, z),
-        opcode::GO => control::go_by(general, special, pc, op, x, y, z),
-        opcode::GOI => control::go_by(general, special, pc, op, x, y, z),
-        opcode::JMP => control::jump(pc, op, x, y, z),
-        opcode::JMPB => control::jump(pc, op, x, y, z),
-        opcode::GETA => registers::get_address(general, special, pc, op, x, y, z),
-        opcode::GETAB => registers::get_address(general, special, pc, op, x, y, z),
-        opcode::POP => calls::pop_to_judged(general, special, pc, halt, a, b, at, x, y, z),
-        opcode::SAVE => saves::save_to_judged(general, special, pc, halt, marks, mask, a, b, at, x),
-        opcode::UNSAVE => { system::unsave_register(general, special, pc, halt, a, b, at, z) }
-        opcode::SYNC => registers::synchronize(pc, halt, x, y, z),
-        opcode::SWYM => system::skip(pc),
-        opcode::GET => registers::get_special(general, special, pc, halt, mask, x, z),
-        opcode::TRIP => exceptions::trip_arm(general, special, pc, halt, marks, op, x, y, z),
-        _ => by_range(
-            general, special, pc, halt, marks, mask, a, b, at, op, x, y, z,
-        ),
+    match i.op {
+        opcode::TRAP => exceptions::trap_arm(s, i),
+        opcode::GO => control::go_by(s, i),
+        opcode::GOI => control::go_by(s, i),
+        opcode::JMP => control::jump(s, i),
+        opcode::JMPB => control::jump(s, i),
+        opcode::GETA => registers::get_address(s, i),
+        opcode::GETAB => registers::get_address(s, i),
+        opcode::POP => calls::pop_to_judged(s, w, i),
+        opcode::SAVE => saves::save_to_judged(s, w, i.x),
+        opcode::UNSAVE => system::unsave_register(s, w, i.z),
+        opcode::SYNC => registers::synchronize(s, i),
+        opcode::SWYM => system::skip(s),
+        opcode::GET => registers::get_special(s, i.x, i.z),
+        opcode::TRIP => exceptions::trip_arm(s, i),
+        _ => by_range(s, w, i),
     }
 }
 
-/// The arm, or 3, once 1, 2 and 22 have passed. The four calls differ in their target alone: the frame is pushed in one place, so that its code stands in line.
-pub(crate) fn dispatch(
-    general: &mut [u64; 256],
-    special: &mut [u64; 32],
-    pc: &mut u64,
-    halt: &mut u64,
-    marks: u64,
-    mask: u64,
-    a: &mut [u8],
-    b: &mut [u8],
-    at: Bases,
-    op: u8,
-    x: u8,
-    y: u8,
-    z: u8,
-) -> Reply
-    requires { (admissible (made general.old special.old pc.old halt.old marks mask) ≡ true)
-        × (unruled_by (shapes_of (lent at a.old b.old)) ≡ 0) }
-    ensures { Replied
-        (step_of (lent at a.old b.old)
-        (made general.old special.old pc.old halt.old marks mask) op x y z)
-        result (made general.new special.new pc.new halt.new marks mask) (lent at a.new b.new) }
+/// The arm, or 3, once 1, 2 and 22 have passed. This is the one place where an arm is chosen, by a step as by a run, so that the arms stand in line. The four
+/// calls differ in their target alone: the frame is pushed in one place, so that its code stands in line.
+pub(crate) fn dispatch(s: &mut StateMut<'_>, w: &mut WindowsMut<'_>, i: Instruction) -> Reply
+    requires { (admissible (state_lent s.old) ≡ true) × (unruled_by (shapes_of (windows_lent w.old)) ≡ 0) }
+    ensures same { SameState s.old s.new × SameWindows w.old w.new }
+    ensures replied { Replied (step_of (windows_lent w.old) (state_lent s.old) i.op i.x i.y i.z)
+        result (state_lent s.new) (windows_lent w.new) }
 {
-    if opcode::is_among(op, opcode::FIRST_BRANCH, opcode::LAST_BRANCH) {
-        return control::branch(general, pc, op, x, y, z);
+    if opcode::is_among(i.op, opcode::FIRST_BRANCH, opcode::LAST_BRANCH) {
+        return control::branch(s, i);
     }
-    let target = match op {
-        opcode::PUSHGO => control::sum(general, op, y, z),
-        opcode::PUSHGOI => control::sum(general, op, y, z),
-        opcode::PUSHJ => target::near(*pc, op, y, z),
-        opcode::PUSHJB => target::near(*pc, op, y, z),
+    let target = match i.op {
+        opcode::PUSHGO => control::sum(s.general, i),
+        opcode::PUSHGOI => control::sum(s.general, i),
+        opcode::PUSHJ => target::near(*s.pc, i),
+        opcode::PUSHJB => target::near(*s.pc, i),
         _ => {
-            return by_key(
-                general, special, pc, halt, marks, mask, a, b, at, op, x, y, z,
-            );
+            return by_key(s, w, i);
         }
     };
-    calls::push_to_judged(general, special, pc, a, b, at, x, target)
+    calls::push_to_judged(s, w, i.x, target)
 }
 
-/// What is added to an opcode to say that 1, 2 and 22 have passed.
-pub(crate) const JUDGED: u64 = 256;
-
-/// The number by which state or windows are refused, where they are still to be judged.
-fn refusal_of(
-    special: &[u64; 32],
-    marks: u64,
-    mask: u64,
-    a: &[u8],
-    b: &[u8],
-    at: Bases,
-    op: u64,
-) -> u64
-    requires { judged_code ≤ op → (general : List ℕ) (pc halt : ℕ)
-        → refusal_on (lent at a.now b.now) (made general special.now pc halt marks mask) ≡ 0 }
-    ensures { (general : List ℕ) (pc halt : ℕ) → result
-        ≡ refusal_on (lent at a.now b.now) (made general special.now pc halt marks mask) }
+/// One step in place: 1, then 2, then 22, then 3 to 5 and the instruction's own.
+pub fn step(s: &mut StateMut<'_>, w: &mut WindowsMut<'_>, i: Instruction) -> Reply
+    ensures same { SameState s.old s.new × SameWindows w.old w.new }
+    ensures numbered { Numbered (step_of (windows_lent w.old) (state_lent s.old) i.op i.x i.y i.z)
+        (number_of result) (state_lent s.new) (windows_lent w.new) }
 {
-    if JUDGED <= op {
-        return replies::DONE;
-    }
-    stack::pass::refusal(special, marks, mask, a, b, at)
-}
-
-/// One step in place: 1, then 2, then 22, unless the opcode says that they have passed; then 3 to 5 and the instruction's own. This is the one place where an
-/// arm is chosen, by a step as by a run, so that the arms stand in line. Its parameters are those of mmix_step_parts, in their order: nothing is moved to call it.
-pub(crate) fn stepped(
-    base_a: u64,
-    base_b: u64,
-    op: u64,
-    x: u8,
-    y: u8,
-    z: u8,
-    general: &mut [u64; 256],
-    special: &mut [u64; 32],
-    pc: &mut u64,
-    halt: &mut u64,
-    marks: u64,
-    mask: u64,
-    a: &mut [u8],
-    b: &mut [u8],
-) -> u64
-    requires { judged_code ≤ op
-        → refusal_on (lent_at base_a base_b a.old b.old) (made general.old special.old pc.old halt.old marks mask) ≡ 0 }
-    ensures { Numbered
-        (step_of (lent_at base_a base_b a.old b.old)
-        (made general.old special.old pc.old halt.old marks mask) (op % judged_code) x y z)
-        result (made general.new special.new pc.new halt.new marks mask)
-        (lent_at base_a base_b a.new b.new) }
-{
-    let at = Bases {
-        a: base_a,
-        b: base_b,
-    };
-    let number = refusal_of(special, marks, mask, a, b, at, op);
+    let lent = w.read();
+    let number = stack::pass::refusal(s.special, s.marks, s.mask, lent.a, lent.b, lent.at);
     if number != 0 {
-        return number;
+        return replies::reply_of(number);
     }
-    let code = (op % JUDGED) as u8;
-    let reply = dispatch(
-        general, special, pc, halt, marks, mask, a, b, at, code, x, y, z,
-    );
-    number_of(reply)
-}
-
-/// One step in place, and the number of its reply.
-pub fn step(
-    general: &mut [u64; 256],
-    special: &mut [u64; 32],
-    pc: &mut u64,
-    halt: &mut u64,
-    marks: u64,
-    mask: u64,
-    a: &mut [u8],
-    b: &mut [u8],
-    at: Bases,
-    op: u8,
-    x: u8,
-    y: u8,
-    z: u8,
-) -> u64
-    ensures { Numbered
-        (step_of (lent at a.old b.old)
-        (made general.old special.old pc.old halt.old marks mask) op x y z)
-        result (made general.new special.new pc.new halt.new marks mask) (lent at a.new b.new) }
-{
-    stepped(
-        at.a, at.b, op as u64, x, y, z, general, special, pc, halt, marks, mask, a, b,
-    )
+    dispatch(s, w, i)
 }

@@ -1,21 +1,19 @@
 -- `fetched` meets its contract: the octabyte that PC names, the tetra there, and what it says.
-use Rattle.model.proofs.Prelude.{◌∙◌, lent, made}
+use Rattle.model.proofs.Prelude.{◌∙◌, number_of, state_lent, windows_lent}
 use Rattle.instruction.proofs.Prelude.{octa_held}
 use Rattle.instruction.proofs.RunTurned.{not_fetched, was_fetched}
 use Rattle.instruction.proofs.run.fetched.Goals as goal
 
-pub returns-then-found-eq-IN_NEITHER : goal.returns-then-found-eq-IN_NEITHER
-returns-then-found-eq-IN_NEITHER c =
-    let a = c.args in
-    let w = lent a.at a.a.now a.b.now in
-    let s = made a.general.now a.special.now a.pc.now a.halt.now a.marks a.mask in
-    not_fetched w s c.requires.0 c.requires.1 _ c.read_octa-found.ensures.1 c.if-found-eq-IN_NEITHER.true
+pub returns-then-found-eq-IN_NEITHER-clause-numbered : goal.returns-then-found-eq-IN_NEITHER-clause-numbered
+unfolding number_of
+returns-then-found-eq-IN_NEITHER-clause-numbered c =
+    not_fetched (windows_lent c.args.w.now) (state_lent c.args.s.now) c.requires.0 c.requires.1 _ (rw c.read-lent.ensures at c.read_octa-found.ensures.1) c.if-found-eq-IN_NEITHER.true
 
-pub returns : goal.returns
-returns c =
-    let a = c.args in
-    let w = lent a.at a.a.now a.b.now in
-    let s = made a.general.now a.special.now a.pc.now a.halt.now a.marks a.mask in
-    let held = c.read_octa-found.ensures.1 in
-    was_fetched w s c.requires.0 c.requires.1 _ held c.if-found-eq-IN_NEITHER.false _ _ (c.read_octa-found.ensures.0 ∙ octa_held w a.pc.now (λ q. c.if-found-eq-IN_NEITHER.false (held ∙ q)))
-    c.tetra_at-tetra.ensures.0 _ (made _ _ _ _ _ _) _ c.attempt.ensures
+pub returns-clause-numbered : goal.returns-clause-numbered
+returns-clause-numbered c =
+    let w = windows_lent c.args.w.now in
+    let s = state_lent c.args.s.now in
+    let held = rw c.read-lent.ensures at c.read_octa-found.ensures.1 in
+    let value = rw c.read-lent.ensures at c.read_octa-found.ensures.0 in
+    was_fetched w s c.requires.0 c.requires.1 _ held c.if-found-eq-IN_NEITHER.false _ _ (value ∙ octa_held w s.pc (λ q. c.if-found-eq-IN_NEITHER.false (held ∙ q)))
+    c.tetra_at.ensures _ _ _ c.attempt.ensures.numbered

@@ -1,33 +1,32 @@
 -- `run` meets its contract: 1, 2 and 22 by one number, 25, and else it is the turns.
-use Rattle.model.proofs.Prelude.{sym, ◌∙◌, lent, made}
+use Rattle.model.proofs.Prelude.{sym, ◌∙◌, number_of, state_lent, windows_lent}
 use Rattle.instruction.proofs.Prelude.{judged_by}
+use Rattle.instruction.proofs.EarlyRefusals.{refused_reply, refused_not_done}
 use Rattle.instruction.proofs.RunTurned.{run_unopened, run_large, run_turns}
 use Rattle.instruction.proofs.run.run.Goals as goal
 
-pub returns-then-number-ne-DONE : goal.returns-then-number-ne-DONE
-returns-then-number-ne-DONE c =
-    let a = c.args in
-    let w = lent a.at a.a.now a.b.now in
-    let s = made a.general.now a.special.now a.pc.now a.halt.now a.marks a.mask in
-    run_unopened w s a.grant _ (c.refusal-number.ensures a.general.now a.pc.now a.halt.now) c.if-number-ne-DONE.true
+pub returns-then-number-ne0-clause-numbered : goal.returns-then-number-ne0-clause-numbered
+returns-then-number-ne0-clause-numbered c =
+    let s = state_lent c.args.s.now in
+    let w = windows_lent c.args.w.now in
+    let e = rw c.read-lent.ensures at (c.refusal-number.ensures s.general s.pc s.halt) in
+    run_unopened w s c.args.grant _ (refused_reply w s _ _ e c.reply_of.ensures) (refused_not_done w s _ _ e c.reply_of.ensures c.if-number-ne0.true)
 
-pub returns-then-grant-gt-GRANT_MOST : goal.returns-then-grant-gt-GRANT_MOST
-returns-then-grant-gt-GRANT_MOST c =
-    let a = c.args in
-    let w = lent a.at a.a.now a.b.now in
-    let s = made a.general.now a.special.now a.pc.now a.halt.now a.marks a.mask in
-    run_large w s a.grant (sym (c.refusal-number.ensures a.general.now a.pc.now a.halt.now) ∙ c.if-number-ne-DONE.false) c.if-grant-gt-GRANT_MOST.true
+pub returns-then-grant-gt-GRANT_MOST-clause-numbered : goal.returns-then-grant-gt-GRANT_MOST-clause-numbered
+unfolding number_of
+returns-then-grant-gt-GRANT_MOST-clause-numbered c =
+    let s = state_lent c.args.s.now in
+    let e = rw c.read-lent.ensures at (c.refusal-number.ensures s.general s.pc s.halt) in
+    run_large (windows_lent c.args.w.now) s c.args.grant (sym e ∙ c.if-number-ne0.false) c.if-grant-gt-GRANT_MOST.true
 
 pub turns-requires : goal.turns-requires
 turns-requires c =
-    let a = c.args in
-    let w = lent a.at a.a.now a.b.now in
-    let s = made a.general.now a.special.now a.pc.now a.halt.now a.marks a.mask in
-    judged_by w s (sym (c.refusal-number.ensures a.general.now a.pc.now a.halt.now) ∙ c.if-number-ne-DONE.false)
+    let s = state_lent c.args.s.now in
+    let e = rw c.read-lent.ensures at (c.refusal-number.ensures s.general s.pc s.halt) in
+    judged_by (windows_lent c.args.w.now) s (sym e ∙ c.if-number-ne0.false)
 
-pub returns : goal.returns
-returns c =
-    let a = c.args in
-    let w = lent a.at a.a.now a.b.now in
-    let s = made a.general.now a.special.now a.pc.now a.halt.now a.marks a.mask in
-    run_turns w s a.grant (sym (c.refusal-number.ensures a.general.now a.pc.now a.halt.now) ∙ c.if-number-ne-DONE.false) c.if-grant-gt-GRANT_MOST.false _ _ (made _ _ _ _ _ _) (lent _ _ _) c.turns.ensures
+pub returns-clause-numbered : goal.returns-clause-numbered
+returns-clause-numbered c =
+    let s = state_lent c.args.s.now in
+    let e = rw c.read-lent.ensures at (c.refusal-number.ensures s.general s.pc s.halt) in
+    run_turns (windows_lent c.args.w.now) s c.args.grant (sym e ∙ c.if-number-ne0.false) c.if-grant-gt-GRANT_MOST.false _ _ _ _ c.turns.ensures.numbered

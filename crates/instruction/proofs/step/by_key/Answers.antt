@@ -1,7 +1,7 @@
 -- `by_key` meets its contract: the key that matched names the arm, and what the arm ensures is the step; no key, then a range's arm or none.
 use Rattle.model.proofs.Prelude.{ℕ, false, List, [], ◌∷◌, refl, ◌≡◌, ne_eqb, among, arm_of, control, direction_of, first_branch, get_address, go, jump}
 use Rattle.model.proofs.Prelude.{last_branch, last_of, none, op_get, op_geta, op_getab, op_go, op_goi, op_jmp, op_jmpb, op_pop, op_pushgo, op_pushgoi, op_pushj, op_pushjb}
-use Rattle.model.proofs.Prelude.{op_put, op_puti, op_save, op_swym, op_sync, op_trap, op_trip, op_unsave, pop, save, stack, swym, sync, system, trip, unsave, made}
+use Rattle.model.proofs.Prelude.{op_put, op_puti, op_save, op_swym, op_sync, op_trap, op_trip, op_unsave, pop, save, stack, swym, sync, system, trip, unsave, state_lent}
 use Rattle.model.proofs.Prelude.{Missed, missed}
 use Rattle.instruction.proofs.Prelude.{admissible_placed, NoCall, only_step, quiet_step, touching_step}
 use Rattle.contexts.specs.SaveUnsave.{save_in, unsave_in}
@@ -33,76 +33,76 @@ no_arm op b n m r =
       missed keys op m,
     )
 
-pub returns-in-0 : goal.returns-in-0
+pub returns-in-0-clause-replied : goal.returns-in-0-clause-replied
 unfolding arm_of
-returns-in-0 c =
-    trap_step' _ _ c.requires.0 c.requires.1 _ _ _ _ _ (made _ _ _ _ _ _) (rw c.in-0.is) (c.trap_arm.ensures c.args.marks c.args.mask)
+returns-in-0-clause-replied c =
+    trap_step' _ _ c.requires.0 c.requires.1 _ _ _ _ _ _ (rw c.in-0.is) (c.trap_arm.ensures.told)
 
-pub returns-in-158 : goal.returns-in-158
+pub returns-in-158-clause-replied : goal.returns-in-158-clause-replied
 unfolding arm_of
-returns-in-158 c =
-    quiet_step _ _ c.requires.0 c.requires.1 _ _ _ _ _ (made _ _ _ _ _ _) (control (go (last_of c.args.op))) (rw c.in-158.is) _ refl refl (c.go_by.ensures _ _ _)
+returns-in-158-clause-replied c =
+    quiet_step _ _ c.requires.0 c.requires.1 _ _ _ _ _ _ (control (go (last_of c.args.i.op))) (rw c.in-158.is) _ refl refl (c.go_by.ensures.told)
 
-pub returns-in-159 : goal.returns-in-159
+pub returns-in-159-clause-replied : goal.returns-in-159-clause-replied
 unfolding arm_of
-returns-in-159 c =
-    quiet_step _ _ c.requires.0 c.requires.1 _ _ _ _ _ (made _ _ _ _ _ _) (control (go (last_of c.args.op))) (rw c.in-159.is) _ refl refl (c.go_by-in-159.ensures _ _ _)
+returns-in-159-clause-replied c =
+    quiet_step _ _ c.requires.0 c.requires.1 _ _ _ _ _ _ (control (go (last_of c.args.i.op))) (rw c.in-159.is) _ refl refl (c.go_by-in-159.ensures.told)
 
-pub returns-in-240 : goal.returns-in-240
+pub returns-in-240-clause-replied : goal.returns-in-240-clause-replied
 unfolding arm_of
-returns-in-240 c =
-    quiet_step _ _ c.requires.0 c.requires.1 _ _ _ _ _ (made _ _ _ _ _ _) (control (jump (direction_of c.args.op))) (rw c.in-240.is) _ refl refl (c.jump.ensures _ _ _ _ _)
+returns-in-240-clause-replied c =
+    quiet_step _ _ c.requires.0 c.requires.1 _ _ _ _ _ _ (control (jump (direction_of c.args.i.op))) (rw c.in-240.is) _ refl refl (c.jump.ensures.told)
 
-pub returns-in-241 : goal.returns-in-241
+pub returns-in-241-clause-replied : goal.returns-in-241-clause-replied
 unfolding arm_of
-returns-in-241 c =
-    quiet_step _ _ c.requires.0 c.requires.1 _ _ _ _ _ (made _ _ _ _ _ _) (control (jump (direction_of c.args.op))) (rw c.in-241.is) _ refl refl (c.jump-in-241.ensures _ _ _ _ _)
+returns-in-241-clause-replied c =
+    quiet_step _ _ c.requires.0 c.requires.1 _ _ _ _ _ _ (control (jump (direction_of c.args.i.op))) (rw c.in-241.is) _ refl refl (c.jump-in-241.ensures.told)
 
-pub returns-in-244 : goal.returns-in-244
+pub returns-in-244-clause-replied : goal.returns-in-244-clause-replied
 unfolding arm_of
-returns-in-244 c =
-    quiet_step _ _ c.requires.0 c.requires.1 _ _ _ _ _ (made _ _ _ _ _ _) (control (get_address (direction_of c.args.op))) (rw c.in-244.is) _ refl refl (c.get_address.ensures _ _ _)
+returns-in-244-clause-replied c =
+    quiet_step _ _ c.requires.0 c.requires.1 _ _ _ _ _ _ (control (get_address (direction_of c.args.i.op))) (rw c.in-244.is) _ refl refl (c.get_address.ensures.told)
 
-pub returns-in-245 : goal.returns-in-245
+pub returns-in-245-clause-replied : goal.returns-in-245-clause-replied
 unfolding arm_of
-returns-in-245 c =
-    quiet_step _ _ c.requires.0 c.requires.1 _ _ _ _ _ (made _ _ _ _ _ _) (control (get_address (direction_of c.args.op))) (rw c.in-245.is) _ refl refl (c.get_address-in-245.ensures _ _ _)
+returns-in-245-clause-replied c =
+    quiet_step _ _ c.requires.0 c.requires.1 _ _ _ _ _ _ (control (get_address (direction_of c.args.i.op))) (rw c.in-245.is) _ refl refl (c.get_address-in-245.ensures.told)
 
-pub returns-in-248 : goal.returns-in-248
+pub returns-in-248-clause-replied : goal.returns-in-248-clause-replied
 unfolding arm_of
-returns-in-248 c =
-    only_step _ _ c.requires.0 c.requires.1 _ _ _ _ _ (made _ _ _ _ _ _) (stack pop) (rw c.in-248.is) _ refl _ _ (admissible_placed _ c.requires.0) _ refl (c.pop_to_judged.ensures _ _)
+returns-in-248-clause-replied c =
+    only_step _ _ c.requires.0 c.requires.1 _ _ _ _ _ _ (stack pop) (rw c.in-248.is) _ refl _ _ (admissible_placed _ c.requires.0) _ refl (c.pop_to_judged.ensures.replied)
 
-pub returns-in-250 : goal.returns-in-250
+pub returns-in-250-clause-replied : goal.returns-in-250-clause-replied
 unfolding arm_of save_in
-returns-in-250 c =
-    only_step _ _ c.requires.0 c.requires.1 _ _ _ _ _ (made _ _ _ _ _ _) (stack save) (rw c.in-250.is) _ refl _ _ c.requires.0 _ refl c.save_to_judged.ensures
+returns-in-250-clause-replied c =
+    only_step _ _ c.requires.0 c.requires.1 _ _ _ _ _ _ (stack save) (rw c.in-250.is) _ refl _ _ c.requires.0 _ refl c.save_to_judged.ensures.replied
 
-pub returns-in-251 : goal.returns-in-251
+pub returns-in-251-clause-replied : goal.returns-in-251-clause-replied
 unfolding arm_of unsave_in
-returns-in-251 c =
-    touching_step _ _ c.requires.0 c.requires.1 _ _ _ _ _ (made _ _ _ _ _ _) (stack unsave) (rw c.in-251.is) _ refl _ (c.unsave_register.ensures _ _)
+returns-in-251-clause-replied c =
+    touching_step _ _ c.requires.0 c.requires.1 _ _ _ _ _ _ (stack unsave) (rw c.in-251.is) _ refl _ (c.unsave_register.ensures.replied)
 
-pub returns-in-252 : goal.returns-in-252
+pub returns-in-252-clause-replied : goal.returns-in-252-clause-replied
 unfolding arm_of
-returns-in-252 c =
-    quiet_step _ _ c.requires.0 c.requires.1 _ _ _ _ _ (made _ _ _ _ _ _) (system sync) (rw c.in-252.is) _ refl refl (c.synchronize.ensures _ _ _ _)
+returns-in-252-clause-replied c =
+    quiet_step _ _ c.requires.0 c.requires.1 _ _ _ _ _ _ (system sync) (rw c.in-252.is) _ refl refl (c.synchronize.ensures.told)
 
-pub returns-in-253 : goal.returns-in-253
+pub returns-in-253-clause-replied : goal.returns-in-253-clause-replied
 unfolding arm_of
-returns-in-253 c =
-    quiet_step _ _ c.requires.0 c.requires.1 _ _ _ _ _ (made _ _ _ _ _ _) (system swym) (rw c.in-253.is) _ refl refl (c.skip.ensures _ _ _ _ _)
+returns-in-253-clause-replied c =
+    quiet_step _ _ c.requires.0 c.requires.1 _ _ _ _ _ _ (system swym) (rw c.in-253.is) _ refl refl (c.skip.ensures.told)
 
-pub returns-in-254 : goal.returns-in-254
+pub returns-in-254-clause-replied : goal.returns-in-254-clause-replied
 unfolding arm_of
-returns-in-254 c =
-    get_step _ _ c.requires.0 c.requires.1 _ _ _ _ _ (made _ _ _ _ _ _) (rw c.in-254.is) (c.get_special.ensures _)
+returns-in-254-clause-replied c =
+    get_step _ _ c.requires.0 c.requires.1 _ _ _ _ _ _ (rw c.in-254.is) (c.get_special.ensures.told)
 
-pub returns-in-255 : goal.returns-in-255
+pub returns-in-255-clause-replied : goal.returns-in-255-clause-replied
 unfolding arm_of trip_of
-returns-in-255 c =
-    quiet_step _ _ c.requires.0 c.requires.1 _ _ _ _ _ (made _ _ _ _ _ _) (system trip) (rw c.in-255.is) _ refl refl (c.trip_arm.ensures _)
+returns-in-255-clause-replied c =
+    quiet_step _ _ c.requires.0 c.requires.1 _ _ _ _ _ _ (system trip) (rw c.in-255.is) _ refl refl (c.trip_arm.ensures.told)
 
-pub returns-in_default : goal.returns-in_default
-returns-in_default c =
-    ranged_step _ _ c.requires.0 c.requires.1 _ _ _ _ _ (made _ _ _ _ _ _) _ (no_arm _ c.requires.2 c.requires.3 c.in_default.in_default-own.rest) c.by_range.ensures
+pub returns-in_default-clause-replied : goal.returns-in_default-clause-replied
+returns-in_default-clause-replied c =
+    ranged_step _ _ c.requires.0 c.requires.1 _ _ _ _ _ _ _ (no_arm _ c.requires.2 c.requires.3 c.in_default.in_default-own.rest) c.by_range.ensures.replied

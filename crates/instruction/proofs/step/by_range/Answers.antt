@@ -4,37 +4,37 @@ use Rattle.instruction.proofs.Prelude.{ranged_of}
 use Rattle.std.proofs.Common.{rules}
 use Rattle.instruction.proofs.step.by_range.Goals as goal
 
-pub returns-then-is_among : goal.returns-then-is_among
+pub returns-then-is_among-clause-replied : goal.returns-then-is_among-clause-replied
 unfolding ranged_of
-returns-then-is_among c =
+returns-then-is_among-clause-replied c =
     let a = c.args in
-    rw (sym c.is_among.ensures ∙ c.if-is_among.true) (c.load.ensures a.halt.now a.marks a.mask)
+    rw (sym c.is_among.ensures ∙ c.if-is_among.true) (c.load.ensures.replied)
 
-pub returns-then-is_among-2 : goal.returns-then-is_among-2
+pub returns-then-is_among-2-clause-replied : goal.returns-then-is_among-2-clause-replied
 unfolding ranged_of
-returns-then-is_among-2 c =
-    rw (sym c.is_among.ensures ∙ c.if-is_among.false, sym c.is_among-2.ensures ∙ c.if-is_among-2.true) (c.store.ensures c.args.mask)
+returns-then-is_among-2-clause-replied c =
+    rw (sym c.is_among.ensures ∙ c.if-is_among.false, sym c.is_among-2.ensures ∙ c.if-is_among-2.true) (c.store.ensures.replied)
 
-pub returns-then-is_among-3 : goal.returns-then-is_among-3
+pub returns-then-is_among-3-clause-replied : goal.returns-then-is_among-3-clause-replied
 unfolding ranged_of
-returns-then-is_among-3 c =
+returns-then-is_among-3-clause-replied c =
     rw (sym c.is_among.ensures ∙ c.if-is_among.false, sym c.is_among-2.ensures ∙ c.if-is_among-2.false, sym c.is_among-3.ensures ∙ c.if-is_among-3.true)
-    (let told = c.compute.ensures c.args.mask in record { reply_is = told.reply_is; state_is = told.state_is; window_is = refl })
+    (let told = c.compute.ensures.told in record { reply_is = told.reply_is; state_is = told.state_is; window_is = refl })
 
-pub returns-then-is_among-4 : goal.returns-then-is_among-4
+pub returns-then-is_among-4-clause-replied : goal.returns-then-is_among-4-clause-replied
 unfolding ranged_of
-returns-then-is_among-4 c =
+returns-then-is_among-4-clause-replied c =
     rw (
       sym c.is_among.ensures ∙ c.if-is_among.false,
       sym c.is_among-2.ensures ∙ c.if-is_among-2.false,
       sym c.is_among-3.ensures ∙ c.if-is_among-3.false,
       sym c.is_among-4.ensures ∙ c.if-is_among-4.true,
     )
-    (let told = c.put_by.ensures c.args.marks in record { reply_is = told.reply_is; state_is = told.state_is; window_is = refl })
+    (let told = c.put_by.ensures.told in record { reply_is = told.reply_is; state_is = told.state_is; window_is = refl })
 
-pub returns : goal.returns
+pub returns-clause-replied : goal.returns-clause-replied
 unfolding ranged_of reply_of
-returns c =
+returns-clause-replied c =
     rw (
       sym c.is_among.ensures ∙ c.if-is_among.false,
       sym c.is_among-2.ensures ∙ c.if-is_among-2.false,
