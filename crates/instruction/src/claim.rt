@@ -63,7 +63,7 @@ fn claimed_clear(s: &mut StateMut<'_>, w: &mut WindowsMut<'_>, i: Instruction) -
     stack::pass::counted(s.general, s.special);
     let rl = s.special[State::RL];
     s.special[State::RL] = i.x as u64 + 1;
-    let reply = step::dispatch(s, w, i);
+    let reply = step::stepped(s, w, i, true);
     if keeps_claim(reply) {
         return reply;
     }
@@ -85,7 +85,7 @@ fn claimed_kept(s: &mut StateMut<'_>, w: &mut WindowsMut<'_>, i: Instruction) ->
     let kept = *s.general;
     let rl = s.special[State::RL];
     stack::pass::claim_local(s.general, s.special, i.x);
-    let reply = step::dispatch(s, w, i);
+    let reply = step::stepped(s, w, i, true);
     if keeps_claim(reply) {
         return reply;
     }

@@ -37,7 +37,7 @@ fn attempt(s: &mut StateMut<'_>, w: &mut WindowsMut<'_>, tetra: u32) -> Reply
     if claim::is_claimed(s.special, i) {
         return claim::claimed(s, w, i);
     }
-    step::dispatch(s, w, i)
+    step::stepped(s, w, i, true)
 }
 
 /// One instruction at PC, once 1, 2 and 22 have passed: 24, then the instruction that the tetra there says.

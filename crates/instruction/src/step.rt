@@ -6,6 +6,7 @@ ghost use Rattle.model.specs.Numbers.{number_of};
 ghost use Rattle.model.specs.Opcodes.{first_branch, last_branch, among};
 ghost use Rattle.model.specs.Lent.{state_lent, windows_lent, SameState, SameWindows};
 ghost use Rattle.model.specs.Step.{unruled_by, step_of};
+ghost use Rattle.stack.specs.GivenBack.{refusal_on};
 ghost use Rattle.arms.specs.Replied.{Replied};
 ghost use Rattle.instruction.specs.StepAnswer.{Numbered};
 ghost use Rattle.arms.specs.Arms.{NoCall, ranged_of};
@@ -63,9 +64,8 @@ fn by_key(s: &mut StateMut<'_>, w: &mut WindowsMut<'_>, i: Instruction) -> Reply
     }
 }
 
-/// The arm, or 3, once 1, 2 and 22 have passed. This is the one place where an arm is chosen, by a step as by a run, so that the arms stand in line. The four
-/// calls differ in their target alone: the frame is pushed in one place, so that its code stands in line.
-pub(crate) fn dispatch(s: &mut StateMut<'_>, w: &mut WindowsMut<'_>, i: Instruction) -> Reply
+/// The arm, or 3, once 1, 2 and 22 have passed. The four calls differ in their target alone: the frame is pushed in one place, so that its code stands in line.
+fn dispatch(s: &mut StateMut<'_>, w: &mut WindowsMut<'_>, i: Instruction) -> Reply
     requires { (admissible (state_lent s.old) ≡ true) × (unruled_by (shapes_of (windows_lent w.old)) ≡ 0) }
     ensures same { SameState s.old s.new × SameWindows w.old w.new }
     ensures replied { Replied (step_of (windows_lent w.old) (state_lent s.old) i.op i.x i.y i.z)
@@ -86,16 +86,42 @@ pub(crate) fn dispatch(s: &mut StateMut<'_>, w: &mut WindowsMut<'_>, i: Instruct
     calls::push_to_judged(s, w, i.x, target)
 }
 
-/// One step in place: 1, then 2, then 22, then 3 to 5 and the instruction's own.
+/// The number by which state or windows are refused, where they are still to be judged.
+fn refusal_of(s: &StateMut<'_>, w: &WindowsMut<'_>, judged: bool) -> u64
+    requires { judged ≡ true → refusal_on (windows_lent w.now) (state_lent s.now) ≡ 0 }
+    ensures { result ≡ refusal_on (windows_lent w.now) (state_lent s.now) }
+{
+    if judged {
+        return replies::DONE;
+    }
+    stack::pass::refusal(s.special, s.marks, s.mask, w.a, w.b, w.at)
+}
+
+/// One step in place: 1, then 2, then 22, unless they are known to pass; then 3 to 5 and the instruction's own. A step and a run call it, so that the choice and the
+/// arms stand in line once.
+pub(crate) fn stepped(
+    s: &mut StateMut<'_>,
+    w: &mut WindowsMut<'_>,
+    i: Instruction,
+    judged: bool,
+) -> Reply
+    requires { judged ≡ true → refusal_on (windows_lent w.old) (state_lent s.old) ≡ 0 }
+    ensures same { SameState s.old s.new × SameWindows w.old w.new }
+    ensures numbered { Numbered (step_of (windows_lent w.old) (state_lent s.old) i.op i.x i.y i.z)
+        (number_of result) (state_lent s.new) (windows_lent w.new) }
+{
+    let number = refusal_of(s, w, judged);
+    if number != 0 {
+        return replies::reply_of(number);
+    }
+    dispatch(s, w, i)
+}
+
+/// One step in place.
 pub fn step(s: &mut StateMut<'_>, w: &mut WindowsMut<'_>, i: Instruction) -> Reply
     ensures same { SameState s.old s.new × SameWindows w.old w.new }
     ensures numbered { Numbered (step_of (windows_lent w.old) (state_lent s.old) i.op i.x i.y i.z)
         (number_of result) (state_lent s.new) (windows_lent w.new) }
 {
-    let lent = w.read();
-    let number = stack::pass::refusal(s.special, s.marks, s.mask, lent.a, lent.b, lent.at);
-    if number != 0 {
-        return replies::reply_of(number);
-    }
-    dispatch(s, w, i)
+    stepped(s, w, i, false)
 }
