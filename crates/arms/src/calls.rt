@@ -21,9 +21,9 @@ pub fn push_to_judged(s: &mut StateMut<'_>, w: &mut WindowsMut<'_>, x: u8, targe
 }
 
 /// Does not judge 2 or 22, nor 1 beyond rL ≤ rG ≤ 255: the caller has. POP.
-pub fn pop_to_judged(s: &mut StateMut<'_>, w: &WindowsMut<'_>, i: Instruction) -> Reply
+pub fn pop_to_judged(s: &mut StateMut<'_>, w: &WindowsMut<'_>, i: &Instruction) -> Reply
     ensures same { SameState s.old s.new }
-    ensures replied { Replied (return_of (windows_lent w.now) (state_lent s.old) i.x i.y i.z)
+    ensures replied { Replied (return_of (windows_lent w.now) (state_lent s.old) i.now.x i.now.y i.now.z)
         result (state_lent s.new) (windows_lent w.now) }
 {
     let yz = 256 * (i.y as u16) + i.z as u16;

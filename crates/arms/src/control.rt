@@ -13,9 +13,9 @@ use decode::target;
 use model::{Instruction, Reply, StateMut};
 
 /// A branch.
-pub fn branch(s: &mut StateMut<'_>, i: Instruction) -> Reply
+pub fn branch(s: &mut StateMut<'_>, i: &Instruction) -> Reply
     ensures same { SameState s.old s.new }
-    ensures told { Told (say 0 (branch_of (state_lent s.old) i.op i.x i.y i.z)) result (state_lent s.new) }
+    ensures told { Told (say 0 (branch_of (state_lent s.old) i.now.op i.now.x i.now.y i.now.z)) result (state_lent s.new) }
 {
     let at = *s.pc;
     if target::is_taken(i.op, s.general[i.x as usize]) {
@@ -27,18 +27,18 @@ pub fn branch(s: &mut StateMut<'_>, i: Instruction) -> Reply
 }
 
 /// JMP and JMPB.
-pub fn jump(s: &mut StateMut<'_>, i: Instruction) -> Reply
+pub fn jump(s: &mut StateMut<'_>, i: &Instruction) -> Reply
     ensures same { SameState s.old s.new }
-    ensures told { Told (say 0 (jump_of (state_lent s.old) i.op i.x i.y i.z)) result (state_lent s.new) }
+    ensures told { Told (say 0 (jump_of (state_lent s.old) i.now.op i.now.x i.now.y i.now.z)) result (state_lent s.new) }
 {
     *s.pc = target::far(*s.pc, i);
     Reply::Done
 }
 
 /// $Y + $Z for an even opcode, $Y + Z for an odd one.
-pub fn sum(general: &[u64; 256], i: Instruction) -> u64
+pub fn sum(general: &[u64; 256], i: &Instruction) -> u64
     ensures { (special : List ℕ) (pc halt marks mask : ℕ) → result
-        ≡ sum_of (made general.now special pc halt marks mask) (last_of i.op) i.y i.z }
+        ≡ sum_of (made general.now special pc halt marks mask) (last_of i.now.op) i.now.y i.now.z }
 {
     let first = general[i.y as usize];
     if i.op % 2 == 0 {
@@ -48,9 +48,9 @@ pub fn sum(general: &[u64; 256], i: Instruction) -> u64
 }
 
 /// GO and GOI.
-pub fn go_by(s: &mut StateMut<'_>, i: Instruction) -> Reply
+pub fn go_by(s: &mut StateMut<'_>, i: &Instruction) -> Reply
     ensures same { SameState s.old s.new }
-    ensures told { Told (say 0 (go_of (state_lent s.old) i.op i.x i.y i.z)) result (state_lent s.new) }
+    ensures told { Told (say 0 (go_of (state_lent s.old) i.now.op i.now.x i.now.y i.now.z)) result (state_lent s.new) }
 {
     let target = sum(s.general, i);
     registers::go_to(s, i.x, target);

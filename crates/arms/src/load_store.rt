@@ -12,9 +12,9 @@ use model::{Instruction, Reply, StateMut, WindowsMut};
 const FLAG_V: u8 = 0x40;
 
 /// LDB to LDOU: 6 comes before $X is claimed.
-pub fn load(s: &mut StateMut<'_>, w: &WindowsMut<'_>, i: Instruction) -> Reply
+pub fn load(s: &mut StateMut<'_>, w: &WindowsMut<'_>, i: &Instruction) -> Reply
     ensures same { SameState s.old s.new }
-    ensures replied { Replied (load_of (windows_lent w.now) (state_lent s.old) i.op i.x i.y i.z)
+    ensures replied { Replied (load_of (windows_lent w.now) (state_lent s.old) i.now.op i.now.x i.now.y i.now.z)
         result (state_lent s.new) (windows_lent w.now) }
 {
     let addr = control::sum(s.general, i);
@@ -29,9 +29,9 @@ pub fn load(s: &mut StateMut<'_>, w: &WindowsMut<'_>, i: Instruction) -> Reply
 }
 
 /// STB to STOU: the store is made, then V is raised where $X does not fit.
-pub fn store(s: &mut StateMut<'_>, w: &mut WindowsMut<'_>, i: Instruction) -> Reply
+pub fn store(s: &mut StateMut<'_>, w: &mut WindowsMut<'_>, i: &Instruction) -> Reply
     ensures same { SameState s.old s.new × SameWindows w.old w.new }
-    ensures replied { Replied (store_of (windows_lent w.old) (state_lent s.old) i.op i.x i.y i.z)
+    ensures replied { Replied (store_of (windows_lent w.old) (state_lent s.old) i.now.op i.now.x i.now.y i.now.z)
         result (state_lent s.new) (windows_lent w.new) }
 {
     let addr = control::sum(s.general, i);

@@ -11,8 +11,8 @@ use exceptions::Kept;
 use model::{Instruction, Operands, Reply, State, StateMut};
 
 /// $Y, or Y itself.
-fn first(s: &StateMut<'_>, i: Instruction) -> u64
-    ensures { result ≡ operand_of (state_lent s.now) (first_of i.op) i.y }
+fn first(s: &StateMut<'_>, i: &Instruction) -> u64
+    ensures { result ≡ operand_of (state_lent s.now) (first_of i.now.op) i.now.y }
 {
     if opcode::is_among(i.op, opcode::FIRST_NEGATION, opcode::LAST_NEGATION) {
         return i.y as u64;
@@ -22,8 +22,8 @@ fn first(s: &StateMut<'_>, i: Instruction) -> u64
 }
 
 /// $Z for an even opcode, Z for an odd one.
-pub fn last(s: &StateMut<'_>, i: Instruction) -> u64
-    ensures { result ≡ operand_of (state_lent s.now) (last_of i.op) i.z }
+pub fn last(s: &StateMut<'_>, i: &Instruction) -> u64
+    ensures { result ≡ operand_of (state_lent s.now) (last_of i.now.op) i.now.z }
 {
     if i.op % 2 == 0 {
         let general = &*s.general;
@@ -33,9 +33,9 @@ pub fn last(s: &StateMut<'_>, i: Instruction) -> u64
 }
 
 /// MUL to SRU.
-pub fn compute(s: &mut StateMut<'_>, i: Instruction) -> Reply
+pub fn compute(s: &mut StateMut<'_>, i: &Instruction) -> Reply
     ensures same { SameState s.old s.new }
-    ensures told { Told (arithmetic_of (state_lent s.old) i.op i.x i.y i.z) result (state_lent s.new) }
+    ensures told { Told (arithmetic_of (state_lent s.old) i.now.op i.now.x i.now.y i.now.z) result (state_lent s.new) }
 {
     let y = first(s, i);
     let z = last(s, i);

@@ -21,9 +21,9 @@ const LAST_SYNC: u64 = 7;
 const FIRST_KERNEL_SYNC: u64 = 4;
 
 /// GETA and GETAB.
-pub fn get_address(s: &mut StateMut<'_>, i: Instruction) -> Reply
+pub fn get_address(s: &mut StateMut<'_>, i: &Instruction) -> Reply
     ensures same { SameState s.old s.new }
-    ensures told { Told (say 0 (address_of (state_lent s.old) i.op i.x i.y i.z)) result (state_lent s.new) }
+    ensures told { Told (say 0 (address_of (state_lent s.old) i.now.op i.now.x i.now.y i.now.z)) result (state_lent s.new) }
 {
     let at = *s.pc;
     stack::pass::set_register(s.general, s.special, i.x, target::near(at, i));
@@ -77,9 +77,9 @@ pub fn put_value(s: &mut StateMut<'_>, x: u8, value: u64) -> Reply
 }
 
 /// SYNC.
-pub fn synchronize(s: &mut StateMut<'_>, i: Instruction) -> Reply
+pub fn synchronize(s: &mut StateMut<'_>, i: &Instruction) -> Reply
     ensures same { SameState s.old s.new }
-    ensures told { Told (sync_of (state_lent s.old) (xyz_of i.x i.y i.z)) result (state_lent s.new) }
+    ensures told { Told (sync_of (state_lent s.old) (xyz_of i.now.x i.now.y i.now.z)) result (state_lent s.new) }
 {
     let xyz = word::xyz_of(i);
     if LAST_SYNC < xyz {

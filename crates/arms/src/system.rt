@@ -20,9 +20,9 @@ pub fn skip(s: &mut StateMut<'_>) -> Reply
 }
 
 /// PUT of $z and PUTI of z.
-pub fn put_by(s: &mut StateMut<'_>, i: Instruction) -> Reply
+pub fn put_by(s: &mut StateMut<'_>, i: &Instruction) -> Reply
     ensures same { SameState s.old s.new }
-    ensures told { Told (put_of (state_lent s.old) i.op i.x i.z) result (state_lent s.new) }
+    ensures told { Told (put_of (state_lent s.old) i.now.op i.now.x i.now.z) result (state_lent s.new) }
 {
     let value = operations::last(s, i);
     registers::put_value(s, i.x, value)

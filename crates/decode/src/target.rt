@@ -51,16 +51,16 @@ fn target_of(pc: u64, op: u8, size: u64, field: u64) -> u64
 }
 
 /// The target of a field YZ: an odd opcode's is YZ − 65536, a negative count.
-pub fn near(pc: u64, i: Instruction) -> u64
-    ensures { result ≡ target_of pc (direction_of i.op) branch_fields (yz_of i.y i.z) }
+pub fn near(pc: u64, i: &Instruction) -> u64
+    ensures { result ≡ target_of pc (direction_of i.now.op) branch_fields (yz_of i.now.y i.now.z) }
 {
     let field = 256 * u64::from(i.y) + u64::from(i.z);
     target_of(pc, i.op, BRANCH_FIELDS, field)
 }
 
 /// The target of a field XYZ: an odd opcode's is XYZ − 16777216, a negative count.
-pub fn far(pc: u64, i: Instruction) -> u64
-    ensures { result ≡ target_of pc (direction_of i.op) jump_fields (xyz_of i.x i.y i.z) }
+pub fn far(pc: u64, i: &Instruction) -> u64
+    ensures { result ≡ target_of pc (direction_of i.now.op) jump_fields (xyz_of i.now.x i.now.y i.now.z) }
 {
     let field = super::word::xyz_of(i);
     target_of(pc, i.op, JUMP_FIELDS, field)

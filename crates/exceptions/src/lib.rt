@@ -87,8 +87,8 @@ fn trip(s: &mut StateMut<'_>, k: u64, kept: Kept) -> Reply
 }
 
 /// An instruction with its operands $Y and $Z.
-fn kept_of(s: &StateMut<'_>, i: Instruction) -> Kept
-    ensures { result ≡ record { word = word_of i.op i.x i.y i.z; y = reg (state_lent s.now) i.y; z = reg (state_lent s.now) i.z } }
+fn kept_of(s: &StateMut<'_>, i: &Instruction) -> Kept
+    ensures { result ≡ record { word = word_of i.now.op i.now.x i.now.y i.now.z; y = reg (state_lent s.now) i.now.y; z = reg (state_lent s.now) i.now.z } }
 {
     let general = &*s.general;
     Kept {
@@ -99,9 +99,9 @@ fn kept_of(s: &StateMut<'_>, i: Instruction) -> Kept
 }
 
 /// TRIP: through vector 0, its operands $Y and $Z from before.
-pub fn trip_arm(s: &mut StateMut<'_>, i: Instruction) -> Reply
+pub fn trip_arm(s: &mut StateMut<'_>, i: &Instruction) -> Reply
     ensures same { SameState s.old s.new }
-    ensures told { Told (trip_of (state_lent s.old) i.op i.x i.y i.z) result (state_lent s.new) }
+    ensures told { Told (trip_of (state_lent s.old) i.now.op i.now.x i.now.y i.now.z) result (state_lent s.new) }
 {
     let kept = kept_of(s, i);
     trip(s, 0, kept)
@@ -123,9 +123,9 @@ fn is_named(x: u8, y: u8) -> bool
 }
 
 /// TRAP: 4 where it is named; else the trap registers, the halt code 1, PC unmoved (20).
-pub fn trap_arm(s: &mut StateMut<'_>, i: Instruction) -> Reply
+pub fn trap_arm(s: &mut StateMut<'_>, i: &Instruction) -> Reply
     ensures same { SameState s.old s.new }
-    ensures told { Told (trap_step (state_lent s.old) i.op i.x i.y i.z) result (state_lent s.new) }
+    ensures told { Told (trap_step (state_lent s.old) i.now.op i.now.x i.now.y i.now.z) result (state_lent s.new) }
 {
     if is_named(i.x, i.y) {
         return Reply::NamedTrap;
@@ -188,9 +188,9 @@ pub fn raise(s: &mut StateMut<'_>, flags: u8, kept: Kept) -> Reply
 }
 
 /// The exceptions entry: a byte of flags is raised by an instruction with two operands; 1 where the state is not admissible.
-pub fn raise_exceptions(s: &mut StateMut<'_>, flags: u8, i: Instruction, y: u64, z: u64) -> Reply
+pub fn raise_exceptions(s: &mut StateMut<'_>, flags: u8, i: &Instruction, y: u64, z: u64) -> Reply
     ensures same { SameState s.old s.new }
-    ensures told { Told (exception_of (state_lent s.old) flags i.op i.x i.y i.z y z) result (state_lent s.new) }
+    ensures told { Told (exception_of (state_lent s.old) flags i.now.op i.now.x i.now.y i.now.z y z) result (state_lent s.new) }
 {
     if !stack::pass::admissible(s.special, s.marks, s.mask) {
         return Reply::NotAdmissible;

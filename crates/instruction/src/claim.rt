@@ -22,9 +22,9 @@ fn keeps_claim(reply: Reply) -> bool
 }
 
 /// Whether an instruction claims $X and $X is marginal: a claim of any other changes nothing.
-pub fn is_claimed(special: &[u64; 32], i: Instruction) -> bool
+pub fn is_claimed(special: &[u64; 32], i: &Instruction) -> bool
     ensures { (general : List ℕ) (pc halt marks mask : ℕ) → result
-        ≡ (is_marginal (made general special.now pc halt marks mask) i.x && claims i.op) }
+        ≡ (is_marginal (made general special.now pc halt marks mask) i.now.x && claims i.now.op) }
 {
     let reg = i.x as u64;
     if reg < special[State::RL] {
@@ -63,7 +63,7 @@ fn claimed_clear(s: &mut StateMut<'_>, w: &mut WindowsMut<'_>, i: Instruction) -
     stack::pass::counted(s.general, s.special);
     let rl = s.special[State::RL];
     s.special[State::RL] = i.x as u64 + 1;
-    let reply = step::stepped(s, w, i, true);
+    let reply = step::dispatch(s, w, &i);
     if keeps_claim(reply) {
         return reply;
     }
@@ -85,7 +85,7 @@ fn claimed_kept(s: &mut StateMut<'_>, w: &mut WindowsMut<'_>, i: Instruction) ->
     let kept = *s.general;
     let rl = s.special[State::RL];
     stack::pass::claim_local(s.general, s.special, i.x);
-    let reply = step::stepped(s, w, i, true);
+    let reply = step::dispatch(s, w, &i);
     if keeps_claim(reply) {
         return reply;
     }

@@ -32,12 +32,12 @@ fn attempt(s: &mut StateMut<'_>, w: &mut WindowsMut<'_>, tetra: u32) -> Reply
     stack::pass::counted(s.general, s.special);
     let i = Instruction::from(tetra);
     if opcode::is_among(i.op, opcode::FIRST_BRANCH, opcode::LAST_BRANCH) {
-        return control::branch(s, i);
+        return control::branch(s, &i);
     }
-    if claim::is_claimed(s.special, i) {
+    if claim::is_claimed(s.special, &i) {
         return claim::claimed(s, w, i);
     }
-    step::stepped(s, w, i, true)
+    step::dispatch(s, w, &i)
 }
 
 /// One instruction at PC, once 1, 2 and 22 have passed: 24, then the instruction that the tetra there says.

@@ -6,7 +6,6 @@ ghost use Rattle.model.specs.Numbers.{number_of};
 ghost use Rattle.model.specs.Opcodes.{first_branch, last_branch, among};
 ghost use Rattle.model.specs.Lent.{state_lent, windows_lent, SameState, SameWindows};
 ghost use Rattle.model.specs.Step.{unruled_by, step_of};
-ghost use Rattle.stack.specs.GivenBack.{refusal_on};
 ghost use Rattle.arms.specs.Replied.{Replied};
 ghost use Rattle.instruction.specs.StepAnswer.{Numbered};
 ghost use Rattle.arms.specs.Arms.{NoCall, ranged_of};
@@ -17,9 +16,9 @@ use model::{Instruction, Reply, StateMut, WindowsMut, replies};
 
 /// The opcodes that come in ranges, the branches apart: a question for each range, then 3. PUT and PUTI are asked for together, so that their arm is called
 /// once and stands in line.
-fn by_range(s: &mut StateMut<'_>, w: &mut WindowsMut<'_>, i: Instruction) -> Reply
+fn by_range(s: &mut StateMut<'_>, w: &mut WindowsMut<'_>, i: &Instruction) -> Reply
     ensures same { SameState s.old s.new × SameWindows w.old w.new }
-    ensures replied { Replied (ranged_of (windows_lent w.old) (state_lent s.old) i.op i.x i.y i.z)
+    ensures replied { Replied (ranged_of (windows_lent w.old) (state_lent s.old) i.now.op i.now.x i.now.y i.now.z)
         result (state_lent s.new) (windows_lent w.new) }
 {
     if opcode::is_among(i.op, opcode::FIRST_LOAD, opcode::LAST_LOAD) {
@@ -38,11 +37,11 @@ fn by_range(s: &mut StateMut<'_>, w: &mut WindowsMut<'_>, i: Instruction) -> Rep
 }
 
 /// The arm of an opcode that is no branch and no call, or 3. Each opcode of the match is a key by itself, so that the choice is a jump and no chain of tests.
-fn by_key(s: &mut StateMut<'_>, w: &mut WindowsMut<'_>, i: Instruction) -> Reply
+fn by_key(s: &mut StateMut<'_>, w: &mut WindowsMut<'_>, i: &Instruction) -> Reply
     requires { (admissible (state_lent s.old) ≡ true)
-        × (unruled_by (shapes_of (windows_lent w.old)) ≡ 0) × (among first_branch last_branch i.op ≡ false) × (NoCall i.op) }
+        × (unruled_by (shapes_of (windows_lent w.old)) ≡ 0) × (among first_branch last_branch i.now.op ≡ false) × (NoCall i.now.op) }
     ensures same { SameState s.old s.new × SameWindows w.old w.new }
-    ensures replied { Replied (step_of (windows_lent w.old) (state_lent s.old) i.op i.x i.y i.z)
+    ensures replied { Replied (step_of (windows_lent w.old) (state_lent s.old) i.now.op i.now.x i.now.y i.now.z)
         result (state_lent s.new) (windows_lent w.new) }
 {
     match i.op {
@@ -64,11 +63,12 @@ fn by_key(s: &mut StateMut<'_>, w: &mut WindowsMut<'_>, i: Instruction) -> Reply
     }
 }
 
-/// The arm, or 3, once 1, 2 and 22 have passed. The four calls differ in their target alone: the frame is pushed in one place, so that its code stands in line.
-fn dispatch(s: &mut StateMut<'_>, w: &mut WindowsMut<'_>, i: Instruction) -> Reply
+/// The arm, or 3, once 1, 2 and 22 have passed. This is the one place where an arm is chosen, by a step as by a run, so that the arms stand in line. The four
+/// calls differ in their target alone: the frame is pushed in one place, so that its code stands in line.
+pub(crate) fn dispatch(s: &mut StateMut<'_>, w: &mut WindowsMut<'_>, i: &Instruction) -> Reply
     requires { (admissible (state_lent s.old) ≡ true) × (unruled_by (shapes_of (windows_lent w.old)) ≡ 0) }
     ensures same { SameState s.old s.new × SameWindows w.old w.new }
-    ensures replied { Replied (step_of (windows_lent w.old) (state_lent s.old) i.op i.x i.y i.z)
+    ensures replied { Replied (step_of (windows_lent w.old) (state_lent s.old) i.now.op i.now.x i.now.y i.now.z)
         result (state_lent s.new) (windows_lent w.new) }
 {
     if opcode::is_among(i.op, opcode::FIRST_BRANCH, opcode::LAST_BRANCH) {
@@ -86,42 +86,16 @@ fn dispatch(s: &mut StateMut<'_>, w: &mut WindowsMut<'_>, i: Instruction) -> Rep
     calls::push_to_judged(s, w, i.x, target)
 }
 
-/// The number by which state or windows are refused, where they are still to be judged.
-fn refusal_of(s: &StateMut<'_>, w: &WindowsMut<'_>, judged: bool) -> u64
-    requires { judged ≡ true → refusal_on (windows_lent w.now) (state_lent s.now) ≡ 0 }
-    ensures { result ≡ refusal_on (windows_lent w.now) (state_lent s.now) }
-{
-    if judged {
-        return replies::DONE;
-    }
-    stack::pass::refusal(s.special, s.marks, s.mask, w.a, w.b, w.at)
-}
-
-/// One step in place: 1, then 2, then 22, unless they are known to pass; then 3 to 5 and the instruction's own. A step and a run call it, so that the choice and the
-/// arms stand in line once.
-pub(crate) fn stepped(
-    s: &mut StateMut<'_>,
-    w: &mut WindowsMut<'_>,
-    i: Instruction,
-    judged: bool,
-) -> Reply
-    requires { judged ≡ true → refusal_on (windows_lent w.old) (state_lent s.old) ≡ 0 }
+/// One step in place: 1, then 2, then 22, then 3 to 5 and the instruction's own.
+pub fn step(s: &mut StateMut<'_>, w: &mut WindowsMut<'_>, i: &Instruction) -> Reply
     ensures same { SameState s.old s.new × SameWindows w.old w.new }
-    ensures numbered { Numbered (step_of (windows_lent w.old) (state_lent s.old) i.op i.x i.y i.z)
+    ensures numbered { Numbered (step_of (windows_lent w.old) (state_lent s.old) i.now.op i.now.x i.now.y i.now.z)
         (number_of result) (state_lent s.new) (windows_lent w.new) }
 {
-    let number = refusal_of(s, w, judged);
+    let lent = w.read();
+    let number = stack::pass::refusal(s.special, s.marks, s.mask, lent.a, lent.b, lent.at);
     if number != 0 {
         return replies::reply_of(number);
     }
     dispatch(s, w, i)
-}
-
-/// One step in place.
-pub fn step(s: &mut StateMut<'_>, w: &mut WindowsMut<'_>, i: Instruction) -> Reply
-    ensures same { SameState s.old s.new × SameWindows w.old w.new }
-    ensures numbered { Numbered (step_of (windows_lent w.old) (state_lent s.old) i.op i.x i.y i.z)
-        (number_of result) (state_lent s.new) (windows_lent w.new) }
-{
-    stepped(s, w, i, false)
 }

@@ -16,8 +16,8 @@ pub struct Outcome {
 }
 
 /// One exception on a state by value.
-pub fn raise_exceptions(mut state: State, flags: u8, i: Instruction, y: u64, z: u64) -> Outcome
-    ensures { Told (exception_of state flags i.op i.x i.y i.z y z) result.reply result.state }
+pub fn raise_exceptions(mut state: State, flags: u8, i: &Instruction, y: u64, z: u64) -> Outcome
+    ensures { Told (exception_of state flags i.now.op i.now.x i.now.y i.now.z y z) result.reply result.state }
 {
     let mut s = StateMut {
         general: &mut state.general,
@@ -32,9 +32,9 @@ pub fn raise_exceptions(mut state: State, flags: u8, i: Instruction, y: u64, z: 
 }
 
 /// One step on a state by value and the two windows.
-pub fn step(mut state: State, w: &mut WindowsMut<'_>, i: Instruction) -> Outcome
+pub fn step(mut state: State, w: &mut WindowsMut<'_>, i: &Instruction) -> Outcome
     ensures same { SameWindows w.old w.new }
-    ensures numbered { Numbered (step_of (windows_lent w.old) state i.op i.x i.y i.z)
+    ensures numbered { Numbered (step_of (windows_lent w.old) state i.now.op i.now.x i.now.y i.now.z)
         (number_of result.reply) result.state (windows_lent w.new) }
 {
     let mut s = StateMut {

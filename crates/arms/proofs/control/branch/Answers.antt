@@ -10,7 +10,7 @@ returns-then-is_taken-clause-told c =
     let s = state_lent a.s.now in
     record {
       reply_is = refl;
-      state_is = branch_taken s a.i.op a.i.x a.i.y a.i.z _ _ c.is_taken.ensures c.if-is_taken.true c.near-s.ensures;
+      state_is = branch_taken s a.i.now.op a.i.now.x a.i.now.y a.i.now.z _ _ c.is_taken.ensures c.if-is_taken.true c.near-s.ensures;
     }
 
 pub returns-clause-told : goal.returns-clause-told
@@ -20,5 +20,5 @@ returns-clause-told c =
     let s = state_lent a.s.now in
     record {
       reply_is = refl;
-      state_is = branch_not s a.i.op a.i.x a.i.y a.i.z _ _ c.is_taken.ensures c.if-is_taken.false c.following-s.ensures;
+      state_is = branch_not s a.i.now.op a.i.now.x a.i.now.y a.i.now.z _ _ c.is_taken.ensures c.if-is_taken.false c.following-s.ensures;
     }

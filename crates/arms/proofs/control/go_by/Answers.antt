@@ -10,5 +10,5 @@ returns-clause-told c =
     let s = state_lent a.s.now in
     record {
       reply_is = refl;
-      state_is = c.go_to.ensures.went ∙ ap (go_to s a.i.x) (c.sum-target.ensures s.special s.pc s.halt s.marks s.mask);
+      state_is = c.go_to.ensures.went ∙ ap (go_to s a.i.now.x) (c.sum-target.ensures s.special s.pc s.halt s.marks s.mask);
     }

@@ -10,5 +10,5 @@ returns-clause-told c =
     let s = state_lent a.s.now in
     record {
       reply_is = refl;
-      state_is = next_is (with_parts s _ _) _ (c.set_register.ensures s ∙ ap (set_register s a.i.x) c.near.ensures) _ c.following-s.ensures;
+      state_is = next_is (with_parts s _ _) _ (c.set_register.ensures s ∙ ap (set_register s a.i.now.x) c.near.ensures) _ c.following-s.ensures;
     }

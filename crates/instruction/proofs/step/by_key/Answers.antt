@@ -41,32 +41,32 @@ returns-in-0-clause-replied c =
 pub returns-in-158-clause-replied : goal.returns-in-158-clause-replied
 unfolding arm_of
 returns-in-158-clause-replied c =
-    quiet_step _ _ c.requires.0 c.requires.1 _ _ _ _ _ _ (control (go (last_of c.args.i.op))) (rw c.in-158.is) _ refl refl (c.go_by.ensures.told)
+    quiet_step _ _ c.requires.0 c.requires.1 _ _ _ _ _ _ (control (go (last_of c.args.i.now.op))) (rw c.in-158.is) _ refl refl (c.go_by.ensures.told)
 
 pub returns-in-159-clause-replied : goal.returns-in-159-clause-replied
 unfolding arm_of
 returns-in-159-clause-replied c =
-    quiet_step _ _ c.requires.0 c.requires.1 _ _ _ _ _ _ (control (go (last_of c.args.i.op))) (rw c.in-159.is) _ refl refl (c.go_by-in-159.ensures.told)
+    quiet_step _ _ c.requires.0 c.requires.1 _ _ _ _ _ _ (control (go (last_of c.args.i.now.op))) (rw c.in-159.is) _ refl refl (c.go_by-in-159.ensures.told)
 
 pub returns-in-240-clause-replied : goal.returns-in-240-clause-replied
 unfolding arm_of
 returns-in-240-clause-replied c =
-    quiet_step _ _ c.requires.0 c.requires.1 _ _ _ _ _ _ (control (jump (direction_of c.args.i.op))) (rw c.in-240.is) _ refl refl (c.jump.ensures.told)
+    quiet_step _ _ c.requires.0 c.requires.1 _ _ _ _ _ _ (control (jump (direction_of c.args.i.now.op))) (rw c.in-240.is) _ refl refl (c.jump.ensures.told)
 
 pub returns-in-241-clause-replied : goal.returns-in-241-clause-replied
 unfolding arm_of
 returns-in-241-clause-replied c =
-    quiet_step _ _ c.requires.0 c.requires.1 _ _ _ _ _ _ (control (jump (direction_of c.args.i.op))) (rw c.in-241.is) _ refl refl (c.jump-in-241.ensures.told)
+    quiet_step _ _ c.requires.0 c.requires.1 _ _ _ _ _ _ (control (jump (direction_of c.args.i.now.op))) (rw c.in-241.is) _ refl refl (c.jump-in-241.ensures.told)
 
 pub returns-in-244-clause-replied : goal.returns-in-244-clause-replied
 unfolding arm_of
 returns-in-244-clause-replied c =
-    quiet_step _ _ c.requires.0 c.requires.1 _ _ _ _ _ _ (control (get_address (direction_of c.args.i.op))) (rw c.in-244.is) _ refl refl (c.get_address.ensures.told)
+    quiet_step _ _ c.requires.0 c.requires.1 _ _ _ _ _ _ (control (get_address (direction_of c.args.i.now.op))) (rw c.in-244.is) _ refl refl (c.get_address.ensures.told)
 
 pub returns-in-245-clause-replied : goal.returns-in-245-clause-replied
 unfolding arm_of
 returns-in-245-clause-replied c =
-    quiet_step _ _ c.requires.0 c.requires.1 _ _ _ _ _ _ (control (get_address (direction_of c.args.i.op))) (rw c.in-245.is) _ refl refl (c.get_address-in-245.ensures.told)
+    quiet_step _ _ c.requires.0 c.requires.1 _ _ _ _ _ _ (control (get_address (direction_of c.args.i.now.op))) (rw c.in-245.is) _ refl refl (c.get_address-in-245.ensures.told)
 
 pub returns-in-248-clause-replied : goal.returns-in-248-clause-replied
 unfolding arm_of

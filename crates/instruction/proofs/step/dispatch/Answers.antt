@@ -22,8 +22,8 @@ returns-clause-replied c =
     let s = state_lent a.s.now in
     let called = c.push_to_judged.ensures.replied in
     elim c.match-i.branch [
-      | in-190 w ↦ only_step w1 s c.requires.0 c.requires.1 _ _ _ _ _ _ (stack (push_go (last_of a.i.op))) (rw w.in-190.is) _ refl _ _ (admissible_placed s c.requires.0) _ (ap (push_frame s (hole s _)) (sym (w.target-is ∙ w.sum-target.ensures s.special s.pc s.halt s.marks s.mask))) called
-      | in-191 w ↦ only_step w1 s c.requires.0 c.requires.1 _ _ _ _ _ _ (stack (push_go (last_of a.i.op))) (rw w.in-191.is) _ refl _ _ (admissible_placed s c.requires.0) _ (ap (push_frame s (hole s _)) (sym (w.target-is ∙ w.sum-target-in-191.ensures s.special s.pc s.halt s.marks s.mask))) called
-      | in-242 w ↦ only_step w1 s c.requires.0 c.requires.1 _ _ _ _ _ _ (stack (push_jump (direction_of a.i.op))) (rw w.in-242.is) _ refl _ _ (admissible_placed s c.requires.0) _ (ap (push_frame s (hole s _)) (sym (w.target-is ∙ w.near-target.ensures))) called
-      | in-243 w ↦ only_step w1 s c.requires.0 c.requires.1 _ _ _ _ _ _ (stack (push_jump (direction_of a.i.op))) (rw w.in-243.is) _ refl _ _ (admissible_placed s c.requires.0) _ (ap (push_frame s (hole s _)) (sym (w.target-is ∙ w.near-target-in-243.ensures))) called
+      | in-190 w ↦ only_step w1 s c.requires.0 c.requires.1 _ _ _ _ _ _ (stack (push_go (last_of a.i.now.op))) (rw w.in-190.is) _ refl _ _ (admissible_placed s c.requires.0) _ (ap (push_frame s (hole s _)) (sym (w.target-is ∙ w.sum-target.ensures s.special s.pc s.halt s.marks s.mask))) called
+      | in-191 w ↦ only_step w1 s c.requires.0 c.requires.1 _ _ _ _ _ _ (stack (push_go (last_of a.i.now.op))) (rw w.in-191.is) _ refl _ _ (admissible_placed s c.requires.0) _ (ap (push_frame s (hole s _)) (sym (w.target-is ∙ w.sum-target-in-191.ensures s.special s.pc s.halt s.marks s.mask))) called
+      | in-242 w ↦ only_step w1 s c.requires.0 c.requires.1 _ _ _ _ _ _ (stack (push_jump (direction_of a.i.now.op))) (rw w.in-242.is) _ refl _ _ (admissible_placed s c.requires.0) _ (ap (push_frame s (hole s _)) (sym (w.target-is ∙ w.near-target.ensures))) called
+      | in-243 w ↦ only_step w1 s c.requires.0 c.requires.1 _ _ _ _ _ _ (stack (push_jump (direction_of a.i.now.op))) (rw w.in-243.is) _ refl _ _ (admissible_placed s c.requires.0) _ (ap (push_frame s (hole s _)) (sym (w.target-is ∙ w.near-target-in-243.ensures))) called
     ]
