@@ -12,7 +12,7 @@ ghost use Rattle.sets.specs.Sets.{pairs_of, pairs_in, PutSet};
 ghost use Rattle.tasks.specs.Images.{TasksRan};
 ghost use Rattle.mmix.specs.Entries.{lent_at, version, Initialized, InitializedAt, Stepped, SteppedState, RanImage, RanState, Raised, RaisedState, SetImage, ContextAt, FieldTold};
 
-use image::{Answer, Rest};
+use image::Rest;
 use model::replies::number_of;
 use model::{Bases, Reach, Reply, State, replies};
 
@@ -37,32 +37,32 @@ pub fn mmix_version() -> u64
 pub fn mmix_initialize(image: &mut [u8]) -> u64
     ensures { Initialized image.old result image.new }
 {
-    let fresh = State::initialize();
-    image::encode(fresh, image)
+    number_of(image::encode(&State::initialize(), image))
 }
 
 /// The same with the register stack at another address, any number: rO and rS are `stack_start`.
 pub fn mmix_initialize_at(image: &mut [u8], stack_start: u64) -> u64
     ensures { InitializedAt stack_start image.old result image.new }
 {
-    let fresh = State::initialize_at(stack_start);
-    image::encode(fresh, image)
+    number_of(image::encode(&State::initialize_at(stack_start), image))
 }
 
 /// The lent state becomes that of the image; 1 where it is as long as neither image, and then the state is left as it was.
 pub fn mmix_decode(image: &[u8], state: &mut State) -> u64
     ensures { Decoded image.now state.old result state.new }
 {
-    let out = image::decode(image, *state);
-    *state = out.state;
-    out.reply
+    let Some(decoded) = image::decode(image) else {
+        return replies::NOT_ADMISSIBLE;
+    };
+    *state = decoded;
+    replies::DONE
 }
 
 /// The image becomes that of the lent state; 1 where it has no room for it, an old one for a mask, and then it is left as it was.
 pub fn mmix_encode(state: &State, image: &mut [u8]) -> u64
     ensures { Encoded state.now image.old result image.new }
 {
-    image::encode(*state, image)
+    number_of(image::encode(state, image))
 }
 
 /// One step on an image and the two windows. Where it touches few general registers, these alone are decoded and encoded.
@@ -122,6 +122,13 @@ pub fn mmix_step(
         },
     );
     reply
+}
+
+/// A reply's number, and the state that it leaves.
+#[derive(Clone, Copy)]
+pub struct Answer {
+    pub reply: u64,
+    pub state: State,
 }
 
 /// One step on a state by value.
