@@ -22,10 +22,10 @@ windows_read w = lent w.at w.a.now w.b.now
 abbrev pub SameState : StateMut → StateMut → Type 0
 SameState s t =
     (t.general.ghost_name ≡ s.general.ghost_name) × (t.special.ghost_name ≡ s.special.ghost_name) × (t.pc.ghost_name ≡ s.pc.ghost_name)
-    × (t.halt.ghost_name ≡ s.halt.ghost_name)
+    × (t.halt.ghost_name ≡ s.halt.ghost_name) × (t.marks ≡ s.marks) × (t.mask ≡ s.mask)
 
 abbrev pub SameWindows : WindowsMut → WindowsMut → Type 0
-SameWindows v w = (w.a.ghost_name ≡ v.a.ghost_name) × (w.b.ghost_name ≡ v.b.ghost_name)
+SameWindows v w = (w.a.ghost_name ≡ v.a.ghost_name) × (w.b.ghost_name ≡ v.b.ghost_name) × (w.at ≡ v.at)
 
 -- the instruction that a tetra says
 abbrev pub SaidBy : ℕ → Instruction → Type 0
