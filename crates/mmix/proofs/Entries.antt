@@ -29,8 +29,8 @@ raised_state s f op x y z u v q t g r e =
     let most : (exception_of s f op x y z u v).reply ≤ 19 = exception_most s f op x y z u v in
     record { reply_is = e ∙ ap number_of g.reply_is ∙ numbered.number_reply (exception_of s f op x y z u v).reply (omega arith); state_is = g.state_is }
 
-pub set_numbered : (s : State) (ps : List Pair) (q : Reply) (i : ℕ) (t : State) → PutSet s ps (number_of q) i t → (r : ℕ) → r ≡ number_of q → PutSet s ps r i t
-set_numbered s ps q i t g r e = rw e g
+pub set_told : (s : State) (ps : List Pair) (n i : ℕ) (t : State) → PutSet s ps n i t → (r j : ℕ) → (r ≡ n) × (j ≡ i) → PutSet s ps r j t
+set_told s ps n i t g r j e = rw (e.0, e.1) g
 
 -- ---- on an image of another length
 
