@@ -13,16 +13,12 @@ use super::{AT_MASK, AT_REST, AT_SPECIAL, Rest};
 // Where $255 is.
 const AT_LAST: usize = 2040;
 
-fn wide(b: u8) -> u64 {
-    b as u64
-}
-
 // The elements of an image are bytes, a fact that reading one of them tells. It does nothing.
 fn known(image: &[u8])
     requires { is_image image.now ≡ true }
     ensures { (i : ℕ) → get_or image.now i 0 < 256 }
 {
-    wide(image[0]);
+    let _first = image[0];
 }
 
 // The special registers of an image go to the array; the rest is the answer. Where an old one has no mask, none is loaded.
@@ -52,12 +48,7 @@ pub fn load_beside(image: &[u8], special: &mut [u64; 32]) -> Rest
         (made (state_of image.now).general special.old 0 0 0 0) }
 {
     if !super::is_image(image) {
-        return Rest {
-            pc: 0,
-            halt: 0,
-            marks: 0,
-            mask: 0,
-        };
+        return Rest::EMPTY;
     }
     load_rest(image, special)
 }

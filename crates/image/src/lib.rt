@@ -3,10 +3,11 @@
 
 ghost use Rattle.std.specs.Prelude.{◌≡◌, true, cond, ◌&&◌};
 ghost use Rattle.model.specs.Registers.{admissible};
+ghost use Rattle.model.specs.Numbers.{number_of};
 ghost use Rattle.model.specs.Parts.{made};
-ghost use Rattle.image.specs.Image.{state_of, is_image, has_room, image_as, stored_in, Decoded, Encoded};
+ghost use Rattle.image.specs.Image.{state_of, is_image, has_room, image_as, stored_in, Encoded};
 
-use model::{IMAGE_LEN, OLD_IMAGE_LEN, State, replies};
+use model::{IMAGE_LEN, OLD_IMAGE_LEN, Reply, State};
 
 pub mod few;
 
@@ -17,13 +18,6 @@ pub(crate) const AT_REST: usize = 2304;
 
 pub(crate) const AT_MASK: usize = OLD_IMAGE_LEN;
 
-/// A reply's number, and the state that it leaves.
-#[derive(Clone, Copy)]
-pub struct Answer {
-    pub reply: u64,
-    pub state: State,
-}
-
 /// What a state has beside its registers.
 #[derive(Clone, Copy)]
 pub struct Rest {
@@ -33,33 +27,29 @@ pub struct Rest {
     pub mask: u64,
 }
 
+impl Rest {
+    const EMPTY: Rest = Rest {
+        pc: 0,
+        halt: 0,
+        marks: 0,
+        mask: 0,
+    };
+}
+
 /// Whether bytes are as long as an image, old or not.
+#[tactic(auto, unfolding(crate::specs::Image::is_image))]
 pub fn is_image(image: &[u8]) -> bool
     ensures { result ≡ is_image image.now }
 {
-    if image.len() == IMAGE_LEN {
-        return true;
-    }
-    if image.len() == OLD_IMAGE_LEN {
-        return true;
-    }
-    false
+    image.len() == IMAGE_LEN || image.len() == OLD_IMAGE_LEN
 }
 
 /// Whether an image has room for a state with this mask: an old one only where that is 0.
+#[tactic(auto, unfolding(crate::specs::Image::has_room))]
 pub fn has_room(image: &[u8], mask: u64) -> bool
     ensures { result ≡ has_room image.now mask }
 {
-    if image.len() == IMAGE_LEN {
-        return true;
-    }
-    if image.len() != OLD_IMAGE_LEN {
-        return false;
-    }
-    if mask == 0 {
-        return true;
-    }
-    false
+    image.len() == IMAGE_LEN || (image.len() == OLD_IMAGE_LEN && mask == 0)
 }
 
 // The registers of an image go to the arrays; the rest is the answer. Where an old one has no mask, none is loaded.
@@ -89,12 +79,7 @@ pub fn load_state(image: &[u8], general: &mut [u64; 256], special: &mut [u64; 32
         ≡ cond (is_image image.now) (state_of image.now) (made general.old special.old 0 0 0 0) }
 {
     if !is_image(image) {
-        return Rest {
-            pc: 0,
-            halt: 0,
-            marks: 0,
-            mask: 0,
-        };
+        return Rest::EMPTY;
     }
     load_parts(image, general, special)
 }
@@ -122,48 +107,44 @@ pub fn store_state(image: &mut [u8], general: &[u64; 256], special: &[u64; 32], 
     }
 }
 
-/// The state of an image, and 0; 1 where it is as long as neither image, and then the state that was given.
-pub fn decode(image: &[u8], state: State) -> Answer
-    ensures { Decoded image.now state result.reply result.state }
+/// The state of an image, where bytes are as long as one.
+pub fn decode(image: &[u8]) -> Option<State>
+    ensures { result ≡ cond (is_image image.now) (Some (state_of image.now)) None }
 {
     if !is_image(image) {
-        return Answer {
-            reply: replies::NOT_ADMISSIBLE,
-            state: state,
-        };
+        return None;
     }
-    let mut general = [0u64; 256];
-    let mut special = [0u64; 32];
-    let rest = load_parts(image, &mut general, &mut special);
-    let found = State {
-        general: general,
-        special: special,
-        pc: rest.pc,
-        halt: rest.halt,
-        marks: rest.marks,
-        mask: rest.mask,
-    };
-    Answer {
-        reply: replies::DONE,
-        state: found,
-    }
+    let mut general = [0; 256];
+    let mut special = [0; 32];
+    let Rest {
+        pc,
+        halt,
+        marks,
+        mask,
+    } = load_parts(image, &mut general, &mut special);
+    Some(State {
+        general,
+        special,
+        pc,
+        halt,
+        marks,
+        mask,
+    })
 }
 
-/// The image becomes that of the state; 1 where it has no room for it, and then it is left as it was.
-pub fn encode(state: State, image: &mut [u8]) -> u64
-    ensures { Encoded state image.old result image.new }
+/// The image becomes that of the state; where it has no room for it, that is not admissible and it is left as it was.
+pub fn encode(state: &State, image: &mut [u8]) -> Reply
+    ensures { Encoded state.now image.old (number_of result) image.new }
 {
     if !has_room(&*image, state.mask) {
-        return replies::NOT_ADMISSIBLE;
+        return Reply::NotAdmissible;
     }
-    let general = state.general;
-    let special = state.special;
     let rest = Rest {
         pc: state.pc,
         halt: state.halt,
         marks: state.marks,
         mask: state.mask,
     };
-    store_parts(&mut *image, &general, &special, rest);
-    replies::DONE
+    store_parts(image, &state.general, &state.special, rest);
+    Reply::Done
 }

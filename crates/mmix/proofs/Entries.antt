@@ -1,7 +1,7 @@
 -- What the exported functions come to, from what their calls leave.
-use Rattle.model.proofs.Prelude.{ℕ, ◌≤◌, false, true, List, ap, subst, sym, ◌∙◌, ◌≡◌, arith, answer_of, Windows, Said, number_of, Outcome, run_of, Stopped}
+use Rattle.model.proofs.Prelude.{ℕ, ◌≤◌, false, true, List, ap, sym, ◌∙◌, ◌≡◌, arith, answer_of, Windows, Said, number_of, Outcome, run_of, Stopped}
 use Rattle.model.proofs.Prelude.{exception_of, step_of, Any, numbered, exception_meets}
-use Rattle.mmix.proofs.Prelude.{State, Encoded, image_as, is_image, state_of, stored_in, if_image, if_other, keeps_length}
+use Rattle.mmix.proofs.Prelude.{State, image_as, is_image, state_of, stored_in, if_image, if_other, keeps_length}
 use Rattle.model.specs.declared.Reply.{Reply}
 use Rattle.model.specs.declared.Reach.{Reach}
 use Rattle.exceptions.specs.Told.{Told}
@@ -29,8 +29,8 @@ raised_state s f op x y z u v q t g r e =
     let most : (exception_of s f op x y z u v).reply ≤ 19 = exception_most s f op x y z u v in
     record { reply_is = e ∙ ap number_of g.reply_is ∙ numbered.number_reply (exception_of s f op x y z u v).reply (omega arith); state_is = g.state_is }
 
-pub set_numbered : (s : State) (ps : List Pair) (q : Reply) (i : ℕ) (t : State) → PutSet s ps (number_of q) i t → (r : ℕ) → r ≡ number_of q → PutSet s ps r i t
-set_numbered s ps q i t g r e = rw e g
+pub set_told : (s : State) (ps : List Pair) (n i : ℕ) (t : State) → PutSet s ps n i t → (r j : ℕ) → (r ≡ n) × (j ≡ i) → PutSet s ps r j t
+set_told s ps n i t g r j e = rw (e.0, e.1) g
 
 -- ---- on an image of another length
 
@@ -97,10 +97,6 @@ module _ (l : List ℕ) (n : is_image l ≡ true) where
         place_is = g.place_is ∙ ap (λ (o : SetOutcome). o.place) d ∙ if_image l n _ _;
         image_is = again s t e q m k ∙ ap (image_as l) g.state_is ∙ ap (λ (o : SetOutcome). image_as l o.state) d ∙ if_image l n _ _;
       }
-
--- an equal state's image is the same
-pub encoded_same : (s t : State) → s ≡ t → (l : List ℕ) (r : ℕ) (m : List ℕ) → Encoded s l r m → Encoded t l r m
-encoded_same s t e l r m g = subst (λ (u : State). Encoded u l r m) e g
 
 -- ---- a field
 

@@ -9,12 +9,14 @@ ghost use Rattle.model.specs.Kept.{point_in};
 ghost use Rattle.image.specs.Image.{Decoded, Encoded};
 ghost use Rattle.points.specs.Store.{Took, GoneBack};
 ghost use Rattle.sets.specs.Sets.{pairs_of, pairs_in, PutSet};
+ghost use Rattle.sets.specs.Answer.{number_in, place_in};
 ghost use Rattle.tasks.specs.Images.{TasksRan};
 ghost use Rattle.mmix.specs.Entries.{lent_at, version, Initialized, InitializedAt, Stepped, SteppedState, RanImage, RanState, Raised, RaisedState, SetImage, ContextAt, FieldTold};
 
-use image::{Answer, Rest};
+use image::Rest;
 use model::replies::number_of;
-use model::{Bases, Reach, Reply, State, replies};
+use model::{Bases, Reach, Reply, State, StateMut, WindowsMut, replies};
+use sets::Failed;
 
 mod step_image;
 
@@ -37,32 +39,32 @@ pub fn mmix_version() -> u64
 pub fn mmix_initialize(image: &mut [u8]) -> u64
     ensures { Initialized image.old result image.new }
 {
-    let fresh = State::initialize();
-    image::encode(fresh, image)
+    number_of(image::encode(&State::initialize(), image))
 }
 
 /// The same with the register stack at another address, any number: rO and rS are `stack_start`.
 pub fn mmix_initialize_at(image: &mut [u8], stack_start: u64) -> u64
     ensures { InitializedAt stack_start image.old result image.new }
 {
-    let fresh = State::initialize_at(stack_start);
-    image::encode(fresh, image)
+    number_of(image::encode(&State::initialize_at(stack_start), image))
 }
 
 /// The lent state becomes that of the image; 1 where it is as long as neither image, and then the state is left as it was.
 pub fn mmix_decode(image: &[u8], state: &mut State) -> u64
     ensures { Decoded image.now state.old result state.new }
 {
-    let out = image::decode(image, *state);
-    *state = out.state;
-    out.reply
+    let Some(decoded) = image::decode(image) else {
+        return replies::NOT_ADMISSIBLE;
+    };
+    *state = decoded;
+    replies::DONE
 }
 
 /// The image becomes that of the lent state; 1 where it has no room for it, an old one for a mask, and then it is left as it was.
 pub fn mmix_encode(state: &State, image: &mut [u8]) -> u64
     ensures { Encoded state.now image.old result image.new }
 {
-    image::encode(*state, image)
+    number_of(image::encode(state, image))
 }
 
 /// One step on an image and the two windows. Where it touches few general registers, these alone are decoded and encoded.
@@ -122,6 +124,13 @@ pub fn mmix_step(
         },
     );
     reply
+}
+
+/// A reply's number, and the state that it leaves.
+#[derive(Clone, Copy)]
+pub struct Answer {
+    pub reply: u64,
+    pub state: State,
 }
 
 /// One step on a state by value.
@@ -268,7 +277,8 @@ pub fn mmix_tasks(
         a: base_a,
         b: base_b,
     };
-    tasks::run(at, q, grant, images, parts, a, b, counts, refusals)
+    let mut windows = WindowsMut { a, b, at };
+    tasks::run(&mut windows, q, grant, images, parts, counts, refusals)
 }
 
 /// One exception on an image: of the general registers $255 alone is decoded and encoded.
@@ -326,6 +336,22 @@ pub fn mmix_exceptions(
     reply
 }
 
+/// A set's number; `place` becomes that of the first pair that fails, or 0.
+fn told(set: Result<(), Failed>, place: &mut u64) -> u64
+    ensures { (result ≡ number_in set) × (place.new ≡ place_in set) }
+{
+    match set {
+        Ok(()) => {
+            *place = 0;
+            replies::DONE
+        }
+        Err(failed) => {
+            *place = failed.place;
+            number_of(failed.reply)
+        }
+    }
+}
+
 /// PUT for a whole set on an image: 16 bytes a pair, its register's number and the value. `place` becomes that of the first pair that fails, or 0.
 pub fn mmix_put_set(image: &mut [u8], pairs: &[u8], place: &mut u64) -> u64
     ensures { SetImage image.old (pairs_in pairs.now) result place.new image.new }
@@ -336,32 +362,18 @@ pub fn mmix_put_set(image: &mut [u8], pairs: &[u8], place: &mut u64) -> u64
     }
     let mut general = [0u64; 256];
     let mut special = [0u64; 32];
-    let rest = image::load_state(&*image, &mut general, &mut special);
-    let pc = rest.pc;
-    let mut halt = rest.halt;
-    let marks = rest.marks;
-    let mask = rest.mask;
-    let put = sets::put_set_bytes(
-        &mut general,
-        &mut special,
-        &mut halt,
-        marks,
-        mask,
-        pairs,
-        place,
-    );
-    image::store_state(
-        &mut *image,
-        &general,
-        &special,
-        Rest {
-            pc,
-            halt,
-            marks,
-            mask,
-        },
-    );
-    number_of(put)
+    let mut rest = image::load_state(&*image, &mut general, &mut special);
+    let mut state = StateMut {
+        general: &mut general,
+        special: &mut special,
+        pc: &mut rest.pc,
+        halt: &mut rest.halt,
+        marks: rest.marks,
+        mask: rest.mask,
+    };
+    let set = sets::put_set_bytes(&mut state, pairs);
+    image::store_state(image, &general, &special, rest);
+    told(set, place)
 }
 
 /// One step in place on the parts of a state, for a host that steps millions of times.
@@ -466,8 +478,15 @@ pub fn mmix_put_set_parts(
         (pairs_of pairs.now) result place.new
         (made general.new special.new pc.new halt.new marks mask) }
 {
-    let put = sets::put_set(general, special, halt, marks, mask, pairs, place);
-    number_of(put)
+    let mut state = StateMut {
+        general,
+        special,
+        pc,
+        halt,
+        marks,
+        mask,
+    };
+    told(sets::put_set(&mut state, pairs), place)
 }
 
 /// Where the context saved at `address` lies: in which window, 0 for A and 1 for B, its first byte's index there and its length, all 0

@@ -1,5 +1,5 @@
 -- What take and go_back answer, from what their tests tell.
-use Rattle.model.proofs.Prelude.{ℕ, ◌%◌, ◌*◌, ◌<◌, ◌^◌, ◌≤◌, Bool, false, true, ◌&&◌, List, ◌++◌, ⊎_elim, ap, refl, sym, ◌∙◌, ◌≡◌, arith, eqb, ltb, drop}
+use Rattle.model.proofs.Prelude.{ℕ, ◌%◌, ◌*◌, ◌<◌, ◌^◌, ◌≤◌, Bool, false, true, ◌&&◌, List, ◌++◌, ⊎_elim, ap, sym, ◌∙◌, ◌≡◌, arith, eqb, ltb, drop}
 use Rattle.model.proofs.Prelude.{length, take, eq-eqb, eqb-true, le-ltb, leb-true, lt-ltb, ne_eqb, at_length, full, image_length, octas_in, Point, point_count}
 use Rattle.model.proofs.Prelude.{PointFits, point_in, ruled, ruled_one, Shape, shape_of, Shapes, shapes_of, window_max, part, written, admissible, unruled_by, Ruled}
 use Rattle.model.proofs.Prelude.{ruled_a, ruled_b, and_left, and_right, unruled_is, unruled_none, length_part, part_lent, part_within, written_lent}
@@ -76,26 +76,6 @@ module _ (s : List ℕ) (k : ℕ) (p : Point) where
 -- ---- a room
 
 module _ (r : List ℕ) (x y m n : ℕ) where
-  and_zero : (t : Bool) → (t && false) ≡ false
-  and_zero true = refl
-  and_zero false = refl
-
-  pub other_base_a : (number_at r 0 ≡ x → ⊥) → false ≡ suits r x y m n
-  unfolding suits
-  other_base_a d = rw (ne_eqb (number_at r 0) x d)
-
-  pub other_base_b : (number_at r 1 ≡ y → ⊥) → false ≡ suits r x y m n
-  unfolding suits
-  other_base_b d = simp (ne_eqb (number_at r 1) y d, and_zero)
-
-  pub other_length_a : (number_at r 2 ≡ m → ⊥) → false ≡ suits r x y m n
-  unfolding suits
-  other_length_a d = simp (ne_eqb (number_at r 2) m d, and_zero)
-
-  pub other_length_b : (number_at r 3 ≡ n → ⊥) → false ≡ suits r x y m n
-  unfolding suits
-  other_length_b d = simp (ne_eqb (number_at r 3) n d, and_zero)
-
   pub same_shape : number_at r 0 ≡ x → number_at r 1 ≡ y → number_at r 2 ≡ m → number_at r 3 ≡ n → admissible (state_of (part r 0 image_length)) ≡ suits r x y m n
   unfolding suits
   same_shape e f g h = rw (eq-eqb (number_at r 0) x e, eq-eqb (number_at r 1) y f, eq-eqb (number_at r 2) m g, eq-eqb (number_at r 3) n h)

@@ -3,7 +3,8 @@ ghost use Rattle.std.specs.Prelude.{◌≡◌, ◌+◌, ◌*◌, ◌/◌, ◌≤
 ghost use Rattle.model.specs.Octa.{part, written, value_of};
 ghost use Rattle.model.specs.Memory.{window_max};
 ghost use Rattle.model.specs.Kept.{image_length, old_image_length, octas_in, point_in, full};
-ghost use Rattle.image.specs.Image.{has_room};
+ghost use Rattle.model.specs.Registers.{admissible};
+ghost use Rattle.image.specs.Image.{has_room, state_of};
 ghost use Rattle.points.specs.Store.{a_at, b_at, room_length, number_at, is_taken, filled, mask_in, suits};
 
 use machine::window::WINDOW_MAX;
@@ -26,11 +27,7 @@ fn copy_in(to: &mut [u8], at: usize, from: &[u8])
     requires { at + length from.now ≤ length to.old }
     ensures { to.new ≡ written to.old at from.now }
 {
-    let mut i: usize = 0;
-    while i < from.len() {
-        to[at + i] = from[i];
-        i += 1;
-    }
+    to[at..at + from.len()].copy_from_slice(from);
 }
 
 // All of `to` becomes the bytes of `from` from `at` up.
@@ -38,11 +35,7 @@ fn copy_out(from: &[u8], at: usize, to: &mut [u8])
     requires { at + length to.old ≤ length from.now }
     ensures { to.new ≡ part from.now at (length to.old) }
 {
-    let mut i: usize = 0;
-    while i < to.len() {
-        to[i] = from[at + i];
-        i += 1;
-    }
+    to.copy_from_slice(&from[at..at + to.len()]);
 }
 
 /// Each place is filled from its front; the mask is 0 before the image comes, since an old one leaves it.
@@ -79,34 +72,33 @@ fn number(room: &[u8], k: usize) -> u64
 }
 
 /// Whether a point is taken.
+#[tactic(auto, unfolding(crate::specs::Store::is_taken))]
 pub(crate) fn is_taken(room: &[u8]) -> bool
     requires { length room.now ≡ room_length }
     ensures { result ≡ is_taken room.now }
 {
-    if number(room, 4) == 0 {
-        return false;
-    }
-    true
+    number(room, 4) != 0
+}
+
+// Whether the state in a room is admissible.
+fn is_admissible(room: &[u8]) -> bool
+    requires { length room.now ≡ room_length }
+    ensures { result ≡ admissible (state_of (part room.now 0 image_length)) }
+{
+    image::is_admissible(&room[0..IMAGE_LEN])
 }
 
 /// Whether the room's point has the bases and lengths that are lent, and an admissible state.
+#[tactic(auto, unfolding(crate::specs::Store::suits))]
 pub(crate) fn suits(room: &[u8], at: Bases, a: &[u8], b: &[u8]) -> bool
     requires { length room.now ≡ room_length }
     ensures { result ≡ suits room.now at.a at.b (octas_in a.now) (octas_in b.now) }
 {
-    if number(room, 0) != at.a {
-        return false;
-    }
-    if number(room, 1) != at.b {
-        return false;
-    }
-    if number(room, 2) != (a.len() / 8) as u64 {
-        return false;
-    }
-    if number(room, 3) != (b.len() / 8) as u64 {
-        return false;
-    }
-    image::is_admissible(&room[0..IMAGE_LEN])
+    number(room, 0) == at.a
+        && number(room, 1) == at.b
+        && number(room, 2) == (a.len() / 8) as u64
+        && number(room, 3) == (b.len() / 8) as u64
+        && is_admissible(room)
 }
 
 /// Whether an image has room for the mask of the room's point.

@@ -1,14 +1,15 @@
 -- What put_set answers, from what its tests and calls tell; and that of a long list its first 33 pairs tell as much as all.
-use Rattle.model.proofs.Prelude.{min, ℕ, ◌*◌, ◌+◌, ◌/◌, ◌<◌, ◌≤◌, false, true, List, ⊎_elim, ap, refl, sym, ◌∙◌, ◌≡◌, arith, length, le-leb, lt-ltb, tag_of}
-use Rattle.model.proofs.Prelude.{Among, number_of, reply_of, admissible, halted, r_l, Sized, sp, lt_or_le, not_done, numbered, refusals, tag_is}
+use Rattle.model.proofs.Prelude.{min, ℕ, ◌*◌, ◌+◌, ◌/◌, ◌<◌, ◌≤◌, false, true, List, ⊎_elim, ap, refl, sym, ◌∙◌, ◌≡◌, arith, length, le-leb, lt-ltb}
+use Rattle.model.proofs.Prelude.{number_of, admissible, halted, r_l, Sized, sp, lt_or_le, numbered}
 use Rattle.model.specs.declared.State.{State}
-use Rattle.model.specs.declared.Reply.{Reply}
 use Rattle.model.specs.declared.Reply.TheVariants.{NotAdmissible, TooManyPairs}
-use Rattle.model.specs.contracts.Reply.{the_type}
 use Rattle.machine.specs.Octabytes.{octas, loaded_octas}
 use Rattle.machine.proofs.OctabyteRuns.{length_octas}
 use Rattle.sets.specs.Sets.{Pair, SetOutcome, set_says, pairs_max, put_set_of, pairs_of, pairs_in, PutSet}
-use Rattle.sets.specs.Judged.{judge_pairs, put_all}
+use Rattle.std.specs.Prelude.{Err}
+use Rattle.sets.specs.declared.Failed.{Failed}
+use Rattle.sets.specs.Answer.{Judged}
+use Rattle.sets.specs.Judged.{Judgement, judge_pairs, put_all}
 use Rattle.sets.proofs.JudgedFirst.{set_one, set_thirty, set_done, set_refused}
 use Rattle.sets.proofs.Pairs.{judge_most, pairs_count}
 
@@ -28,23 +29,18 @@ module _ (s : State) (ps : List Pair) where
   unfolding number_of
   too_many e h = by s ps (set_says 30 0 s) (set_thirty s ps e h)
 
-  module _ (n : Sized s) (e : admissible s ≡ true) (h : length ps ≤ pairs_max) (r : Reply) (f : r ≡ reply_of (judge_pairs (sp s r_l) 0 ps).reply) where
-    most : (judge_pairs (sp s r_l) 0 ps).reply ≤ 33
-    most = let m = judge_most ps (sp s r_l) 0 in omega arith
+  module _ (n : Sized s) (e : admissible s ≡ true) (h : length ps ≤ pairs_max) where
+    abbrev judgement : Judgement
+    judgement = judge_pairs (sp s r_l) 0 ps
 
-    number : number_of r ≡ (judge_pairs (sp s r_l) 0 ps).reply
-    number = ap number_of f ∙ numbered.number_reply _ most
+    pub all_put : judgement.reply ≡ 0 → (t : State) → t ≡ put_all s ps → PutSet s ps 0 0 t
+    all_put z t q = rw q (by s ps (set_says 0 0 (put_all s ps)) (set_done s ps n e h _ refl z))
 
-    tag : tag_of the_type r ≡ (judge_pairs (sp s r_l) 0 ps).reply
-    tag = tag_is _ r most f
-
-    pub all_put : tag_of the_type r ≡ 0 → (t : State) → t ≡ put_all s ps → PutSet s ps (number_of r) 0 t
-    all_put z t q =
-        let k : (judge_pairs (sp s r_l) 0 ps).reply ≡ 0 = sym tag ∙ z in
-        rw (q, number ∙ k) (by s ps (set_says 0 0 (put_all s ps)) (set_done s ps n e h _ refl k))
-
-    pub none_put : Among refusals (tag_of the_type r) → (i : ℕ) → i ≡ (judge_pairs (sp s r_l) 0 ps).place → PutSet s ps (number_of r) i (halted s)
-    none_put z i q = rw (number, q) (by s ps _ (set_refused s ps n e h _ refl (λ k. not_done _ z (tag ∙ k))))
+    pub none_put : (f : Failed) → Judged judgement (Err f) → PutSet s ps (number_of f.reply) f.place (halted s)
+    none_put f j =
+        let m : judgement.reply ≤ 33 = (let k = judge_most ps (sp s r_l) 0 in omega arith) in
+        let number : number_of f.reply ≡ judgement.reply = ap number_of j.0 ∙ numbered.number_reply _ m in
+        rw (number, j.2) (by s ps _ (set_refused s ps n e h _ refl j.1))
 
 -- ---- the pairs of a list of bytes
 

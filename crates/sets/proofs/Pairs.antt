@@ -1,10 +1,13 @@
 -- The pairs of a list of octabytes, one after another from the front; what judging and putting come to, pair by pair.
-use Rattle.model.proofs.Prelude.{suc, ℕ, ◌*◌, ◌+◌, ◌/◌, ◌<◌, ◌≤◌, List, [], ◌∷◌, ap, refl, sym, ◌∙◌, ◌≡◌, arith, eqb, drop, get_or, length, length-drop}
+use Rattle.model.proofs.Prelude.{suc, ◌≢◌, ℕ, ◌*◌, ◌+◌, ◌/◌, ◌<◌, ◌≤◌, List, [], ◌∷◌, ap, refl, sym, ◌∙◌, ◌≡◌, arith, eqb, drop, get_or, length, length-drop}
 use Rattle.model.proofs.Prelude.{drop-cons, ne_eqb, tag_of, Among, reply_of, fresh, r_l, sp, with_special, put_refusal, put_state, put_most, on, not_done, refusals}
 use Rattle.model.proofs.Prelude.{tag_is}
 use Rattle.model.specs.declared.State.{State}
 use Rattle.model.specs.declared.Reply.{Reply}
 use Rattle.model.specs.contracts.Reply.{the_type}
+use Rattle.std.specs.Prelude.{Err}
+use Rattle.sets.specs.declared.Failed.{Failed}
+use Rattle.sets.specs.Answer.{Judged}
 use Rattle.sets.specs.Sets.{Pair, pair, pairs_of}
 use Rattle.sets.specs.Judged.{refusal_at, locals_after, Judgement, judges, judge_pairs, put_all}
 
@@ -56,6 +59,9 @@ module _ (l : ℕ) (p : Pair) (r : Reply) (e : r ≡ reply_of (refusal_at l p)) 
   tag : tag_of the_type r ≡ refusal_at l p
   tag = tag_is (refusal_at l p) r at_most e
 
+  pub fails : Among refusals (tag_of the_type r) → refusal_at l p ≢ 0
+  fails z = λ q. not_done _ z (tag ∙ q)
+
   module _ (i : ℕ) (ps : List Pair) where
     pub judge_on : tag_of the_type r ≡ 0 → (m : ℕ) → m ≡ locals_after l p → judge_pairs l i (p ∷ ps) ≡ judge_pairs m (i + 1) ps
     unfolding judge_pairs
@@ -63,7 +69,7 @@ module _ (l : ℕ) (p : Pair) (r : Reply) (e : r ≡ reply_of (refusal_at l p)) 
 
     pub judge_stops : Among refusals (tag_of the_type r) → judge_pairs l i (p ∷ ps) ≡ judges (refusal_at l p) i
     unfolding judge_pairs
-    judge_stops z = rw (ne_eqb (refusal_at l p) 0 (λ q. not_done _ z (tag ∙ q)))
+    judge_stops z = rw (ne_eqb (refusal_at l p) 0 (fails z))
 
 pub judge_none : (l i : ℕ) (ps : List Pair) → ps ≡ [] → judge_pairs l i ps ≡ judges 0 0
 unfolding judge_pairs
@@ -76,9 +82,12 @@ judge_most [] l i = omega arith
 judge_most (p ∷ ps) l i =
     on (λ (j : Judgement). j.reply ≤ 11) (eqb (refusal_at l p) 0) (λ z. judge_most ps (locals_after l p) (suc i)) (λ z. put_most (with_special fresh r_l l) p.register p.value)
 
--- a verdict that is told
-pub told : (j k : Judgement) (r : Reply) (i : ℕ) → j ≡ k → r ≡ reply_of k.reply → i ≡ k.place → (r ≡ reply_of j.reply) × (i ≡ j.place)
-told j k r i e f g = (f ∙ ap (λ (o : Judgement). reply_of o.reply) (sym e), g ∙ ap (λ (o : Judgement). o.place) (sym e))
+-- what is told of a pair that fails, and where none does
+pub told_fails : (j k : Judgement) (f : Failed) → j ≡ k → f.reply ≡ reply_of k.reply → k.reply ≢ 0 → f.place ≡ k.place → Judged j (Err f)
+told_fails j k f e r z i = rw e (r, z, i)
+
+pub told_passes : (j k : Judgement) → j ≡ k → k.reply ≡ 0 → j.reply ≡ 0
+told_passes j k e z = rw e z
 
 -- ---- putting
 

@@ -1,16 +1,16 @@
 //! PUT for a whole set of special registers, in place: each pair of a list takes effect, or none does. It is judged first, by rL alone, and then put.
 #![tactic(auto)]
 
-ghost use Rattle.std.specs.Prelude.{◌≡◌, ℕ};
+ghost use Rattle.std.specs.Prelude.{◌≡◌};
 ghost use Rattle.model.specs.Registers.{with_parts};
-ghost use Rattle.model.specs.Parts.{made};
-ghost use Rattle.model.specs.Numbers.{number_of, reply_of};
+ghost use Rattle.model.specs.Lent.{state_lent, SameState};
 ghost use Rattle.model.specs.declared.State.{State};
 ghost use Rattle.machine.specs.Octabytes.{loaded_octas};
 ghost use Rattle.sets.specs.Sets.{pair, pairs_of, pairs_in, PutSet};
 ghost use Rattle.sets.specs.Judged.{locals_after, judge_pairs, put_all};
+ghost use Rattle.sets.specs.Answer.{number_in, place_in, Judged};
 
-use model::{Reply, State};
+use model::{Reply, State, StateMut};
 
 pub mod value;
 
@@ -22,11 +22,11 @@ const READ_MAX: usize = 2 * (PAIRS_MAX + 1);
 
 const RL: u64 = State::RL as u64;
 
-/// What refuses the first pair that fails, and its place; Done and 0 where none does.
+/// Why a set is refused, and the place of the first pair that fails; 0 where no pair does.
 #[derive(Clone, Copy)]
-struct Verdict {
-    reply: Reply,
-    place: u64,
+pub struct Failed {
+    pub reply: Reply,
+    pub place: u64,
 }
 
 /// rL after PUT of a value to special register x.
@@ -40,30 +40,24 @@ fn locals_after(rl: u64, x: u64, value: u64) -> u64
 }
 
 /// Each pair is judged where the earlier ones leave rL.
-fn judge(rl: u64, pairs: &[u64]) -> Verdict
-    ensures { (result.reply ≡ reply_of (judge_pairs rl 0 (pairs_of pairs.now)).reply)
-        × (result.place ≡ (judge_pairs rl 0 (pairs_of pairs.now)).place) }
+fn judge(rl: u64, pairs: &[u64]) -> Result<(), Failed>
+    ensures { Judged (judge_pairs rl 0 (pairs_of pairs.now)) result }
 {
     let mut local = rl;
-    let mut i: usize = 0;
-    while i < pairs.len() / 2 {
+    for i in 0..pairs.len() / 2 {
         let x = pairs[2 * i];
-        let v = pairs[2 * i + 1];
-        let judged = machine::registers::put_refusal(local, x, v);
-        if let Reply::Done = judged {
-            local = locals_after(local, x, v);
+        let value = pairs[2 * i + 1];
+        let reply = machine::registers::put_refusal(local, x, value);
+        if let Reply::Done = reply {
+            local = locals_after(local, x, value);
         } else {
-            return Verdict {
-                reply: judged,
+            return Err(Failed {
+                reply,
                 place: i as u64,
-            };
+            });
         }
-        i += 1;
     }
-    Verdict {
-        reply: Reply::Done,
-        place: 0,
-    }
+    Ok(())
 }
 
 /// Each pair takes effect.
@@ -71,90 +65,56 @@ fn put_all(general: &mut [u64; 256], special: &mut [u64; 32], pairs: &[u64])
     ensures { (s : State) → with_parts s general.new special.new
         ≡ put_all (with_parts s general.old special.old) (pairs_of pairs.now) }
 {
-    let mut i: usize = 0;
-    while i < pairs.len() / 2 {
+    for i in 0..pairs.len() / 2 {
         machine::registers::put_state(general, special, pairs[2 * i], pairs[2 * i + 1]);
-        i += 1;
     }
 }
 
-/// A set in place: `pairs` are numbers of special registers, each with its value behind it; `place` becomes that of the first pair that fails, or 0.
-pub fn put_set(
-    general: &mut [u64; 256],
-    special: &mut [u64; 32],
-    halt: &mut u64,
-    marks: u64,
-    mask: u64,
-    pairs: &[u64],
-    place: &mut u64,
-) -> Reply
-    ensures { (pc : ℕ) → PutSet
-        (made general.old special.old pc halt.old marks mask) (pairs_of pairs.now) (number_of result) place.new
-        (made general.new special.new pc halt.new marks mask) }
+/// A set in place: `pairs` are numbers of special registers, each with its value behind it.
+pub fn put_set(state: &mut StateMut<'_>, pairs: &[u64]) -> Result<(), Failed>
+    ensures same { SameState state.old state.new }
+    ensures put { PutSet (state_lent state.old) (pairs_of pairs.now) (number_in result) (place_in result)
+        (state_lent state.new) }
 {
-    *place = 0;
-    if !machine::registers::admissible(&*special, marks, mask) {
-        return Reply::NotAdmissible;
+    if !machine::registers::admissible(state.special, state.marks, state.mask) {
+        return Err(Failed {
+            reply: Reply::NotAdmissible,
+            place: 0,
+        });
     }
     if PAIRS_MAX < pairs.len() / 2 {
-        return Reply::TooManyPairs;
+        return Err(Failed {
+            reply: Reply::TooManyPairs,
+            place: 0,
+        });
     }
-    machine::registers::counted(&*general, &*special);
-    let rl = special[State::RL];
-    let verdict = judge(rl, pairs);
-    let reply = verdict.reply;
-    if let Reply::Done = reply {
-        put_all(general, special, pairs);
-    } else {
-        *place = verdict.place;
-        *halt = 1;
+    machine::registers::counted(state.general, state.special);
+    let rl = state.special[State::RL];
+    if let Err(failed) = judge(rl, pairs) {
+        *state.halt = 1;
+        return Err(failed);
     }
-    reply
+    put_all(state.general, state.special, pairs);
+    Ok(())
 }
 
 /// The same with the pairs read out of bytes, as many octabytes as `octas` has room for.
-fn put_read(
-    general: &mut [u64; 256],
-    special: &mut [u64; 32],
-    halt: &mut u64,
-    marks: u64,
-    mask: u64,
-    bytes: &[u8],
-    octas: &mut [u64],
-    place: &mut u64,
-) -> Reply
-    ensures { (pc : ℕ) → PutSet (made general.old special.old pc halt.old marks mask)
-        (pairs_of (loaded_octas bytes.now 0 octas.old)) (number_of result) place.new
-        (made general.new special.new pc halt.new marks mask) }
+fn put_read(state: &mut StateMut<'_>, bytes: &[u8], octas: &mut [u64]) -> Result<(), Failed>
+    ensures same { SameState state.old state.new }
+    ensures put { PutSet (state_lent state.old) (pairs_of (loaded_octas bytes.now 0 octas.old))
+        (number_in result) (place_in result) (state_lent state.new) }
 {
-    machine::octabytes::load_octas(bytes, 0, &mut *octas);
-    put_set(general, special, halt, marks, mask, &*octas, place)
+    machine::octabytes::load_octas(bytes, 0, octas);
+    put_set(state, octas)
 }
 
 /// The same with the pairs as bytes, 16 a pair, high byte first.
-pub fn put_set_bytes(
-    general: &mut [u64; 256],
-    special: &mut [u64; 32],
-    halt: &mut u64,
-    marks: u64,
-    mask: u64,
-    bytes: &[u8],
-    place: &mut u64,
-) -> Reply
-    ensures { (pc : ℕ) → PutSet
-        (made general.old special.old pc halt.old marks mask) (pairs_in bytes.now) (number_of result) place.new
-        (made general.new special.new pc halt.new marks mask) }
+pub fn put_set_bytes(state: &mut StateMut<'_>, bytes: &[u8]) -> Result<(), Failed>
+    ensures same { SameState state.old state.new }
+    ensures put { PutSet (state_lent state.old) (pairs_in bytes.now) (number_in result) (place_in result)
+        (state_lent state.new) }
 {
-    let mut octas = [0u64; READ_MAX];
+    let mut octas = [0; READ_MAX];
     let count = machine::number::least((bytes.len() / 8) as u64, READ_MAX as u64) as usize;
-    put_read(
-        general,
-        special,
-        halt,
-        marks,
-        mask,
-        bytes,
-        &mut octas[0..count],
-        place,
-    )
+    put_read(state, bytes, &mut octas[0..count])
 }

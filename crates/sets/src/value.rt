@@ -1,44 +1,28 @@
 // A set on a state by value.
-ghost use Rattle.model.specs.Numbers.{number_of};
 ghost use Rattle.sets.specs.Sets.{pairs_of, PutSet};
+ghost use Rattle.sets.specs.Answer.{number_in, place_in};
 
-use model::{Reply, State};
+use super::Failed;
+use model::{State, StateMut};
 
-/// What a set answers: its reply, the place of the first pair that fails, or 0, and the state that it leaves.
+/// What a set answers, and the state that it leaves.
 #[derive(Clone, Copy)]
 pub struct SetAnswer {
-    pub reply: Reply,
-    pub place: u64,
+    pub set: Result<(), Failed>,
     pub state: State,
 }
 
-pub fn put_set(state: State, pairs: &[u64]) -> SetAnswer
-    ensures { PutSet state (pairs_of pairs.now) (number_of result.reply) result.place result.state }
+pub fn put_set(mut state: State, pairs: &[u64]) -> SetAnswer
+    ensures { PutSet state (pairs_of pairs.now) (number_in result.set) (place_in result.set) result.state }
 {
-    let mut general = state.general;
-    let mut special = state.special;
-    let mut halt = state.halt;
-    let mut place = 0;
-    let reply = super::put_set(
-        &mut general,
-        &mut special,
-        &mut halt,
-        state.marks,
-        state.mask,
-        pairs,
-        &mut place,
-    );
-    let next = State {
-        general: general,
-        special: special,
-        pc: state.pc,
-        halt: halt,
+    let mut lent = StateMut {
+        general: &mut state.general,
+        special: &mut state.special,
+        pc: &mut state.pc,
+        halt: &mut state.halt,
         marks: state.marks,
         mask: state.mask,
     };
-    SetAnswer {
-        reply: reply,
-        place: place,
-        state: next,
-    }
+    let set = super::put_set(&mut lent, pairs);
+    SetAnswer { set, state }
 }

@@ -19,18 +19,18 @@ module _ (h : Whole) (x d : ℕ) (e : d ≡ offset h.base x) where
   unfolding foreign has
   asked_out l = rw (lt-leb (offset h.base x + 8) h.len (omega arith))
 
-  pub asked_own : h.start ≤ d → d < h.start + h.size → false ≡ is_foreign h x
+  pub asked_own : h.part.start ≤ d → d < h.part.start + h.part.len → false ≡ is_foreign h x
   unfolding foreign owns
-  asked_own l m = rw (le-leb h.start (offset h.base x) (omega arith), lt-ltb (offset h.base x) (h.start + h.size) (omega arith)) (sym (and_none (has (whole_of h).b x)))
+  asked_own l m = rw (le-leb h.part.start (offset h.base x) (omega arith), lt-ltb (offset h.base x) (h.part.start + h.part.len) (omega arith)) (sym (and_none (has (whole_of h).b x)))
 
-  pub asked_before : d + 8 ≤ h.len → d < h.start → true ≡ is_foreign h x
+  pub asked_before : d + 8 ≤ h.len → d < h.part.start → true ≡ is_foreign h x
   unfolding foreign has owns
-  asked_before l m = rw (le-leb (offset h.base x + 8) h.len (omega arith), lt-leb h.start (offset h.base x) (omega arith))
+  asked_before l m = rw (le-leb (offset h.base x + 8) h.len (omega arith), lt-leb h.part.start (offset h.base x) (omega arith))
 
-  pub asked_behind : d + 8 ≤ h.len → h.start ≤ d → h.start + h.size ≤ d → true ≡ is_foreign h x
+  pub asked_behind : d + 8 ≤ h.len → h.part.start ≤ d → h.part.start + h.part.len ≤ d → true ≡ is_foreign h x
   unfolding foreign has owns
   asked_behind l m n =
-      rw (le-leb (offset h.base x + 8) h.len (omega arith), le-leb h.start (offset h.base x) (omega arith), le-ltb (offset h.base x) (h.start + h.size) (omega arith))
+      rw (le-leb (offset h.base x + 8) h.len (omega arith), le-leb h.part.start (offset h.base x) (omega arith), le-ltb (offset h.base x) (h.part.start + h.part.len) (omega arith))
 
 -- ---- a run of n from a up: i are passed, and the next is at b
 

@@ -9,6 +9,8 @@ use Rattle.task_run.proofs.Prelude.{State, read_octa, held_inside, held_none, oc
 use Rattle.model.proofs.StepNeeds.{needs_are}
 use Rattle.decode.proofs.Groups.{load_arm, store_arm}
 use Rattle.task_run.specs.Ask.{own_of, whole_of, is_foreign, asks, OwnOnly, CountsInRange}
+use Rattle.model.specs.Lent.{SaidBy}
+use Rattle.model.specs.declared.Instruction.{Instruction}
 use Rattle.task_run.specs.declared.ask.Whole.{Whole}
 use Rattle.task_run.proofs.Asks.{differ, asks_last}
 
@@ -132,13 +134,15 @@ module _ (h : Whole) (w : Windows) (o : OwnOnly h w) (s : State) (a : admissible
   unfolding any_foreign
   unfetched_asks q r f = f ∙ sym (needed ∙ rw (held_none (shapes_of w) s.pc (sym e ∙ q)) (or_none (is_foreign h s.pc)))
 
-  -- v is the octabyte at PC, t the tetra there, c the state that its arm works on
-  pub fetched_asks : (k ≡ 2 → ⊥) → (v t : ℕ) → v ≡ read_octa w s.pc → t ≡ operand_in tetra s.pc v → (c : State) → c ≡ claimed_by s (opcode_in t) (x_in t)
-      → (r : Bool) → r ≡ asks h (arm_needs w c (arm_of (opcode_in t)) (x_in t) (y_in t) (z_in t)) → r ≡ asks h (fetched_needs w s)
-  fetched_asks q v t d f c g r i =
+  -- v is the octabyte at PC, t the tetra there, i the instruction that it says, c the state that its arm works on
+  pub fetched_asks : (k ≡ 2 → ⊥) → (v t : ℕ) → v ≡ read_octa w s.pc → t ≡ operand_in tetra s.pc v → (i : Instruction) → SaidBy t i → (c : State) → c ≡ claimed_by s i.op i.x
+      → (r : Bool) → r ≡ asks h (arm_needs w c (arm_of i.op) i.x i.y i.z) → r ≡ asks h (fetched_needs w s)
+  fetched_asks q v t d f i b c g r j =
       let there : inside (shapes_of w) s.pc ≡ true = held_inside (shapes_of w) s.pc (λ z. q (e ∙ z)) in
       let same : tetra_of w s ≡ t = unfold tetra_at in (ap (operand_in tetra s.pc) (sym (d ∙ octa_held w s.pc (λ z. q (e ∙ z)))) ∙ sym f) in
-      i ∙ sym (needed ∙ rw (there, o.none_foreign s.pc there, same, ← g) (unfold tetra_needs in (ap (asks h) (unrefused w c (arm_of (opcode_in t)) (x_in t) (y_in t) (z_in t)))))
+      let on : c ≡ claimed_by s (opcode_in t) (x_in t) = rw b at g in
+      let needs : r ≡ asks h (arm_needs w c (arm_of (opcode_in t)) (x_in t) (y_in t) (z_in t)) = rw b at j in
+      needs ∙ sym (needed ∙ rw (there, o.none_foreign s.pc there, same, ← on) (unfold tetra_needs in (ap (asks h) (unrefused w c (arm_of (opcode_in t)) (x_in t) (y_in t) (z_in t)))))
 
 -- ---- a claim
 

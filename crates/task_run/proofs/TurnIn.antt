@@ -18,6 +18,10 @@ use Rattle.task_run.proofs.TurnRun.{run_shapes}
 refused : (w : Windows) (s : State) (n m : ℕ) → n ≡ m → RunNumbered (refused_whole m w s) n 0 s w
 refused w s n m e = record { reply_is = e; count_is = refl; state_is = refl; window_is = refl }
 
+-- windows that were only read are judged as they are lent
+pub judged_read : (w v : Windows) (s : State) (n : ℕ) → n ≡ refusal_on w s → w ≡ v → n ≡ refusal_on v s
+judged_read w v s n e f = e ∙ ap (λ (u : Windows). refusal_on u s) f
+
 module _ (p : Own) (w : Windows) (s : State) (grant : ℕ) where
   pub turn_unopened : (n : ℕ) → n ≡ refusal_on w s → (n ≡ 0 → ⊥) → RunNumbered (run_in w s p grant) n 0 s w
   unfolding refusal_on run_in
@@ -50,7 +54,7 @@ module _ (p : Own) (w : Windows) (s : State) (grant : ℕ) where
 -- ---- the whole, and the part beside A
 
 abbrev pub whole_in : Own → Windows → Whole
-whole_in p w = record { base = w.b.base; len = length w.b.bytes; start = p.start; size = p.size }
+whole_in p w = record { base = w.b.base; len = length w.b.bytes; part = record { start = p.start; len = p.size } }
 
 any_whole : (p : Own) (w : Windows) (l : List ℕ) → any_foreign p (shapes_of w) l ≡ asks (whole_in p w) l
 unfolding any_foreign foreign shapes_of shape_of

@@ -6,11 +6,11 @@ use Rattle.model.specs.Step.{fetched_needs}
 use Rattle.model.specs.Run.{Stopped}
 use Rattle.model.specs.declared.State.{State}
 use Rattle.task_model.specs.Tasks.{Own, foreign, any_foreign}
-use Rattle.task_run.specs.RunIn.{lost}
+use Rattle.task_run.specs.RunIn.{own, lost}
 use Rattle.task_run.specs.declared.ask.Whole.{Whole}
 
 abbrev pub own_of : Whole → Own
-own_of h = record { start = h.start; size = h.size }
+own_of h = own h.part
 
 -- the shape of B; `foreign` asks nothing of A
 abbrev pub whole_of : Whole → Shapes

@@ -7,6 +7,11 @@ use Rattle.model.specs.Run.{Stopped, grant_most, refused_whole, run_for}
 use Rattle.model.specs.declared.State.{State}
 use Rattle.task_model.specs.Tasks.{Own, mmix_in}
 use Rattle.task_model.specs.Call.{part_ruled}
+use Rattle.task_run.specs.declared.Part.{Part}
+
+-- a part as code has it
+abbrev pub own : Part → Own
+own p = record { start = p.start; size = p.len }
 
 -- 1, 2, 22 and 25 as a run judges them, then 33 where the part is none of B's; then instruction by instruction
 unfoldable pub run_in : Windows → State → Own → ℕ → Stopped State Windows

@@ -9,43 +9,33 @@ ghost use Rattle.model.specs.Frames.{hole};
 ghost use Rattle.model.specs.Contexts.{extent};
 ghost use Rattle.model.specs.Step.{unruled_by, fetched_needs};
 ghost use Rattle.model.specs.StepNeeds.{pop_needs, unsave_needs_count, unsave_needs, arm_needs};
-ghost use Rattle.model.specs.Parts.{made, lent};
+ghost use Rattle.model.specs.Parts.{made};
+ghost use Rattle.model.specs.Lent.{state_lent, windows_read};
 ghost use Rattle.task_run.specs.Ask.{is_foreign, asks, OwnOnly, CountsInRange};
 
+use super::Part;
 use contexts::layout;
 use decode::opcode;
-use model::{Bases, State};
+use model::{Instruction, State, StateMut, WindowsRef};
 
 /// Where the whole of B lies and which part of it is the task's own.
 #[derive(Clone, Copy)]
 pub(crate) struct Whole {
     pub base: u64,
     pub len: u64,
-    pub start: u64,
-    pub size: u64,
+    pub part: Part,
 }
 
 /// The holder of an octabyte that is in neither window.
 const NEITHER: u64 = 2;
 
 /// Whether the octabyte that `addr` names lies in B outside the part.
+#[tactic(auto, unfolding(task_model::specs::Tasks::foreign, model::specs::Memory::has))]
 fn is_foreign(whole: Whole, addr: u64) -> bool
     ensures { result ≡ is_foreign whole addr }
 {
     let at = machine::window::distance(whole.base, addr);
-    if whole.len < 8 {
-        return false;
-    }
-    if whole.len - 8 < at {
-        return false;
-    }
-    if at < whole.start {
-        return true;
-    }
-    if at - whole.start < whole.size {
-        return false;
-    }
-    true
+    8 <= whole.len && at <= whole.len - 8 && !whole.part.owns(at)
 }
 
 /// Whether one of the n octabytes from `addr` up does.
@@ -53,18 +43,17 @@ fn has_foreign(whole: Whole, addr: u64, n: u64) -> bool
     ensures { result ≡ asks whole (ups addr n) }
 {
     let mut place = addr;
-    let mut i: u64 = 0;
-    while i < n {
+    for _ in 0..n {
         if is_foreign(whole, place) {
             return true;
         }
         place = model::number::wrapping_add(place, 8);
-        i += 1;
     }
     false
 }
 
 /// A call's frame.
+#[tactic(auto, unfolding(model::specs::Frames::hole))]
 fn push_asks(special: &[u64; 32], whole: Whole, x: u8) -> bool
     requires { CountsInRange special.now }
     ensures { (general : List ℕ) (pc halt marks mask : ℕ) → result
@@ -75,17 +64,15 @@ fn push_asks(special: &[u64; 32], whole: Whole, x: u8) -> bool
     let rl = special[State::RL];
     let ro = special[State::RO];
     let at = x as u64;
-    if rg <= at {
-        return has_foreign(whole, ro, rl + 1);
-    }
-    has_foreign(whole, ro, at + 1)
+    let hole = if rg <= at { rl } else { at };
+    has_foreign(whole, ro, hole + 1)
 }
 
 /// POP's octabyte below rO, and then the locals.
-fn pop_asks(special: &[u64; 32], a: &[u8], b: &[u8], at: Bases, whole: Whole) -> bool
-    requires { OwnOnly whole (lent at a.now b.now) }
+fn pop_asks(special: &[u64; 32], windows: WindowsRef<'_>, whole: Whole) -> bool
+    requires { OwnOnly whole (windows_read windows) }
     ensures { (general : List ℕ) (pc halt marks mask : ℕ) → result
-        ≡ asks whole (pop_needs (lent at a.now b.now) (made general special.now pc halt marks mask)) }
+        ≡ asks whole (pop_needs (windows_read windows.entry) (made general special.now pc halt marks mask)) }
 {
     let ro = special[State::RO];
     let rg = special[State::RG];
@@ -102,7 +89,7 @@ fn pop_asks(special: &[u64; 32], a: &[u8], b: &[u8], at: Bases, whole: Whole) ->
     if is_foreign(whole, below) {
         return true;
     }
-    let octa = machine::memory::read_octa(a, b, at, below);
+    let octa = machine::memory::read_octa(windows.a, windows.b, windows.at, below);
     if octa.holder == NEITHER {
         return false;
     }
@@ -128,15 +115,15 @@ fn save_asks(special: &[u64; 32], whole: Whole, x: u8) -> bool
 }
 
 /// The local count of a context with the threshold rg, then the rest. (Not by the stack's layout: what has one caller stands in line there.)
-fn count_asks(a: &[u8], b: &[u8], at: Bases, whole: Whole, address: u64, rg: u64) -> bool
-    requires { (32 ≤ rg) × (rg ≤ 255) × OwnOnly whole (lent at a.now b.now) }
-    ensures { (ra : ℕ) → ra ≤ 0x3FFFF → result ≡ asks whole (unsave_needs_count (lent at a.now b.now) address rg ra) }
+fn count_asks(windows: WindowsRef<'_>, whole: Whole, address: u64, rg: u64) -> bool
+    requires { (32 ≤ rg) × (rg ≤ 255) × OwnOnly whole (windows_read windows) }
+    ensures { (ra : ℕ) → ra ≤ 0x3FFFF → result ≡ asks whole (unsave_needs_count (windows_read windows.entry) address rg ra) }
 {
     let marker = model::number::wrapping_sub(address, 8 * (layout::AT_PACKED - rg));
     if is_foreign(whole, marker) {
         return true;
     }
-    let octa = machine::memory::read_octa(a, b, at, marker);
+    let octa = machine::memory::read_octa(windows.a, windows.b, windows.at, marker);
     if octa.holder == NEITHER {
         return false;
     }
@@ -149,14 +136,14 @@ fn count_asks(a: &[u8], b: &[u8], at: Bases, whole: Whole, address: u64, rg: u64
 }
 
 /// UNSAVE's packed octabyte, then the local count, then the rest.
-fn unsave_asks(a: &[u8], b: &[u8], at: Bases, whole: Whole, address: u64) -> bool
-    requires { OwnOnly whole (lent at a.now b.now) }
-    ensures { result ≡ asks whole (unsave_needs (lent at a.now b.now) address) }
+fn unsave_asks(windows: WindowsRef<'_>, whole: Whole, address: u64) -> bool
+    requires { OwnOnly whole (windows_read windows) }
+    ensures { result ≡ asks whole (unsave_needs (windows_read windows.entry) address) }
 {
     if is_foreign(whole, address) {
         return true;
     }
-    let octa = machine::memory::read_octa(a, b, at, address);
+    let octa = machine::memory::read_octa(windows.a, windows.b, windows.at, address);
     if octa.holder == NEITHER {
         return false;
     }
@@ -169,77 +156,60 @@ fn unsave_asks(a: &[u8], b: &[u8], at: Bases, whole: Whole, address: u64) -> boo
     if machine::registers::STATUS_MAX < ra {
         return false;
     }
-    count_asks(a, b, at, whole, address, rg)
+    count_asks(windows, whole, address, rg)
 }
 
-/// What the arm of an opcode needs, on the registers that it works on.
+/// What the arm of an instruction needs, on the registers that it works on.
 fn arm_asks(
     general: &[u64; 256],
     special: &[u64; 32],
-    a: &[u8],
-    b: &[u8],
-    at: Bases,
+    windows: WindowsRef<'_>,
     whole: Whole,
-    op: u8,
-    x: u8,
-    y: u8,
-    z: u8,
+    i: Instruction,
 ) -> bool
-    requires { CountsInRange special.now × OwnOnly whole (lent at a.now b.now) }
+    requires { CountsInRange special.now × OwnOnly whole (windows_read windows) }
     ensures { (pc halt marks mask : ℕ) → result
-        ≡ asks whole (arm_needs (lent at a.now b.now) (made general.now special.now pc halt marks mask)
-        (arm_of op) x y z) }
+        ≡ asks whole (arm_needs (windows_read windows.entry) (made general.now special.now pc halt marks mask)
+        (arm_of i.op) i.x i.y i.z) }
 {
-    if opcode::is_among(op, opcode::FIRST_LOAD, opcode::LAST_LOAD) {
-        return is_foreign(whole, arms::control::sum(general, op, y, z));
+    if opcode::is_among(i.op, opcode::FIRST_LOAD, opcode::LAST_LOAD) {
+        return is_foreign(whole, arms::control::sum(general, i.op, i.y, i.z));
     }
-    if opcode::is_among(op, opcode::FIRST_STORE, opcode::LAST_STORE) {
-        return is_foreign(whole, arms::control::sum(general, op, y, z));
+    if opcode::is_among(i.op, opcode::FIRST_STORE, opcode::LAST_STORE) {
+        return is_foreign(whole, arms::control::sum(general, i.op, i.y, i.z));
     }
-    match op {
-        opcode::PUSHGO => push_asks(special, whole, x),
-        opcode::PUSHGOI => push_asks(special, whole, x),
-        opcode::PUSHJ => push_asks(special, whole, x),
-        opcode::PUSHJB => push_asks(special, whole, x),
-        opcode::POP => pop_asks(special, a, b, at, whole),
-        opcode::SAVE => save_asks(special, whole, x),
-        opcode::UNSAVE => {
-            let address = general[z as usize];
-            unsave_asks(a, b, at, whole, address)
-        }
+    // An arm a key: of an or-pattern a proof is told ranges in place of the keys.
+    match i.op {
+        opcode::PUSHGO => push_asks(special, whole, i.x),
+        opcode::PUSHGOI => push_asks(special, whole, i.x),
+        opcode::PUSHJ => push_asks(special, whole, i.x),
+        opcode::PUSHJB => push_asks(special, whole, i.x),
+        opcode::POP => pop_asks(special, windows, whole),
+        opcode::SAVE => save_asks(special, whole, i.x),
+        opcode::UNSAVE => unsave_asks(windows, whole, general[i.z as usize]),
         _ => false,
     }
 }
 
 /// Whether the instruction at PC does: the fetch, then what its arm needs after the claim of $X. The registers stay.
-pub(crate) fn asks_foreign(
-    general: &[u64; 256],
-    special: &[u64; 32],
-    pc: u64,
-    a: &[u8],
-    b: &[u8],
-    at: Bases,
-    whole: Whole,
-) -> bool
-    requires { CountsInRange special.now × OwnOnly whole (lent at a.now b.now) × (unruled_by (shapes_of (lent at a.now b.now)) ≡ 0) }
-    ensures { (halt marks mask : ℕ) → admissible (made general.now special.now pc halt marks mask) ≡ true → result
-        ≡ asks whole (fetched_needs (lent at a.now b.now) (made general.now special.now pc halt marks mask)) }
+pub(crate) fn asks_foreign(state: &StateMut<'_>, windows: WindowsRef<'_>, whole: Whole) -> bool
+    requires { CountsInRange state.now.special.now × OwnOnly whole (windows_read windows) × (unruled_by (shapes_of (windows_read windows)) ≡ 0) }
+    ensures { admissible (state_lent state.now) ≡ true → result
+        ≡ asks whole (fetched_needs (windows_read windows.entry) (state_lent state.now)) }
 {
-    let found = machine::memory::read_octa(a, b, at, pc);
+    let pc = *state.pc;
+    let found = machine::memory::read_octa(windows.a, windows.b, windows.at, pc);
     if found.holder == NEITHER {
         return is_foreign(whole, pc);
     }
     let v = found.value;
     let tetra = decode::operand::tetra_at(pc, v);
-    let op = (tetra / 0x100_0000) as u8;
-    let x = (tetra / 0x1_0000 % 0x100) as u8;
-    let y = (tetra / 0x100 % 0x100) as u8;
-    let z = (tetra % 0x100) as u8;
-    if !opcode::claims(op) {
-        return arm_asks(general, special, a, b, at, whole, op, x, y, z);
+    let i = Instruction::from(tetra as u32);
+    if !opcode::claims(i.op) {
+        return arm_asks(state.general, state.special, windows, whole, i);
     }
-    let mut claimed = *general;
-    let mut specials = *special;
-    stack::pass::claim_local(&mut claimed, &mut specials, x);
-    arm_asks(&claimed, &specials, a, b, at, whole, op, x, y, z)
+    let mut claimed = *state.general;
+    let mut specials = *state.special;
+    stack::pass::claim_local(&mut claimed, &mut specials, i.x);
+    arm_asks(&claimed, &specials, windows, whole, i)
 }

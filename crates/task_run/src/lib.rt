@@ -7,93 +7,101 @@ ghost use Rattle.model.specs.Memory.{shapes_of};
 ghost use Rattle.model.specs.Registers.{admissible};
 ghost use Rattle.model.specs.Step.{unruled_by};
 ghost use Rattle.model.specs.Run.{run_of};
-ghost use Rattle.model.specs.Parts.{made, lent};
+ghost use Rattle.model.specs.Parts.{lent};
+ghost use Rattle.model.specs.Lent.{state_lent, windows_lent, SameState, SameWindows};
+ghost use Rattle.task_model.specs.Tasks.{owns};
 ghost use Rattle.task_model.specs.Call.{part_ruled};
 ghost use Rattle.instruction.specs.StepAnswer.{RunNumbered};
-ghost use Rattle.task_run.specs.RunIn.{lost, run_in};
+ghost use Rattle.task_run.specs.RunIn.{own, lost, run_in};
 ghost use Rattle.task_run.specs.Ask.{OwnOnly, told};
 
 use ask::Whole;
-use model::{Bases, GRANT_MOST, replies};
+use model::{Bases, GRANT_MOST, StateMut, WindowsMut, WindowsRef, replies};
 
 mod ask;
 
-/// Whether a part lies in a window of `window_len` bytes and splits no octabyte.
-pub fn is_part(window_len: u64, start: u64, len: u64) -> bool
-    ensures { result ≡ part_ruled window_len (record { start = start; size = len }) }
-{
-    if start % 8 != 0 {
-        return false;
-    }
-    if len % 8 != 0 {
-        return false;
-    }
-    if window_len < start {
-        return false;
-    }
-    if len <= window_len - start {
-        return true;
-    }
-    false
+/// A task's own part of B: where it starts in B, and how many bytes it has.
+#[derive(Clone, Copy)]
+pub struct Part {
+    pub start: u64,
+    pub len: u64,
 }
 
-/// Up to `grant` instructions of a task on A and its own part of B, `len` bytes from `start` on. How many were done is written at every reply.
+impl Part {
+    /// Whether it lies in a window of `window_len` bytes and splits no octabyte.
+    #[tactic(auto, unfolding(task_model::specs::Call::part_ruled))]
+    pub fn is_ruled(self, window_len: u64) -> bool
+        ensures { result ≡ part_ruled window_len (own self) }
+    {
+        self.start % 8 == 0
+            && self.len % 8 == 0
+            && self.start <= window_len
+            && self.len <= window_len - self.start
+    }
+
+    /// Whether byte `at` of B lies in it.
+    #[tactic(auto, unfolding(task_model::specs::Tasks::owns))]
+    pub fn owns(self, at: u64) -> bool
+        ensures { result ≡ owns (own self) at }
+    {
+        self.start <= at && at - self.start < self.len
+    }
+}
+
+/// Up to `grant` instructions of a task on A and its own part of B. How many were done is written at every reply.
 pub fn run(
-    general: &mut [u64; 256],
-    special: &mut [u64; 32],
-    pc: &mut u64,
-    halt: &mut u64,
-    marks: u64,
-    mask: u64,
-    a: &mut [u8],
-    b: &mut [u8],
-    at: Bases,
-    start: u64,
-    len: u64,
+    state: &mut StateMut<'_>,
+    windows: &mut WindowsMut<'_>,
+    part: Part,
     grant: u64,
     done: &mut u64,
 ) -> u64
-    ensures { RunNumbered
-        (run_in (lent at a.old b.old)
-        (made general.old special.old pc.old halt.old marks mask) (record { start = start; size = len }) grant)
+    ensures same_state { SameState state.old state.new }
+    ensures same_windows { SameWindows windows.old windows.new }
+    ensures ran { RunNumbered
+        (run_in (windows_lent windows.old) (state_lent state.old) (own part) grant)
         result done.new
-        (made general.new special.new pc.new halt.new marks mask) (lent at a.new b.new) }
+        (state_lent state.new) (windows_lent windows.new) }
 {
     *done = 0;
-    stack::pass::counted(general, special);
-    let refused = stack::pass::refusal(special, marks, mask, a, b, at);
-    if refused != 0 {
+    let at = windows.at;
+    stack::pass::counted(state.general, state.special);
+    let lent = windows.read();
+    let refused = stack::pass::refusal(
+        state.special,
+        state.marks,
+        state.mask,
+        lent.a,
+        lent.b,
+        lent.at,
+    );
+    if refused != replies::DONE {
         return refused;
     }
     if GRANT_MOST < grant {
         return replies::GRANT_TOO_LARGE;
     }
-    let b_len = b.len() as u64;
-    if !is_part(b_len, start, len) {
+    let len = windows.b.len() as u64;
+    if !part.is_ruled(len) {
         return replies::TASKS_RULE;
     }
-    let from = start as usize;
-    let end = from + len as usize;
-    let own = Bases {
-        a: at.a,
-        b: model::number::wrapping_add(at.b, start),
-    };
     let whole = Whole {
         base: at.b,
-        len: b_len,
-        start: start,
-        size: len,
+        len,
+        part,
     };
+    let start = part.start as usize;
+    let end = start + part.len as usize;
+    let own_at = Bases {
+        a: at.a,
+        b: model::number::wrapping_add(at.b, part.start),
+    };
+    let b = &mut *windows.b;
     run_own(
-        general,
-        special,
-        pc,
-        halt,
-        marks,
-        mask,
-        a,
-        &mut b[from..end],
-        own,
+        state,
+        windows.a,
+        &mut b[start..end],
+        own_at,
         whole,
         grant,
         done,
@@ -104,23 +112,12 @@ pub fn run(
 fn is_lost(number: u64) -> bool
     ensures { result ≡ lost number }
 {
-    if number == replies::MISSING {
-        return true;
-    }
-    if number == replies::NOT_FETCHED {
-        return true;
-    }
-    false
+    number == replies::MISSING || number == replies::NOT_FETCHED
 }
 
 /// The run on A and the part, `b`; 32 in the place of 6 or 24 where the instruction asked for what is foreign.
 fn run_own(
-    general: &mut [u64; 256],
-    special: &mut [u64; 32],
-    pc: &mut u64,
-    halt: &mut u64,
-    marks: u64,
-    mask: u64,
+    state: &mut StateMut<'_>,
     a: &mut [u8],
     b: &mut [u8],
     at: Bases,
@@ -128,24 +125,33 @@ fn run_own(
     grant: u64,
     done: &mut u64,
 ) -> u64
-    requires { (admissible (made general.old special.old pc.old halt.old marks mask) ≡ true)
+    requires { (admissible (state_lent state.old) ≡ true)
         × (unruled_by (shapes_of (lent at a.old b.old)) ≡ 0)
         × OwnOnly whole (lent at a.old b.old) }
-    ensures { RunNumbered
-        (told whole (run_of (lent at a.old b.old)
-        (made general.old special.old pc.old halt.old marks mask) grant))
+    ensures same { SameState state.old state.new }
+    ensures ran { RunNumbered
+        (told whole (run_of (lent at a.old b.old) (state_lent state.old) grant))
         result done.new
-        (made general.new special.new pc.new halt.new marks mask) (lent at a.new b.new) }
+        (state_lent state.new) (lent at a.new b.new) }
 {
-    stack::pass::counted(general, special);
+    stack::pass::counted(state.general, state.special);
     let number = instruction::run::run(
-        general, special, pc, halt, marks, mask, a, b, at, grant, done,
+        state.general,
+        state.special,
+        state.pc,
+        state.halt,
+        state.marks,
+        state.mask,
+        a,
+        b,
+        at,
+        grant,
+        done,
     );
     if !is_lost(number) {
         return number;
     }
-    let place = *pc;
-    if ask::asks_foreign(general, special, place, a, b, at, whole) {
+    if ask::asks_foreign(state, WindowsRef { a, b, at }, whole) {
         return replies::FOREIGN;
     }
     number

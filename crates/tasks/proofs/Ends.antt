@@ -47,6 +47,13 @@ module _ (e n : ℕ) (t : List ℕ) (fits : length t ≡ n * e) (wholes : (k : �
 
 -- ---- a call
 
+pub bytes_read : (w v : Windows) → Bytes w → w ≡ v → Bytes v
+bytes_read w v h f = subst Bytes f h
+
+-- windows that were only read are judged as they are lent
+pub refusal_read : (w v : Windows) (ss : List State) (ns : List ℕ) (q grant n : ℕ) → n ≡ call_refusal (shapes_of w) ss ns q grant → w ≡ v → n ≡ call_refusal (shapes_of v) ss ns q grant
+refusal_read w v ss ns q grant n e f = e ∙ ap (λ (u : Windows). call_refusal (shapes_of u) ss ns q grant) f
+
 -- eight counts, or refusals, of 0
 abbrev pub zeros : List ℕ
 zeros = replicate tasks_most 0

@@ -1,41 +1,28 @@
 -- A round turn by turn, and a call round by round, from the front: as loops go. And who runs, as code reads it.
-use Rattle.model.proofs.Prelude.{suc, zero, ℕ, ◌+◌, ◌-◌, ◌<◌, ◌≤◌, Bool, cond, false, true, ◌||◌, List, ap, refl, sym, ◌∙◌, ◌≡◌, ℕ_discrete, add-one, arith}
-use Rattle.model.proofs.Prelude.{get_or, eq-eqb, ne_eqb, tab, Stopped}
-use Rattle.tasks.proofs.Prelude.{tasks_most, any_runs, Desk, Given, is_over, refusal_by, rounds, running, turn_of, turns_from}
+use Rattle.std.specs.List.{list_any}
+use Rattle.std.proofs.lemmas.List.Folds.{list_any_more}
+use Rattle.model.proofs.Prelude.{suc, zero, ℕ, ◌+◌, ◌-◌, ◌≤◌, Bool, cond, false, true, ◌||◌, List, ap, refl, sym, ◌∙◌, ◌≡◌, add-one, arith}
+use Rattle.model.proofs.Prelude.{get_or, length, take, eqb, length_tab, tab, Stopped}
+use Rattle.tasks.proofs.Prelude.{tasks_most, any_runs, Desk, Given, is_over, refusal_by, rounds, turn_of, turns_from}
 use Rattle.tasks.proofs.DeskTurns.{refusal_at_law}
 
 -- ---- who runs
 
-any_at : (n : ℕ) (gs : List Given) (k : ℕ) → k < n → refusal_by k gs ≡ 0 → any_runs n gs ≡ true
+either_way : (a b : Bool) → (a || b) ≡ (b || a)
+either_way true true = refl
+either_way true false = refl
+either_way false true = refl
+either_way false false = refl
+
+-- of the first n refusals one is 0 where one of these tasks runs
+pub one_among : (rs : List ℕ) (gs : List Given) → rs ≡ tab 0 tasks_most (λ j. refusal_by j gs) → (n : ℕ) → n ≤ tasks_most → list_any (λ r. eqb r 0) (take n rs) ≡ any_runs n gs
 unfolding any_runs
-any_at zero gs k l e = absurd (omega arith)
-any_at (suc n) gs k l e = go (ℕ_discrete k n) (any_at n gs k)
-  where
-    or_true : (t : Bool) → (t || true) ≡ true
-    or_true true = refl
-    or_true false = refl
-
-    go : Dec (k ≡ n) → (k < n → refusal_by k gs ≡ 0 → any_runs n gs ≡ true) → (running n gs || any_runs n gs) ≡ true
-    go (yes q) f = rw (← q, eq-eqb (refusal_by k gs) 0 e)
-    go (no q) f = rw (f (omega (arith, q)) e, or_true)
-
--- none of the first k runs, by what code has of their refusals
-abbrev pub NoneRuns : List ℕ → ℕ → Type 0
-NoneRuns rs k = (gs : List Given) → rs ≡ tab 0 tasks_most (λ j. refusal_by j gs) → any_runs k gs ≡ false
-
-pub none_first : (rs : List ℕ) → NoneRuns rs 0
-unfolding any_runs
-none_first rs = λ gs e. refl
-
-pub none_more : (rs : List ℕ) (k : ℕ) → k < tasks_most → (get_or rs k 0 ≡ 0 → ⊥) → NoneRuns rs k → NoneRuns rs (k + 1)
-unfolding any_runs
-none_more rs k l d h = λ gs e. rw (add-one k, ne_eqb (refusal_by k gs) 0 (λ z. d (refusal_at_law k rs gs l e ∙ z)), h gs e)
-
-pub one_runs : (rs : List ℕ) (n k : ℕ) → k < n → k < tasks_most → get_or rs k 0 ≡ 0 → (gs : List Given) → rs ≡ tab 0 tasks_most (λ j. refusal_by j gs) → true ≡ any_runs n gs
-one_runs rs n k l b z gs e = sym (any_at n gs k l (sym (refusal_at_law k rs gs b e) ∙ z))
-
-pub none_runs : (rs : List ℕ) (n k : ℕ) → k ≡ n → NoneRuns rs k → (gs : List Given) → rs ≡ tab 0 tasks_most (λ j. refusal_by j gs) → false ≡ any_runs n gs
-none_runs rs n k q h gs e = sym (ap (λ (i : ℕ). any_runs i gs) (sym q) ∙ h gs e)
+one_among rs gs e zero h = refl
+one_among rs gs e (suc n) h =
+    ap (λ (i : ℕ). list_any (λ r. eqb r 0) (take i rs)) (sym (add-one n))
+    ∙ list_any_more (λ r. eqb r 0) rs n 0 (omega (arith, ap length e, length_tab tasks_most 0 (λ j. refusal_by j gs)))
+    ∙ either_way (list_any (λ r. eqb r 0) (take n rs)) (eqb (get_or rs n 0) 0)
+    ∙ rw (refusal_at_law n rs gs (omega arith) e, one_among rs gs e n (omega arith))
 
 -- ---- the last turn of some, the last round of some
 

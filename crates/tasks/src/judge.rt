@@ -1,66 +1,41 @@
 // What refuses a call of several tasks whole.
 ghost use Rattle.std.specs.Prelude.{◌≡◌, ◌&&◌, List, ℕ, ◌+◌, ◌*◌, ◌≤◌, ltb, length};
 ghost use Rattle.model.specs.Memory.{shapes_of};
-ghost use Rattle.model.specs.Parts.{lent};
+ghost use Rattle.model.specs.Lent.{windows_read};
 ghost use Rattle.task_model.specs.Tasks.{owns};
 ghost use Rattle.task_model.specs.Call.{tasks_in, part_at, each_below, part_ruled, overlaps, part_clear, tasks_ruled, all_admissible, call_refusal};
+ghost use Rattle.task_run.specs.RunIn.{own};
 ghost use Rattle.tasks.specs.Images.{each_length, states_in};
 
-use model::{Bases, GRANT_MOST, IMAGE_LEN, OLD_IMAGE_LEN, replies};
+use model::{GRANT_MOST, IMAGE_LEN, OLD_IMAGE_LEN, WindowsRef, replies};
+use task_run::Part;
 
 /// The most instructions a turn.
 const TURN_MOST: u64 = 1_000;
 
-/// Whether byte `at` of B lies in a part.
-fn is_owned(start: u64, len: u64, at: u64) -> bool
-    ensures { result ≡ owns (record { start = start; size = len }) at }
+/// Whether a part that is not empty begins in another.
+fn begins_in(part: Part, other: Part) -> bool
+    ensures { result ≡ ltb 0 other.len && owns (own part) other.start }
 {
-    if at < start {
-        return false;
-    }
-    if at - start < len {
-        return true;
-    }
-    false
-}
-
-/// Whether a part that is not empty begins in another, that from `start` on.
-fn begins_in(start: u64, len: u64, other: u64, other_len: u64) -> bool
-    ensures { result ≡ ltb 0 other_len && owns (record { start = start; size = len }) other }
-{
-    if other_len == 0 {
-        return false;
-    }
-    is_owned(start, len, other)
+    other.len != 0 && part.owns(other.start)
 }
 
 /// Whether two parts overlap: one begins in the other.
-fn overlap(start: u64, len: u64, other: u64, other_len: u64) -> bool
-    ensures { result ≡ overlaps (record { start = start; size = len }) (record { start = other; size = other_len }) }
+#[tactic(auto, unfolding(task_model::specs::Call::overlaps))]
+fn overlap(part: Part, other: Part) -> bool
+    ensures { result ≡ overlaps (own part) (own other) }
 {
-    if begins_in(start, len, other, other_len) {
-        return true;
-    }
-    begins_in(other, other_len, start, len)
-}
-
-/// A task's own part of B.
-#[derive(Clone, Copy)]
-pub(crate) struct Part {
-    pub start: u64,
-    pub len: u64,
+    begins_in(part, other) || begins_in(other, part)
 }
 
 /// Part k.
 pub(crate) fn part_at(parts: &[u64], k: usize) -> Part
     requires { 2 * k + 2 ≤ length parts.now }
-    ensures { record { start = result.start; size = result.len } ≡ part_at parts.now k }
+    ensures { own result ≡ part_at parts.now k }
 {
-    let start = parts[2 * k];
-    let len = parts[2 * k + 1];
     Part {
-        start: start,
-        len: len,
+        start: parts[2 * k],
+        len: parts[2 * k + 1],
     }
 }
 
@@ -70,13 +45,11 @@ fn is_clear(parts: &[u64], k: usize) -> bool
     ensures { result ≡ part_clear parts.now k }
 {
     let own = part_at(parts, k);
-    let mut j: usize = 0;
-    while j < k {
+    for j in 0..k {
         let other = part_at(parts, j);
-        if overlap(other.start, other.len, own.start, own.len) {
+        if overlap(other, own) {
             return false;
         }
-        j += 1;
     }
     true
 }
@@ -86,12 +59,10 @@ fn are_clear(parts: &[u64], n: usize) -> bool
     requires { 2 * n ≤ length parts.now }
     ensures { result ≡ each_below n (part_clear parts.now) }
 {
-    let mut k: usize = 0;
-    while k < n {
+    for k in 0..n {
         if !is_clear(parts, k) {
             return false;
         }
-        k += 1;
     }
     true
 }
@@ -101,13 +72,11 @@ fn are_ruled(parts: &[u64], n: usize, b_len: u64) -> bool
     requires { 2 * n ≤ length parts.now }
     ensures { result ≡ each_below n (λ k. part_ruled b_len (part_at parts.now k)) }
 {
-    let mut k: usize = 0;
-    while k < n {
+    for k in 0..n {
         let own = part_at(parts, k);
-        if !task_run::is_part(b_len, own.start, own.len) {
+        if !own.is_ruled(b_len) {
             return false;
         }
-        k += 1;
     }
     true
 }
@@ -158,14 +127,12 @@ fn are_admissible(images: &[u8], n: usize) -> bool
     if images.len() != n * each {
         return false;
     }
-    let mut k: usize = 0;
-    while k < n {
+    for k in 0..n {
         let start = k * each;
         let end = start + each;
         if !image::is_admissible(&images[start..end]) {
             return false;
         }
-        k += 1;
     }
     true
 }
@@ -174,23 +141,21 @@ fn are_admissible(images: &[u8], n: usize) -> bool
 pub(crate) fn call_refusal(
     images: &[u8],
     parts: &[u64],
-    a: &[u8],
-    b: &[u8],
-    at: Bases,
+    windows: WindowsRef<'_>,
     q: u64,
     grant: u64,
 ) -> u64
-    ensures { result ≡ call_refusal (shapes_of (lent at a.now b.now))
+    ensures { result ≡ call_refusal (shapes_of (windows_read windows.entry))
         (states_in (tasks_in parts.now) images.now) parts.now q grant }
 {
-    let number = machine::memory::windows_refusal(a, b, at);
-    if number != 0 {
+    let number = machine::memory::windows_refusal(windows.a, windows.b, windows.at);
+    if number != replies::DONE {
         return number;
     }
     if GRANT_MOST < grant {
         return replies::GRANT_TOO_LARGE;
     }
-    if !is_ruled(parts, b.len() as u64, q) {
+    if !is_ruled(parts, windows.b.len() as u64, q) {
         return replies::TASKS_RULE;
     }
     if !are_admissible(images, parts.len() / 2) {

@@ -2,10 +2,11 @@
 //! encodes its own alone.
 #![tactic(auto)]
 
-ghost use Rattle.model.specs.Parts.{lent};
+ghost use Rattle.std.specs.Prelude.{ℕ, ◌<◌, get_or};
+ghost use Rattle.model.specs.Lent.{windows_lent, SameWindows};
 ghost use Rattle.tasks.specs.Images.{TasksRan};
 
-use model::Bases;
+use model::{WindowsMut, replies};
 
 mod judge;
 mod schedule;
@@ -13,28 +14,37 @@ mod schedule;
 /// The most tasks.
 pub const TASKS_MAX: usize = 8;
 
+// The elements of a window are bytes, a fact that reading it tells. It does nothing.
+fn known(window: &[u8])
+    ensures { (i : ℕ) → get_or window.now i 0 < 256 }
+{
+    let _first = window.first();
+}
+
 /// A call of several tasks: 2, 22, 25, 33 and then 1 refuse it whole; else each task has its turns until the grant is spent or all have stopped.
 /// `parts` has start and length of each task's part of B, `images` their states. Counts and refusals are written at every reply.
 pub fn run(
-    at: Bases,
+    windows: &mut WindowsMut<'_>,
     q: u64,
     grant: u64,
     images: &mut [u8],
     parts: &[u64],
-    a: &mut [u8],
-    b: &mut [u8],
     counts: &mut [u64; 8],
     refusals: &mut [u64; 8],
 ) -> u64
-    ensures { TasksRan images.old (lent at a.old b.old) parts.now q grant result
-        images.new (lent at a.new b.new) counts.new refusals.new }
+    ensures same { SameWindows windows.old windows.new }
+    ensures ran { TasksRan images.old (windows_lent windows.old) parts.now q grant result
+        images.new (windows_lent windows.new) counts.new refusals.new }
 {
-    *counts = [0u64; 8];
-    *refusals = [0u64; 8];
-    let number = judge::call_refusal(&*images, parts, &*a, &*b, at, q, grant);
-    if number != 0 {
+    *counts = [0; 8];
+    *refusals = [0; 8];
+    let lent = windows.read();
+    known(lent.a);
+    known(lent.b);
+    let number = judge::call_refusal(images, parts, lent, q, grant);
+    if number != replies::DONE {
         return number;
     }
-    schedule::rounds(images, parts, a, b, at, q, grant, counts, refusals);
-    0
+    schedule::rounds(images, parts, windows, q, grant, counts, refusals);
+    replies::DONE
 }

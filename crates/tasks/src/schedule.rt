@@ -3,65 +3,44 @@
 ghost use Rattle.std.specs.Prelude.{◌≡◌, true, List, ℕ, ◌+◌, ◌≤◌, ◌<◌};
 ghost use Rattle.model.specs.Fill.{tab};
 ghost use Rattle.model.specs.Memory.{Windows};
-ghost use Rattle.model.specs.Parts.{lent};
+ghost use Rattle.model.specs.Lent.{windows_lent, SameWindows};
 ghost use Rattle.model.specs.Run.{grant_most};
 ghost use Rattle.image.specs.Image.{is_image};
 ghost use Rattle.task_model.specs.Schedule.{Given, refusal_by, any_runs, Desk, turn_of, turns_from, rounds};
 ghost use Rattle.task_model.specs.Call.{tasks_in, tasks_most};
+ghost use Rattle.task_run.specs.RunIn.{own};
 ghost use Rattle.tasks.specs.Desks.{image_turn, tasks_turn, Turned, At, Shown, Ready, Played};
 
 use super::judge;
-use image::Rest;
-use model::Bases;
+use model::{StateMut, WindowsMut};
+use task_run::Part;
 
 /// One turn of a task on its image: up to `grant` instructions. How many were done is written.
 fn image_turn(
     image: &mut [u8],
-    a: &mut [u8],
-    b: &mut [u8],
-    at: Bases,
-    start: u64,
-    len: u64,
+    windows: &mut WindowsMut<'_>,
+    part: Part,
     grant: u64,
     done: &mut u64,
 ) -> u64
     requires { is_image image.old ≡ true }
-    ensures { Turned (image_turn (lent at a.old b.old) image.old (record { start = start; size = len }) grant)
-        result done.new image.new (lent at a.new b.new) }
+    ensures same { SameWindows windows.old windows.new }
+    ensures turned { Turned (image_turn (windows_lent windows.old) image.old (own part) grant)
+        result done.new image.new (windows_lent windows.new) }
 {
-    let mut general = [0u64; 256];
-    let mut special = [0u64; 32];
-    let rest = image::load_state(&*image, &mut general, &mut special);
-    let mut pc = rest.pc;
-    let mut halt = rest.halt;
-    let marks = rest.marks;
-    let mask = rest.mask;
-    let number = task_run::run(
-        &mut general,
-        &mut special,
-        &mut pc,
-        &mut halt,
-        marks,
-        mask,
-        a,
-        b,
-        at,
-        start,
-        len,
-        grant,
-        done,
-    );
-    image::store_state(
-        &mut *image,
-        &general,
-        &special,
-        Rest {
-            pc,
-            halt,
-            marks,
-            mask,
-        },
-    );
+    let mut general = [0; 256];
+    let mut special = [0; 32];
+    let mut rest = image::load_state(&*image, &mut general, &mut special);
+    let mut state = StateMut {
+        general: &mut general,
+        special: &mut special,
+        pc: &mut rest.pc,
+        halt: &mut rest.halt,
+        marks: rest.marks,
+        mask: rest.mask,
+    };
+    let number = task_run::run(&mut state, windows, part, grant, done);
+    image::store_state(image, &general, &special, rest);
     number
 }
 
@@ -69,9 +48,7 @@ fn image_turn(
 fn turn(
     images: &mut [u8],
     parts: &[u64],
-    a: &mut [u8],
-    b: &mut [u8],
-    at: Bases,
+    windows: &mut WindowsMut<'_>,
     q: u64,
     left: u64,
     counts: &mut [u64; 8],
@@ -79,9 +56,10 @@ fn turn(
     k: usize,
 ) -> u64
     requires { (k < tasks_in parts.now) × Ready parts.now images.old left counts.old }
-    ensures { Played parts.now (turn_of (tasks_turn parts.now images.old) (tasks_in parts.now) q k)
-        left images.old (lent at a.old b.old) counts.old refusals.old
-        result images.new (lent at a.new b.new) counts.new refusals.new }
+    ensures same { SameWindows windows.old windows.new }
+    ensures played { Played parts.now (turn_of (tasks_turn parts.now images.old) (tasks_in parts.now) q k)
+        left images.old (windows_lent windows.old) counts.old refusals.old
+        result images.new (windows_lent windows.new) counts.new refusals.new }
 {
     if left == 0 {
         return 0;
@@ -95,18 +73,9 @@ fn turn(
     let own = judge::part_at(parts, k);
     let grant = machine::number::least(q, left);
     let mut done: u64 = 0;
-    let number = image_turn(
-        &mut images[start..end],
-        a,
-        b,
-        at,
-        own.start,
-        own.len,
-        grant,
-        &mut done,
-    );
+    let number = image_turn(&mut images[start..end], windows, own, grant, &mut done);
     refusals[k] = number;
-    counts[k] = counts[k] + done;
+    counts[k] += done;
     left - done
 }
 
@@ -114,37 +83,23 @@ fn turn(
 fn round(
     images: &mut [u8],
     parts: &[u64],
-    a: &mut [u8],
-    b: &mut [u8],
-    at: Bases,
+    windows: &mut WindowsMut<'_>,
     q: u64,
     left: u64,
     counts: &mut [u64; 8],
     refusals: &mut [u64; 8],
 ) -> u64
     requires { Ready parts.now images.old left counts.old }
-    ensures { Played parts.now
+    ensures same { SameWindows windows.old windows.new }
+    ensures played { Played parts.now
         (turns_from (tasks_turn parts.now images.old) (tasks_in parts.now) q 0 (tasks_in parts.now))
-        left images.old (lent at a.old b.old) counts.old refusals.old
-        result images.new (lent at a.new b.new) counts.new refusals.new }
+        left images.old (windows_lent windows.old) counts.old refusals.old
+        result images.new (windows_lent windows.new) counts.new refusals.new }
 {
     let n = parts.len() / 2;
     let mut rest = left;
-    let mut k: usize = 0;
-    while k < n {
-        rest = turn(
-            &mut *images,
-            parts,
-            &mut *a,
-            &mut *b,
-            at,
-            q,
-            rest,
-            &mut *counts,
-            &mut *refusals,
-            k,
-        );
-        k += 1;
+    for k in 0..n {
+        rest = turn(images, parts, windows, q, rest, counts, refusals, k);
     }
     rest
 }
@@ -154,56 +109,36 @@ fn any_runs(refusals: &[u64; 8], n: usize) -> bool
     requires { n ≤ 8 }
     ensures { (gs : List Given) → refusals.now ≡ tab 0 tasks_most (λ k. refusal_by k gs) → result ≡ any_runs n gs }
 {
-    let mut k: usize = 0;
-    while k < n {
-        if refusals[k] == 0 {
-            return true;
-        }
-        k += 1;
-    }
-    false
+    refusals[..n].contains(&0)
 }
 
 /// Rounds, until nothing is left or all have stopped. As many as there are instructions to spend and tasks to stop are enough.
 pub(crate) fn rounds(
     images: &mut [u8],
     parts: &[u64],
-    a: &mut [u8],
-    b: &mut [u8],
-    at: Bases,
+    windows: &mut WindowsMut<'_>,
     q: u64,
     grant: u64,
     counts: &mut [u64; 8],
     refusals: &mut [u64; 8],
 )
     requires { Ready parts.now images.old grant counts.old × (grant ≤ grant_most) }
-    ensures { (d : Desk (List ℕ) Windows)
-        → At d grant images.old (lent at a.old b.old) counts.old refusals.old
+    ensures same { SameWindows windows.old windows.new }
+    ensures shown { (d : Desk (List ℕ) Windows)
+        → At d grant images.old (windows_lent windows.old) counts.old refusals.old
         → Shown (rounds (tasks_turn parts.now images.old) (tasks_in parts.now) q (grant + tasks_in parts.now) d)
-        images.new (lent at a.new b.new) counts.new refusals.new }
+        images.new (windows_lent windows.new) counts.new refusals.new }
 {
     let n = parts.len() / 2;
     let most = grant + n as u64;
     let mut left = grant;
-    let mut i: u64 = 0;
-    while i < most {
+    for _ in 0..most {
         if left == 0 {
             return;
         }
         if !any_runs(refusals, n) {
             return;
         }
-        left = round(
-            &mut *images,
-            parts,
-            &mut *a,
-            &mut *b,
-            at,
-            q,
-            left,
-            &mut *counts,
-            &mut *refusals,
-        );
-        i += 1;
+        left = round(images, parts, windows, q, left, counts, refusals);
     }
 }

@@ -2,5 +2,5 @@
 use Rattle.sets.proofs.Answers.{of_read}
 use Rattle.sets.proofs.put_read.Goals as goal
 
-pub returns : goal.returns
-returns c = λ pc. of_read _ _ _ c.load_octas.ensures _ _ _ (c.put_set.ensures pc)
+pub returns-clause-put : goal.returns-clause-put
+returns-clause-put c = of_read _ _ _ c.load_octas.ensures _ _ _ c.put_set.ensures.put

@@ -3,6 +3,6 @@ use Rattle.model.proofs.Prelude.{◌-◌, arith}
 use Rattle.sets.proofs.Answers.{read_same}
 use Rattle.sets.proofs.put_set_bytes.Goals as goal
 
-pub returns : goal.returns
-returns c =
-    λ pc. read_same _ _ _ (c.least-count.result - 0) (omega arith) (omega (arith, c.least-count.ensures)) _ _ _ (c.put_read.ensures pc)
+pub returns-clause-put : goal.returns-clause-put
+returns-clause-put c =
+    read_same _ _ _ (c.least-count.result - 0) (omega arith) (omega (arith, c.least-count.ensures)) _ _ _ c.put_read.ensures.put

@@ -1,41 +1,49 @@
 -- `run` meets its contract: 1, 2, 22, 25 and 33, and else it is the run on the part, put back.
-use Rattle.model.proofs.Prelude.{not}
-use Rattle.model.proofs.Prelude.{ap}
-use Rattle.model.proofs.Prelude.{◌+◌, ◌-◌, sym, ◌∙◌, ◌≡◌, arith, lent, made, denied, granted}
+use Rattle.model.proofs.Prelude.{not, ap, ◌+◌, ◌-◌, sym, ◌∙◌, ◌≡◌, arith, made, denied, granted}
+use Rattle.model.specs.Lent.{state_lent, windows_lent}
 use Rattle.task_run.proofs.Prelude.{refusal_on, judged_by}
+use Rattle.task_run.specs.RunIn.{own}
 use Rattle.task_run.proofs.PartShapes.{part_ruled_law}
-use Rattle.task_run.proofs.TurnIn.{turn_unopened, turn_large, turn_partless, lent_fine, lent_own, turn_done}
+use Rattle.task_run.proofs.TurnIn.{judged_read, turn_unopened, turn_large, turn_partless, lent_fine, lent_own, turn_done}
 use Rattle.task_run.proofs.run.Goals as goal
 
-pub returns-then-refused-ne0 : goal.returns-then-refused-ne0
-returns-then-refused-ne0 c = turn_unopened (record { start = c.args.start; size = c.args.len }) (let a = c.args in lent a.at a.a.now a.b.now) (let a = c.args in made a.general.now a.special.now a.pc.now a.halt.now a.marks a.mask) _ _ (c.refusal-refused.ensures _ _ _) c.if-refused-ne0.true
+pub returns-then-refused-ne-DONE-clause-ran : goal.returns-then-refused-ne-DONE-clause-ran
+returns-then-refused-ne-DONE-clause-ran c =
+    let s = state_lent c.args.state.now in
+    turn_unopened (own c.args.part) (windows_lent c.args.windows.now) s _ _ (judged_read _ (windows_lent c.args.windows.now) s _ (c.refusal-refused.ensures _ _ _) c.read-lent.ensures) c.if-refused-ne-DONE.true
 
-pub returns-then-grant-gt-GRANT_MOST : goal.returns-then-grant-gt-GRANT_MOST
-returns-then-grant-gt-GRANT_MOST c =
-    turn_large (record { start = c.args.start; size = c.args.len }) (let a = c.args in lent a.at a.a.now a.b.now) (let a = c.args in made a.general.now a.special.now a.pc.now a.halt.now a.marks a.mask) _ (sym (c.refusal-refused.ensures _ _ _) ∙ c.if-refused-ne0.false) c.if-grant-gt-GRANT_MOST.true
+pub returns-then-grant-gt-GRANT_MOST-clause-ran : goal.returns-then-grant-gt-GRANT_MOST-clause-ran
+returns-then-grant-gt-GRANT_MOST-clause-ran c =
+    let s = state_lent c.args.state.now in
+    turn_large (own c.args.part) (windows_lent c.args.windows.now) s _ (sym (judged_read _ (windows_lent c.args.windows.now) s _ (c.refusal-refused.ensures _ _ _) c.read-lent.ensures) ∙ c.if-refused-ne-DONE.false) c.if-grant-gt-GRANT_MOST.true
 
-pub returns-then-not-is_part : goal.returns-then-not-is_part
-returns-then-not-is_part c =
-    turn_partless (record { start = c.args.start; size = c.args.len }) (let a = c.args in lent a.at a.a.now a.b.now) (let a = c.args in made a.general.now a.special.now a.pc.now a.halt.now a.marks a.mask) _ (sym (c.refusal-refused.ensures _ _ _) ∙ c.if-refused-ne0.false) c.if-grant-gt-GRANT_MOST.false (denied _ _ c.is_part.ensures (ap not c.if-not-is_part.true))
+pub returns-then-not-is_ruled-clause-ran : goal.returns-then-not-is_ruled-clause-ran
+returns-then-not-is_ruled-clause-ran c =
+    let s = state_lent c.args.state.now in
+    turn_partless (own c.args.part) (windows_lent c.args.windows.now) s _ (sym (judged_read _ (windows_lent c.args.windows.now) s _ (c.refusal-refused.ensures _ _ _) c.read-lent.ensures) ∙ c.if-refused-ne-DONE.false) c.if-grant-gt-GRANT_MOST.false (denied _ _ c.is_ruled.ensures (ap not c.if-not-is_ruled.true))
 
 pub overflow_add-end : goal.overflow_add-end
-overflow_add-end c = omega (arith, (part_ruled_law _ _ (granted _ _ c.is_part.ensures (ap not c.if-not-is_part.false))).within)
+overflow_add-end c = omega (arith, (part_ruled_law _ _ (granted _ _ c.is_ruled.ensures (ap not c.if-not-is_ruled.false))).within)
 
-pub slice_bounds-run_own-end : goal.slice_bounds-run_own-end
-slice_bounds-run_own-end c = omega (arith, (part_ruled_law _ _ (granted _ _ c.is_part.ensures (ap not c.if-not-is_part.false))).within)
+pub slice_bounds-run_own-end-2 : goal.slice_bounds-run_own-end-2
+slice_bounds-run_own-end-2 c = omega (arith, (part_ruled_law _ _ (granted _ _ c.is_ruled.ensures (ap not c.if-not-is_ruled.false))).within)
 
 pub run_own-requires : goal.run_own-requires
 run_own-requires c =
-    let a = c.args in
-    let e : refusal_on (let a = c.args in lent a.at a.a.now a.b.now) (let a = c.args in made a.general.now a.special.now a.pc.now a.halt.now a.marks a.mask) ≡ 0 = sym (c.refusal-refused.ensures _ _ _) ∙ c.if-refused-ne0.false in
-    let n = a.start + a.len - a.start in (
-      (judged_by (let a = c.args in lent a.at a.a.now a.b.now) (let a = c.args in made a.general.now a.special.now a.pc.now a.halt.now a.marks a.mask) e).0,
-      lent_fine a.at a.a.now a.b.now (record { start = c.args.start; size = c.args.len }) (let a = c.args in made a.general.now a.special.now a.pc.now a.halt.now a.marks a.mask) e (granted _ _ c.is_part.ensures (ap not c.if-not-is_part.false)) _ n c.wrapping_add.ensures (omega arith),
-      lent_own a.at a.a.now a.b.now (record { start = c.args.start; size = c.args.len }) (let a = c.args in made a.general.now a.special.now a.pc.now a.halt.now a.marks a.mask) e (granted _ _ c.is_part.ensures (ap not c.if-not-is_part.false)) _ n c.wrapping_add.ensures (omega arith),
+    let w = c.args.windows.now in
+    let p = c.args.part in
+    let s = state_lent c.args.state.now in
+    let e : refusal_on (windows_lent w) s ≡ 0 = sym (judged_read _ (windows_lent c.args.windows.now) s _ (c.refusal-refused.ensures _ _ _) c.read-lent.ensures) ∙ c.if-refused-ne-DONE.false in
+    let n = p.start + p.len - p.start in (
+      (judged_by (windows_lent w) s e).0,
+      lent_fine w.at w.a.now w.b.now (own p) s e (granted _ _ c.is_ruled.ensures (ap not c.if-not-is_ruled.false)) _ n c.wrapping_add.ensures (omega arith),
+      lent_own w.at w.a.now w.b.now (own p) s e (granted _ _ c.is_ruled.ensures (ap not c.if-not-is_ruled.false)) _ n c.wrapping_add.ensures (omega arith),
     )
 
-pub returns : goal.returns
-returns c =
-    let a = c.args in
-    turn_done a.at a.a.now a.b.now (record { start = c.args.start; size = c.args.len }) (let a = c.args in made a.general.now a.special.now a.pc.now a.halt.now a.marks a.mask) (sym (c.refusal-refused.ensures _ _ _) ∙ c.if-refused-ne0.false) (granted _ _ c.is_part.ensures (ap not c.if-not-is_part.false)) _ (a.start + a.len - a.start) c.wrapping_add.ensures (omega arith)
-    _ (record { generals = c.counted.ensures.0; specials = c.counted.ensures.1 }) c.if-grant-gt-GRANT_MOST.false _ _ (made _ _ _ _ _ _) _ _ c.run_own.ensures
+pub returns-clause-ran : goal.returns-clause-ran
+returns-clause-ran c =
+    let w = c.args.windows.now in
+    let p = c.args.part in
+    let s = state_lent c.args.state.now in
+    turn_done w.at w.a.now w.b.now (own p) s (sym (judged_read _ (windows_lent c.args.windows.now) s _ (c.refusal-refused.ensures _ _ _) c.read-lent.ensures) ∙ c.if-refused-ne-DONE.false) (granted _ _ c.is_ruled.ensures (ap not c.if-not-is_ruled.false)) _ (p.start + p.len - p.start) c.wrapping_add.ensures (omega arith)
+    _ (record { generals = c.counted.ensures.0; specials = c.counted.ensures.1 }) c.if-grant-gt-GRANT_MOST.false _ _ (made _ _ _ _ _ _) _ _ c.run_own.ensures.ran

@@ -1,24 +1,25 @@
 -- `run` meets its contract: refused whole, or the turns of its tasks.
-use Rattle.model.proofs.Prelude.{sym, ◌∙◌, arith, lent}
-use Rattle.tasks.proofs.Ends.{leaves_refused, ready_first, opened_at, leaves_done}
+use Rattle.model.proofs.Prelude.{sym, ◌∙◌, arith}
+use Rattle.model.specs.Lent.{windows_lent}
+use Rattle.tasks.proofs.Ends.{bytes_read, refusal_read, leaves_refused, ready_first, opened_at, leaves_done}
 use Rattle.tasks.proofs.run.Goals as goal
 
-pub returns-then-number-ne0 : goal.returns-then-number-ne0
-returns-then-number-ne0 c =
+pub returns-then-number-ne-DONE-clause-ran : goal.returns-then-number-ne-DONE-clause-ran
+returns-then-number-ne-DONE-clause-ran c =
     let a = c.args in
-    leaves_refused a.images.now (lent a.at a.a.now a.b.now) a.parts.now a.q a.grant _ c.call_refusal-number.ensures c.if-number-ne0.true
+    leaves_refused a.images.now (windows_lent a.windows.now) a.parts.now a.q a.grant _ (refusal_read _ _ _ _ _ _ _ c.call_refusal-number.ensures c.read-lent.ensures) c.if-number-ne-DONE.true
 
 pub rounds-requires : goal.rounds-requires
 rounds-requires c =
     let a = c.args in
-    ready_first a.images.now (lent a.at a.a.now a.b.now) a.parts.now a.q a.grant
-    (sym c.call_refusal-number.ensures ∙ c.if-number-ne0.false)
+    ready_first a.images.now (windows_lent a.windows.now) a.parts.now a.q a.grant
+    (sym (refusal_read _ _ _ _ _ _ _ c.call_refusal-number.ensures c.read-lent.ensures) ∙ c.if-number-ne-DONE.false)
 
-pub returns : goal.returns
-returns c =
+pub returns-clause-ran : goal.returns-clause-ran
+returns-clause-ran c =
     let a = c.args in
-    let w = lent a.at a.a.now a.b.now in
-    let open_is = sym c.call_refusal-number.ensures ∙ c.if-number-ne0.false in
+    let w = windows_lent a.windows.now in
+    let open_is = sym (refusal_read _ _ _ _ _ _ _ c.call_refusal-number.ensures c.read-lent.ensures) ∙ c.if-number-ne-DONE.false in
     leaves_done a.images.now w a.parts.now a.q a.grant open_is (λ i. omega (arith, c.slice_known-1.given i))
-    (record { byte_a = λ i. omega (arith, c.slice_known-2-1.given i); byte_b = λ i. omega (arith, c.slice_known-3-1.given i) }) _ _ _ _
-    (c.rounds.ensures _ (opened_at a.images.now w a.parts.now a.q a.grant open_is))
+    (bytes_read _ w (record { byte_a = c.known.ensures; byte_b = c.known-2.ensures }) c.read-lent.ensures) _ _ _ _
+    (c.rounds.ensures.shown _ (opened_at a.images.now w a.parts.now a.q a.grant open_is))

@@ -13,7 +13,7 @@ pub returns-then-images-n : goal.returns-then-images-n
 returns-then-images-n c = all_short _ _ _ (c.each_len-each.ensures _ refl) (omega arith) c.if-images-n.true
 
 pub loop-k-init : goal.loop-k-init
-loop-k-init c = (omega arith, below_none _)
+loop-k-init c = below_none _
 
 pub overflow_mul-start : goal.overflow_mul-start
 overflow_mul-start c =
@@ -35,12 +35,10 @@ returns-then-not-is_admissible c =
     admitted_fails _ _ _ (c.each_len-each.ensures _ refl) c.if-images-n.false c.loop-k.k (omega arith) _ c.is_admissible.ensures (ap not c.if-not-is_admissible.true)
 
 pub loop-k-preserved : goal.loop-k-preserved
-loop-k-preserved c = (
-  omega arith,
-  admitted_more c.args.n c.args.images.now _ (c.each_len-each.ensures _ refl) c.if-images-n.false c.loop-k.k (omega arith) _
-      c.is_admissible.ensures (ap not c.if-not-is_admissible.false) c.loop-k.invariant.1,
-)
+loop-k-preserved c =
+    admitted_more c.args.n c.args.images.now _ (c.each_len-each.ensures _ refl) c.if-images-n.false c.loop-k.k (omega arith) _
+    c.is_admissible.ensures (ap not c.if-not-is_admissible.false) c.loop-k.invariant
 
 pub returns : goal.returns
 returns c =
-    admitted_all _ _ _ (c.each_len-each.ensures _ refl) c.if-images-n.false c.loop-k.k (omega arith) c.loop-k.invariant.1
+    admitted_all _ _ _ (c.each_len-each.ensures _ refl) c.if-images-n.false c.loop-k.k (omega arith) c.loop-k.invariant

@@ -6,7 +6,7 @@ use Rattle.tasks.proofs.Judged.{below_none, below_more, below_fails, below_all}
 use Rattle.tasks.proofs.judge.are_clear.Goals as goal
 
 pub loop-k-init : goal.loop-k-init
-loop-k-init c = (omega arith, below_none _)
+loop-k-init c = below_none _
 
 pub returns-then-not-is_clear : goal.returns-then-not-is_clear
 returns-then-not-is_clear c =
@@ -14,7 +14,7 @@ returns-then-not-is_clear c =
 
 pub loop-k-preserved : goal.loop-k-preserved
 loop-k-preserved c =
-    (omega arith, below_more c.loop-k.k (part_clear c.args.parts.now) c.loop-k.invariant.1 (granted _ _ c.is_clear.ensures (ap not c.if-not-is_clear.false)))
+    below_more c.loop-k.k (part_clear c.args.parts.now) c.loop-k.invariant (granted _ _ c.is_clear.ensures (ap not c.if-not-is_clear.false))
 
 pub returns : goal.returns
-returns c = below_all _ c.loop-k.k (part_clear c.args.parts.now) (omega arith) c.loop-k.invariant.1
+returns c = below_all _ c.loop-k.k (part_clear c.args.parts.now) (omega arith) c.loop-k.invariant

@@ -6,12 +6,12 @@ use Rattle.tasks.proofs.Played.{turn_given}
 use Rattle.std.proofs.Common.{rules}
 use Rattle.tasks.proofs.schedule.turn.Goals as goal
 
-pub returns-then-left-eq0 : goal.returns-then-left-eq0
-returns-then-left-eq0 c =
+pub returns-then-left-eq0-clause-played : goal.returns-then-left-eq0-clause-played
+returns-then-left-eq0-clause-played c =
     played_spent _ _ _ _ _ _ _ _ _ _ c.requires.1 c.if-left-eq0.true
 
-pub returns-then-refusals-k-ne0 : goal.returns-then-refusals-k-ne0
-returns-then-refusals-k-ne0 c =
+pub returns-then-refusals-k-ne0-clause-played : goal.returns-then-refusals-k-ne0-clause-played
+returns-then-refusals-k-ne0-clause-played c =
     played_stopped _ _ _ _ _ _ _ _ _ _ c.requires.1 (omega (arith, c.requires.0, c.requires.1.few)) c.if-refusals-k-ne0.true
 
 pub overflow_mul-start : goal.overflow_mul-start
@@ -33,17 +33,17 @@ image_turn-number-requires c =
 
 pub overflow_add-counts : goal.overflow_add-counts
 overflow_add-counts c =
-    omega (arith, c.requires.1.small c.args.k, turned_most _ _ _ _ _ _ _ _ c.image_turn-number.ensures, c.least-grant.ensures)
+    omega (arith, c.requires.1.small c.args.k, turned_most _ _ _ _ _ _ _ _ c.image_turn-number.ensures.turned, c.least-grant.ensures)
 
 pub overflow_sub-result : goal.overflow_sub-result
 overflow_sub-result c =
-    omega (arith, turned_most _ _ _ _ _ _ _ _ c.image_turn-number.ensures, c.least-grant.ensures)
+    omega (arith, turned_most _ _ _ _ _ _ _ _ c.image_turn-number.ensures.turned, c.least-grant.ensures)
 
-pub returns : goal.returns
-returns c =
+pub returns-clause-played : goal.returns-clause-played
+returns-clause-played c =
     let k = c.args.k in
     let e = c.each_len-each.result in
     let long : length c.image_turn-number.new.image ≡ k * e + e - k * e
     = omega (arith, c.images-1.given, c.image_turn-arg-1.given.2) in
     turn_given _ _ _ _ _ _ _ c.requires.1 _ c.requires.0 c.if-left-eq0.false c.if-refusals-k-ne0.false _ (c.each_len-each.ensures _ refl) _
-    c.part_at-own.ensures _ c.least-grant.ensures _ _ c.image_turn-number.new.image _ long c.image_turn-number.ensures
+    c.part_at-own.ensures _ c.least-grant.ensures _ _ c.image_turn-number.new.image _ long c.image_turn-number.ensures.turned

@@ -1,9 +1,0 @@
--- `copy_out` meets its contract. The loop's invariant: the first i bytes are those of `from` from `at` up.
-use Rattle.model.proofs.Prelude.{◌-◌, ◌≤◌, ◌≡◌, length, take, part}
-use Rattle.points.proofs.room.copy_out.Given as goal
-
-abbrev pub invariant-loop-i : goal.invariant-loop-i
-invariant-loop-i l = (l.i ≤ length l.initial.to) × (length l.to ≡ length l.initial.to) × (take l.i l.to ≡ part l.from l.at l.i)
-
-abbrev pub decreases-loop-i : goal.decreases-loop-i
-decreases-loop-i l = length l.initial.to - l.i
