@@ -160,8 +160,8 @@ read_mod = read_at both both_lawful
 pub written_mod : (m : Windows) (a b v : ℕ) → a % 2 ^ 64 ≡ b % 2 ^ 64 → written_octa m a v ≡ written_octa m b v
 written_mod = written_at both both_lawful put_octa_law
 
-pub run_more : (m u t : Windows) (a from i at v : ℕ) (f : ℕ → ℕ) → from ≤ i → u ≡ written_run m a (i - from) f → at ≡ (a + 8 * (i - from)) % 2 ^ 64
-    → v ≡ f (i - from) → t ≡ written_octa u at v → t ≡ written_run m a (i + 1 - from) f
+pub run_more : (m u t : Windows) (a i at v : ℕ) (f : ℕ → ℕ) → u ≡ written_run m a i f → at ≡ (a + 8 * i) % 2 ^ 64
+    → v ≡ f i → t ≡ written_octa u at v → t ≡ written_run m a (i + 1) f
 run_more = run_turn both both_lawful put_octa_law
 
 -- register k in a loop that reads it from a further piece, which starts with register i

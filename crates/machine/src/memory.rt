@@ -19,30 +19,23 @@ pub(crate) struct Piece {
 
 /// Whether a window of `len` bytes reaches from its base to another one, which has `other_len`; both obey their rules. An empty one reaches nothing and
 /// is not reached.
+#[tactic(auto, using(crate::proofs::RunRefused::reached, crate::proofs::RunRefused::unreached, crate::proofs::RunRefused::and_none))]
 fn reaches(len: u64, base: u64, other_len: u64, other: u64) -> bool
     requires { (base % 8 ≡ 0) × (other % 8 ≡ 0) × (len % 8 ≡ 0) }
     ensures { result ≡ (ltb 0 other_len && has (record { from = base; size = len }) other) }
 {
-    if model::number::wrapping_sub(other, base) < len {
-        if other_len == 0 {
-            return false;
-        }
-        return true;
-    }
-    false
+    model::number::wrapping_sub(other, base) < len && other_len != 0
 }
 
 /// Whether two windows that obey their rules are seen to lie apart by one comparison: B's base comes behind A, and A's base behind B. Where it says no they
 /// may still lie apart.
+#[tactic(auto, using(crate::proofs::RunRefused::are_apart))]
 fn are_apart(a_len: u64, a: u64, b_len: u64, b: u64) -> bool
     requires { (a % 8 ≡ 0) × (b % 8 ≡ 0) × (a_len < 2 ^ 60) × (b_len < 2 ^ 60) }
     ensures { result ≡ true → shares (record { a = record { from = a; size = a_len }; b = record { from = b; size = b_len } }) ≡ false }
 {
     let behind = model::number::wrapping_sub(model::number::wrapping_sub(b, a), a_len);
-    if behind <= 0xFFFF_FFFF_FFFF_FFFF - (a_len + b_len) {
-        return true;
-    }
-    false
+    behind <= u64::MAX - (a_len + b_len)
 }
 
 /// The number that refuses the windows: 2 where one breaks its rule, 22 where they share an octabyte, else 0.
@@ -100,10 +93,10 @@ pub(crate) fn next_piece(a: &[u8], b: &[u8], at: Bases, addr: u64) -> Piece
             octas: 1,
         };
     }
-    let before_b = (0xFFFF_FFFF_FFFF_FFFF - super::window::distance(at.b, addr)) / 8 + 1;
+    let before_b = (u64::MAX - super::window::distance(at.b, addr)) / 8 + 1;
     Piece {
         holder: Octabyte::IN_A,
-        octas: super::number::least(in_a, before_b),
+        octas: in_a.min(before_b),
     }
 }
 

@@ -62,8 +62,7 @@ fn load_pieces(
     ensures { general.new
         ≡ over (λ (k : ℕ). read_octa (lent at a.now b.now) (addr + 8 * (k - from))) from to general.old }
 {
-    super::registers::of_256(*general);
-    let end = super::number::least(to, 256);
+    let end = to.min(256);
     let mut i = from;
     while i < end {
         let place = model::number::wrapping_add(addr, 8 * (i - from));
@@ -133,8 +132,7 @@ fn store_pieces(
     ensures { lent at a.new b.new
         ≡ written_range (lent at a.old b.old) addr from to general.now }
 {
-    super::registers::of_256(*general);
-    let end = super::number::least(to, 256);
+    let end = to.min(256);
     let mut i = from;
     while i < end {
         let place = model::number::wrapping_add(addr, 8 * (i - from));

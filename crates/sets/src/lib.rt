@@ -34,7 +34,7 @@ fn locals_after(rl: u64, x: u64, value: u64) -> u64
     ensures { result ≡ locals_after rl (pair x value) }
 {
     if x == RL {
-        return machine::number::least(value, rl);
+        return value.min(rl);
     }
     rl
 }
@@ -146,7 +146,7 @@ pub fn put_set_bytes(
         (made general.new special.new pc halt.new marks mask) }
 {
     let mut octas = [0u64; READ_MAX];
-    let count = machine::number::least((bytes.len() / 8) as u64, READ_MAX as u64) as usize;
+    let count = (bytes.len() / 8).min(READ_MAX);
     put_read(
         general,
         special,

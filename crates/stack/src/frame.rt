@@ -35,6 +35,7 @@ pub enum PopFrame {
 }
 
 /// The case of a number by which state or windows are refused.
+#[tactic(auto, unfolding(crate::specs::PushPop::pop_number, crate::specs::PushPop::pop_answer))]
 pub(crate) fn refused(number: u64) -> PopFrame
     requires { Refused number }
     ensures { (pop_number result ≡ number) × ((s : State) (yz : ℕ) → result ≡ pop_answer s yz number) }
@@ -49,19 +50,15 @@ pub(crate) fn refused(number: u64) -> PopFrame
 }
 
 /// Whether rG and rL are numbers of registers, in order.
+#[tactic(auto, unfolding(crate::specs::GivenBack::placed))]
 pub(crate) fn is_placed(rg: u64, rl: u64) -> bool
     ensures { (s : State) → sp s r_g ≡ rg → sp s r_l ≡ rl → result ≡ placed s }
 {
-    if 255 < rg {
-        return false;
-    }
-    if rg < rl {
-        return false;
-    }
-    true
+    rg <= 255 && rl <= rg
 }
 
 /// They become the octabytes from `addr` up.
+#[tactic(auto, using(model::proofs::Fill::over_none))]
 fn load_locals(general: &mut [u64; 256], a: &[u8], b: &[u8], at: Bases, addr: u64, n: u64)
     ensures { general.new
         ≡ over (λ (k : ℕ). read_octa (lent at a.now b.now) (addr + 8 * (k - 0))) 0 n general.old }
@@ -73,26 +70,21 @@ fn load_locals(general: &mut [u64; 256], a: &[u8], b: &[u8], at: Bases, addr: u6
 }
 
 /// How many outputs there are.
+#[tactic(auto, unfolding(model::specs::Frames::count_of))]
 fn count_of(rl: u64, x: u8) -> u64
     requires { rl ≤ 255 }
     ensures { ((s : State) → sp s r_l ≡ rl → result ≡ count_of s x) × (result ≤ 256) }
 {
-    let n = x as u64;
-    if rl < n {
-        return rl + 1;
-    }
-    n
+    (x as u64).min(rl + 1)
 }
 
 /// The last output.
+#[tactic(auto, unfolding(model::specs::Frames::last_output))]
 fn last_output(general: &[u64; 256], rl: u64, x: u8) -> u64
     ensures { (special : List ℕ) (pc halt marks mask : ℕ) → get_or special r_l 0 ≡ rl
         → result ≡ last_output (made general.now special pc halt marks mask) x }
 {
-    if rl < x as u64 {
-        return 0;
-    }
-    if x == 0 {
+    if x == 0 || rl < x as u64 {
         return 0;
     }
     let i = x as usize - 1;
@@ -129,13 +121,11 @@ fn restore(
 }
 
 /// Whether rO, above the stack's start, cannot hold a frame.
+#[tactic(auto, using(crate::proofs::PushPopRegisters::misplaced_negative, crate::proofs::PushPopRegisters::misplaced_odd))]
 fn is_misplaced(ro: u64) -> bool
     ensures { (s : State) → sp s r_o ≡ ro → result ≡ misplaced s }
 {
-    if ro % 8 == 0 {
-        return model::number::is_negative(ro);
-    }
-    true
+    ro % 8 != 0 || model::number::is_negative(ro)
 }
 
 /// The special registers of a pop, which come last: the new rL, and rO and rS at the frame's bottom.
@@ -167,7 +157,7 @@ fn leave(
     let rl = special[State::RL];
     let bottom = model::number::wrapping_sub(ro, 8 * (h + 1));
     let count = count_of(rl, x);
-    let low = machine::number::least(h + count, rg);
+    let low = (h + count).min(rg);
     restore(general, a, b, at, bottom, rl, x, h, low);
     machine::registers::clear_range(general, low, rg);
     set_frame(special, low, bottom);
@@ -199,7 +189,7 @@ fn pop_at(
     }
     let h = octa.value % 256;
     let bottom = model::number::wrapping_sub(ro, 8 * (h + 1));
-    let n = machine::number::least(h, rg);
+    let n = h.min(rg);
     if machine::memory::run_refusal(a, b, at, bottom, n) != 0 {
         return PopFrame::Missing;
     }
@@ -224,7 +214,6 @@ pub fn pop_frame_judged(
         (made general.old special.old pc halt.old marks mask) yz result
         (made general.new special.new pc halt.new marks mask) }
 {
-    machine::registers::counted(general, special);
     let rg = special[State::RG];
     let rl = special[State::RL];
     let ro = special[State::RO];

@@ -25,6 +25,7 @@ pub fn admissible(special: &[u64; 32], marks: u64, mask: u64) -> bool
 }
 
 /// The number by which state or windows are refused, 0 where both pass: 1, then 2 and 22.
+#[tactic(auto, unfolding(crate::specs::GivenBack::refusal_on))]
 pub fn refusal(special: &[u64; 32], marks: u64, mask: u64, a: &[u8], b: &[u8], at: Bases) -> u64
     ensures { (general : List ℕ) (pc halt : ℕ) → result
         ≡ refusal_on (lent at a.now b.now) (made general special.now pc halt marks mask) }

@@ -107,7 +107,7 @@ fn pop_asks(special: &[u64; 32], a: &[u8], b: &[u8], at: Bases, whole: Whole) ->
         return false;
     }
     let h = octa.value % 256;
-    let n = machine::number::least(h, rg);
+    let n = h.min(rg);
     has_foreign(whole, ro - 8 * (h + 1), n)
 }
 

@@ -35,4 +35,4 @@ returns c =
     λ pc.
     let stored = c.put_away.ensures in
     save_done _ _ _ (granted _ _ (c.admissible.ensures c.args.general.now pc _) (ap not c.if-not-admissible.false)) c.if-named-rg.false (omega (arith, c.run_refusal-number.ensures, c.if-number-ne0.false)) _ _
-    (departed _ _ _ _ _ c.counted.ensures.1 stored.1 c.depart.ensures pc _ _ _) stored.0
+    (departed _ _ _ _ _ c.told-special stored.1 c.depart.ensures pc _ _ _) stored.0

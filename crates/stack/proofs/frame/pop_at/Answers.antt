@@ -27,14 +27,14 @@ returns-then-run_refusal-ne0 c =
     let s = made a.general.now l pc halt marks mask in
     let good = held_placed s c.requires.0 in
     pop_short w s a.x a.yz good c.requires.1.above m (hole_held w l c.requires.1 _ hole.ensures _ found.ensures.1 c.if-octa-eq-IN_NEITHER.false) _ (hole_is w l c.requires.1 _ hole.ensures _ found.ensures.0)
-    (λ i. c.if-run_refusal-ne0.true ((frame_run w l c.requires.1 _ _ _ _ (omega arith) c.wrapping_sub-bottom.ensures c.least-n.ensures c.run_refusal.ensures) ∙ i))
+    (λ i. c.if-run_refusal-ne0.true ((frame_run w l c.requires.1 _ _ _ _ (omega arith) c.wrapping_sub-bottom.ensures c.min-n.ensures c.run_refusal.ensures) ∙ i))
 
 pub leave-requires : goal.leave-requires
 leave-requires c =
     let a = c.args in
     let w = lent a.at a.a.now a.b.now in
     let l = a.special.now in
-    (c.requires.0, omega arith, c.requires.1, sym (frame_run w l c.requires.1 _ _ _ _ (omega arith) c.wrapping_sub-bottom.ensures c.least-n.ensures c.run_refusal.ensures) ∙ c.if-run_refusal-ne0.false)
+    (c.requires.0, omega arith, c.requires.1, sym (frame_run w l c.requires.1 _ _ _ _ (omega arith) c.wrapping_sub-bottom.ensures c.min-n.ensures c.run_refusal.ensures) ∙ c.if-run_refusal-ne0.false)
 
 pub returns : goal.returns
 returns c =
@@ -47,5 +47,5 @@ returns c =
     let s = made a.general.now l pc halt marks mask in
     let good = held_placed s c.requires.0 in
     pop_done w s a.x a.yz good c.requires.1.above m (hole_held w l c.requires.1 _ hole.ensures _ found.ensures.1 c.if-octa-eq-IN_NEITHER.false) _ (hole_is w l c.requires.1 _ hole.ensures _ found.ensures.0) _ _
-    (sym (frame_run w l c.requires.1 _ _ _ _ (omega arith) c.wrapping_sub-bottom.ensures c.least-n.ensures c.run_refusal.ensures) ∙ c.if-run_refusal-ne0.false)
+    (sym (frame_run w l c.requires.1 _ _ _ _ (omega arith) c.wrapping_sub-bottom.ensures c.min-n.ensures c.run_refusal.ensures) ∙ c.if-run_refusal-ne0.false)
     (c.leave.ensures pc halt marks mask) c.wrapping_add-target.ensures

@@ -16,7 +16,7 @@ returns-then-not-is_placed c =
     push_one w s a.x (denied _ _ (c.is_placed.ensures s refl refl) (ap not c.if-not-is_placed.true))
 
 pub hole_of-h-requires : goal.hole_of-h-requires
-hole_of-h-requires c = let a = c.args in let h = held_by (made a.general.now a.special.now 0 0 0 0) (granted _ _ (c.is_placed.ensures (made a.general.now a.special.now 0 0 0 0) refl refl) (ap not c.if-not-is_placed.false)) (omega (arith, c.counted.ensures.1)) in omega (arith, h.g_high, h.l_g)
+hole_of-h-requires c = let a = c.args in let h = held_by (made a.general.now a.special.now 0 0 0 0) (granted _ _ (c.is_placed.ensures (made a.general.now a.special.now 0 0 0 0) refl refl) (ap not c.if-not-is_placed.false)) (omega (arith, c.told-special)) in omega (arith, h.g_high, h.l_g)
 
 pub returns-then-number-ne0 : goal.returns-then-number-ne0
 returns-then-number-ne0 c =
@@ -32,7 +32,7 @@ pub store_frame-requires : goal.store_frame-requires
 store_frame-requires c = (c.hole_of-h.ensures.1, passed _ _ _ _ _ c.run_refusal-number.ensures c.if-number-ne0.false (omega arith))
 
 pub enter-requires : goal.enter-requires
-enter-requires c = let a = c.args in (held_by (made a.general.now a.special.now 0 0 0 0) (granted _ _ (c.is_placed.ensures (made a.general.now a.special.now 0 0 0 0) refl refl) (ap not c.if-not-is_placed.false)) (omega (arith, c.counted.ensures.1)), c.hole_of-h.ensures.1)
+enter-requires c = let a = c.args in (held_by (made a.general.now a.special.now 0 0 0 0) (granted _ _ (c.is_placed.ensures (made a.general.now a.special.now 0 0 0 0) refl refl) (ap not c.if-not-is_placed.false)) (omega (arith, c.told-special)), c.hole_of-h.ensures.1)
 
 pub returns : goal.returns
 returns c =

@@ -25,4 +25,4 @@ returns-then-octa-eq-NEITHER c = λ general pc halt marks mask.
 pub returns : goal.returns
 returns c = λ general pc halt marks mask.
     pop_rest _ _ (made general _ pc halt marks mask) c.requires (record { above = c.if-ro-le-STACK_START.false; even = c.if-ro-ne0.false; positive = sym c.is_negative.ensures ∙ c.if-is_negative.false }) _ c.is_foreign.ensures c.if-is_foreign.false
-    _ c.read_octa-octa.ensures.1 c.if-octa-eq-NEITHER.false _ _ c.read_octa-octa.ensures.0 c.least-n.ensures _ c.has_foreign.ensures
+    _ c.read_octa-octa.ensures.1 c.if-octa-eq-NEITHER.false _ _ c.read_octa-octa.ensures.0 c.min-n.ensures _ c.has_foreign.ensures
