@@ -30,7 +30,7 @@ pub fn load(
         result (made general.new special.new pc.new halt marks mask) (lent at a.now b.now) }
 {
     let addr = control::sum(general, op, y, z);
-    if stack::pass::run_refusal(a, b, at, addr, 1) != 0 {
+    if stack::pass::run_refusal(a, b, at, addr, 1) != Reply::Done {
         return Reply::Missing;
     }
     let found = stack::pass::read_octa(a, b, at, addr);
@@ -62,7 +62,7 @@ pub fn store(
         result (made general.new special.new pc.new halt.new marks mask) (lent at a.new b.new) }
 {
     let addr = control::sum(general, op, y, z);
-    if stack::pass::run_refusal(a, b, at, addr, 1) != 0 {
+    if stack::pass::run_refusal(a, b, at, addr, 1) != Reply::Done {
         return Reply::Missing;
     }
     let found = stack::pass::read_octa(a, b, at, addr);

@@ -10,9 +10,8 @@ ghost use Rattle.contexts.specs.SaveUnsave.{save_in, unsave_in, context_specials
 ghost use Rattle.contexts.specs.ContextWork.{Ranged, StoresContext, left_general, left_special, octas_from, unsaved_as, loaded};
 
 use super::layout::{
-    AT_PACKED, AT_SPECIALS, CONTEXT_OCTAS, CONTEXT_SPECIALS, Located, PACKED_RG, SavedContext,
+    AT_PACKED, AT_SPECIALS, CONTEXT_OCTAS, CONTEXT_SPECIALS, ContextError, PACKED_RG, SavedContext,
 };
-use model::replies::reply_of;
 use model::{Bases, Reply, State};
 
 /// The special register that is number i of the twelve (`SAVE_SPECIALS`): rB to rR, which are 0 to 6, then rP to rZ, 23 to 27.
@@ -143,9 +142,9 @@ pub fn save_context_judged(
         *halt = 1;
         return Reply::SaveLocal;
     }
-    let number = machine::memory::run_refusal(a, b, at, ro, rl + CONTEXT_OCTAS - rg);
-    if number != 0 {
-        return reply_of(number);
+    let reply = machine::memory::run_refusal(a, b, at, ro, rl + CONTEXT_OCTAS - rg);
+    if reply != Reply::Done {
+        return reply;
     }
     put_away(general, special, a, b, at, x);
     depart(special);
@@ -230,14 +229,14 @@ pub fn unsave_context_judged(
 {
     let located = super::layout::locate(a, b, at, address);
     match located {
-        Located::Found(context) => {
+        Ok(context) => {
             arrive(general, special, a, b, at, context);
             Reply::Done
         }
-        Located::Bad(reply) => {
+        Err(ContextError::Bad(reply)) => {
             *halt = 1;
             reply
         }
-        Located::Lost(reply) => reply,
+        Err(ContextError::Lost(reply)) => reply,
     }
 }

@@ -3,17 +3,16 @@
 ghost use Rattle.model.specs.Parts.{lent};
 ghost use Rattle.contexts.specs.SaveUnsave.{SaveGives, UnsaveGives};
 
-use model::replies::reply_of;
-use model::{Bases, State};
+use model::{Bases, Reply, State};
 use stack::value::Answer;
 
 pub fn save_context(mut state: State, a: &mut [u8], b: &mut [u8], at: Bases, x: u8) -> Answer
     ensures { SaveGives (lent at a.old b.old) state x result.reply result.state (lent at a.new b.new) }
 {
-    let number = stack::pass::refusal(&state.special, state.marks, state.mask, a, b, at);
-    if number != 0 {
+    let refusal = stack::pass::refusal(&state.special, state.marks, state.mask, a, b, at);
+    if refusal != Reply::Done {
         return Answer {
-            reply: reply_of(number),
+            reply: refusal,
             state,
         };
     }
@@ -34,10 +33,10 @@ pub fn save_context(mut state: State, a: &mut [u8], b: &mut [u8], at: Bases, x: 
 pub fn unsave_context(mut state: State, a: &[u8], b: &[u8], at: Bases, address: u64) -> Answer
     ensures { UnsaveGives (lent at a.now b.now) state address result.reply result.state }
 {
-    let number = stack::pass::refusal(&state.special, state.marks, state.mask, a, b, at);
-    if number != 0 {
+    let refusal = stack::pass::refusal(&state.special, state.marks, state.mask, a, b, at);
+    if refusal != Reply::Done {
         return Answer {
-            reply: reply_of(number),
+            reply: refusal,
             state,
         };
     }

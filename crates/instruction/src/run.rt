@@ -12,7 +12,8 @@ ghost use Rattle.instruction.specs.FetchedArms.{said_by};
 use super::{claim, step};
 use arms::control;
 use decode::opcode;
-use model::{Bases, GRANT_MOST, Octabyte, replies};
+use model::replies::number_of;
+use model::{Bases, GRANT_MOST, replies};
 
 /// The instruction that a tetra says, from 3 on. A branch claims nothing, and is done here: what a loop does most is not to wait for the choice.
 fn attempt(
@@ -76,7 +77,7 @@ fn fetched(
 {
     let from = *pc;
     let found = stack::pass::read_octa(a, b, at, from);
-    if found.holder == Octabyte::IN_NEITHER {
+    if found.holder.is_none() {
         return replies::NOT_FETCHED;
     }
     let v = found.value;
@@ -141,7 +142,7 @@ pub fn run(
         (made general.new special.new pc.new halt.new marks mask) (lent at a.new b.new) }
 {
     *done = 0;
-    let number = stack::pass::refusal(special, marks, mask, a, b, at);
+    let number = number_of(stack::pass::refusal(special, marks, mask, a, b, at));
     if number != replies::DONE {
         return number;
     }

@@ -157,7 +157,7 @@ fn refusal_of(
     if JUDGED <= op {
         return replies::DONE;
     }
-    stack::pass::refusal(special, marks, mask, a, b, at)
+    number_of(stack::pass::refusal(special, marks, mask, a, b, at))
 }
 
 /// One step in place: 1, then 2, then 22, unless the opcode says that they have passed; then 3 to 5 and the instruction's own. This is the one place where an

@@ -125,14 +125,14 @@ module _ (w : Shapes) (x : ℕ) where
       go false true e = (refl, refl)
       go false false e = absurd (omega arith)
 
-  pub has_none : holder w x ≢ 1 → holder w x ≢ 0 → (has w.b x ≡ false) × (has w.a x ≡ false)
+  pub has_none : holder w x ≡ 2 → (has w.b x ≡ false) × (has w.a x ≡ false)
   unfolding holder
   has_none = go (has w.b x) (has w.a x)
     where
-      go : (t u : Bool) → (◌≡◌ {A = ℕ} (cond t 1 (cond u 0 2)) 1 → ⊥) → (◌≡◌ {A = ℕ} (cond t 1 (cond u 0 2)) 0 → ⊥) → (t ≡ false) × (u ≡ false)
-      go true u e f = absurd (e refl)
-      go false true e f = absurd (f refl)
-      go false false e f = (refl, refl)
+      go : (t u : Bool) → ◌≡◌ {A = ℕ} (cond t 1 (cond u 0 2)) 2 → (t ≡ false) × (u ≡ false)
+      go true u e = absurd (omega arith)
+      go false true e = absurd (omega arith)
+      go false false e = (refl, refl)
 
   pub held_inside : holder w x ≢ 2 → refusing w x ≡ 0
   unfolding holder refusing inside

@@ -8,12 +8,13 @@ ghost use Rattle.model.specs.Frames.{count_of, last_output, misplaced};
 ghost use Rattle.model.specs.PopOrder.{lowered};
 ghost use Rattle.model.specs.Parts.{made, lent};
 ghost use Rattle.model.specs.Step.{refusing};
+ghost use Rattle.model.specs.Numbers.{number_of};
 ghost use Rattle.model.specs.declared.State.{State};
 ghost use Rattle.machine.specs.Octas.{read_octa};
 ghost use Rattle.stack.specs.GivenBack.{Refused, placed};
 ghost use Rattle.stack.specs.PushPop.{pop_number, pop_answer, Held, Placed, bottom_of, between_by, popped_as, pop_in, PopGives};
 
-use model::{Bases, Octabyte, State, replies};
+use model::{Bases, Reply, State};
 
 /// What POP found at rO.
 #[derive(Clone, Copy)]
@@ -34,19 +35,17 @@ pub enum PopFrame {
     Shared,
 }
 
-/// The case of a number by which state or windows are refused.
-#[tactic(auto, unfolding(crate::specs::PushPop::pop_number, crate::specs::PushPop::pop_answer))]
-pub(crate) fn refused(number: u64) -> PopFrame
-    requires { Refused number }
-    ensures { (pop_number result ≡ number) × ((s : State) (yz : ℕ) → result ≡ pop_answer s yz number) }
+/// The case of a reply by which state or windows are refused.
+#[tactic(auto, unfolding(model::specs::Numbers::number_of, crate::specs::PushPop::pop_number, crate::specs::PushPop::pop_answer))]
+pub(crate) fn refused(reply: Reply) -> PopFrame
+    requires { Refused (number_of reply) }
+    ensures { (pop_number result ≡ number_of reply) × ((s : State) (yz : ℕ) → result ≡ pop_answer s yz (number_of reply)) }
 {
-    if number == replies::NOT_ADMISSIBLE {
-        return PopFrame::NotAdmissible;
+    match reply {
+        Reply::NotAdmissible => PopFrame::NotAdmissible,
+        Reply::WindowRule => PopFrame::WindowRule,
+        _ => PopFrame::Shared,
     }
-    if number == replies::WINDOW_RULE {
-        return PopFrame::WindowRule;
-    }
-    PopFrame::Shared
 }
 
 /// Whether rG and rL are numbers of registers, in order.
@@ -184,13 +183,13 @@ fn pop_at(
     let rj = special[State::RJ];
     let below = model::number::wrapping_sub(ro, 8);
     let octa = machine::memory::read_octa(a, b, at, below);
-    if octa.holder == Octabyte::IN_NEITHER {
+    if octa.holder.is_none() {
         return PopFrame::Missing;
     }
     let h = octa.value % 256;
     let bottom = model::number::wrapping_sub(ro, 8 * (h + 1));
     let n = h.min(rg);
-    if machine::memory::run_refusal(a, b, at, bottom, n) != 0 {
+    if machine::memory::run_refusal(a, b, at, bottom, n) != Reply::Done {
         return PopFrame::Missing;
     }
     leave(general, special, a, b, at, x, h);

@@ -13,7 +13,6 @@ ghost use Rattle.stack.specs.GivenBack.{Gives};
 ghost use Rattle.stack.specs.PushPop.{Held, push_in};
 
 use super::frame::is_placed;
-use model::replies::reply_of;
 use model::{Bases, Reply, State};
 
 /// The hole's number.
@@ -95,9 +94,9 @@ pub fn push_frame_judged(
         return Reply::NotAdmissible;
     }
     let h = hole_of(rg, rl, x);
-    let number = machine::memory::run_refusal(a, b, at, ro, h + 1);
-    if number != 0 {
-        return reply_of(number);
+    let reply = machine::memory::run_refusal(a, b, at, ro, h + 1);
+    if reply != Reply::Done {
+        return reply;
     }
     store_frame(general, a, b, at, ro, h);
     enter(general, special, pc, h);

@@ -5,7 +5,6 @@ ghost use Rattle.stack.specs.PushPop.{PushGives, pop_of, PopGives};
 
 use super::frame::PopFrame;
 use super::{frame, pass, push};
-use model::replies::reply_of;
 use model::{Bases, Reply, State};
 
 /// A reply and the state that it leaves.
@@ -25,10 +24,10 @@ pub struct Popped {
 pub fn push_frame(mut state: State, a: &mut [u8], b: &mut [u8], at: Bases, x: u8) -> Answer
     ensures { PushGives (lent at a.old b.old) state x result.reply result.state (lent at a.new b.new) }
 {
-    let number = pass::refusal(&state.special, state.marks, state.mask, a, b, at);
-    if number != 0 {
+    let refusal = pass::refusal(&state.special, state.marks, state.mask, a, b, at);
+    if refusal != Reply::Done {
         return Answer {
-            reply: reply_of(number),
+            reply: refusal,
             state,
         };
     }
@@ -47,10 +46,10 @@ pub fn push_frame(mut state: State, a: &mut [u8], b: &mut [u8], at: Bases, x: u8
 pub fn pop_frame(mut state: State, a: &[u8], b: &[u8], at: Bases, x: u8, yz: u16) -> Popped
     ensures { PopGives (pop_of (lent at a.now b.now) state x) state yz result.answer result.state }
 {
-    let number = pass::refusal(&state.special, state.marks, state.mask, a, b, at);
-    if number != 0 {
+    let refusal = pass::refusal(&state.special, state.marks, state.mask, a, b, at);
+    if refusal != Reply::Done {
         return Popped {
-            answer: frame::refused(number),
+            answer: frame::refused(refusal),
             state,
         };
     }

@@ -25,9 +25,6 @@ pub(crate) struct Whole {
     pub size: u64,
 }
 
-/// The holder of an octabyte that is in neither window.
-const NEITHER: u64 = 2;
-
 /// Whether the octabyte that `addr` names lies in B outside the part.
 fn is_foreign(whole: Whole, addr: u64) -> bool
     ensures { result ≡ is_foreign whole addr }
@@ -103,7 +100,7 @@ fn pop_asks(special: &[u64; 32], a: &[u8], b: &[u8], at: Bases, whole: Whole) ->
         return true;
     }
     let octa = machine::memory::read_octa(a, b, at, below);
-    if octa.holder == NEITHER {
+    if octa.holder.is_none() {
         return false;
     }
     let h = octa.value % 256;
@@ -137,7 +134,7 @@ fn count_asks(a: &[u8], b: &[u8], at: Bases, whole: Whole, address: u64, rg: u64
         return true;
     }
     let octa = machine::memory::read_octa(a, b, at, marker);
-    if octa.holder == NEITHER {
+    if octa.holder.is_none() {
         return false;
     }
     let count = octa.value;
@@ -157,7 +154,7 @@ fn unsave_asks(a: &[u8], b: &[u8], at: Bases, whole: Whole, address: u64) -> boo
         return true;
     }
     let octa = machine::memory::read_octa(a, b, at, address);
-    if octa.holder == NEITHER {
+    if octa.holder.is_none() {
         return false;
     }
     let packed = octa.value;
@@ -226,7 +223,7 @@ pub(crate) fn asks_foreign(
         ≡ asks whole (fetched_needs (lent at a.now b.now) (made general.now special.now pc halt marks mask)) }
 {
     let found = machine::memory::read_octa(a, b, at, pc);
-    if found.holder == NEITHER {
+    if found.holder.is_none() {
         return is_foreign(whole, pc);
     }
     let v = found.value;

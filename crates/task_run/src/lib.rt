@@ -14,6 +14,7 @@ ghost use Rattle.task_run.specs.RunIn.{lost, run_in};
 ghost use Rattle.task_run.specs.Ask.{OwnOnly, told};
 
 use ask::Whole;
+use model::replies::number_of;
 use model::{Bases, GRANT_MOST, replies};
 
 mod ask;
@@ -61,7 +62,7 @@ pub fn run(
 {
     *done = 0;
     stack::pass::counted(general, special);
-    let refused = stack::pass::refusal(special, marks, mask, a, b, at);
+    let refused = number_of(stack::pass::refusal(special, marks, mask, a, b, at));
     if refused != 0 {
         return refused;
     }

@@ -6,6 +6,7 @@ ghost use Rattle.task_model.specs.Tasks.{owns};
 ghost use Rattle.task_model.specs.Call.{tasks_in, part_at, each_below, part_ruled, overlaps, part_clear, tasks_ruled, all_admissible, call_refusal};
 ghost use Rattle.tasks.specs.Images.{each_length, states_in};
 
+use model::replies::number_of;
 use model::{Bases, GRANT_MOST, IMAGE_LEN, OLD_IMAGE_LEN, replies};
 
 /// The most instructions a turn.
@@ -183,7 +184,7 @@ pub(crate) fn call_refusal(
     ensures { result ≡ call_refusal (shapes_of (lent at a.now b.now))
         (states_in (tasks_in parts.now) images.now) parts.now q grant }
 {
-    let number = machine::memory::windows_refusal(a, b, at);
+    let number = number_of(machine::memory::windows_refusal(a, b, at));
     if number != 0 {
         return number;
     }

@@ -1,17 +1,17 @@
 -- `asks_foreign` meets its contract: the octabyte at PC, and else what the arm asks on the claimed registers.
-use Rattle.model.proofs.Prelude.{not}
+use Rattle.model.proofs.Prelude.{no_holder, some_holder, not}
 use Rattle.model.proofs.Prelude.{ap}
 use Rattle.model.proofs.Prelude.{[], made, denied, granted}
 use Rattle.task_run.proofs.AsksArms.{unfetched_asks, fetched_asks, claim_counted, plain_claim, marginal_claim}
 use Rattle.task_run.proofs.ask.asks_foreign.Goals as goal
 
-pub returns-then-found-eq-NEITHER : goal.returns-then-found-eq-NEITHER
-returns-then-found-eq-NEITHER c = λ halt marks mask a.
-    unfetched_asks _ _ c.requires.1 (made _ _ _ halt marks mask) a c.requires.2 _ c.read_octa-found.ensures.1 c.if-found-eq-NEITHER.true _ c.is_foreign.ensures
+pub returns-then-is_none : goal.returns-then-is_none
+returns-then-is_none c = λ halt marks mask a.
+    unfetched_asks _ _ c.requires.1 (made _ _ _ halt marks mask) a c.requires.2 _ c.read_octa-found.ensures.1 (no_holder _ _ c.is_none.ensures c.if-is_none.true) _ c.is_foreign.ensures
 
 pub returns-then-not-claims : goal.returns-then-not-claims
 returns-then-not-claims c = λ halt marks mask a.
-    fetched_asks _ _ c.requires.1 (made _ _ _ halt marks mask) a c.requires.2 _ c.read_octa-found.ensures.1 c.if-found-eq-NEITHER.false _ _ c.read_octa-found.ensures.0 c.tetra_at-tetra.ensures.0
+    fetched_asks _ _ c.requires.1 (made _ _ _ halt marks mask) a c.requires.2 _ c.read_octa-found.ensures.1 (some_holder _ _ c.is_none.ensures c.if-is_none.false) _ _ c.read_octa-found.ensures.0 c.tetra_at-tetra.ensures.0
     (made _ _ _ halt marks mask) (plain_claim _ _ _ (denied _ _ c.claims.ensures (ap not c.if-not-claims.true))) _ (c.arm_asks.ensures _ halt marks mask)
 
 pub arm_asks-requires-2 : goal.arm_asks-requires-2
@@ -20,6 +20,6 @@ arm_asks-requires-2 c =
 
 pub returns : goal.returns
 returns c = λ halt marks mask a.
-    fetched_asks _ _ c.requires.1 (made _ _ _ halt marks mask) a c.requires.2 _ c.read_octa-found.ensures.1 c.if-found-eq-NEITHER.false _ _ c.read_octa-found.ensures.0 c.tetra_at-tetra.ensures.0
+    fetched_asks _ _ c.requires.1 (made _ _ _ halt marks mask) a c.requires.2 _ c.read_octa-found.ensures.1 (some_holder _ _ c.is_none.ensures c.if-is_none.false) _ _ c.read_octa-found.ensures.0 c.tetra_at-tetra.ensures.0
     (made _ _ _ halt marks mask) (marginal_claim _ _ _ _ (granted _ _ c.claims.ensures (ap not c.if-not-claims.false)) (c.claim_local.ensures (made [] [] _ halt marks mask)))
     _ (c.arm_asks-2.ensures _ halt marks mask)

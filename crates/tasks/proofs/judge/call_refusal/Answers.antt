@@ -1,20 +1,20 @@
 -- `call_refusal` meets its contract: each test in its turn.
-use Rattle.model.proofs.Prelude.{not}
+use Rattle.model.proofs.Prelude.{◌∙◌, not}
 use Rattle.model.proofs.Prelude.{ap}
 use Rattle.model.proofs.Prelude.{arith, shape_of, shapes_of, denied, granted}
 use Rattle.tasks.proofs.Judged.{ruled_so_law, call_unruled, call_granted, call_ruled, call_inadmissible, call_open}
 use Rattle.tasks.proofs.judge.call_refusal.Goals as goal
 
 pub returns-then-number-ne0 : goal.returns-then-number-ne0
-returns-then-number-ne0 c = call_unruled _ _ _ _ _ _ c.windows_refusal-number.ensures c.if-number-ne0.true
+returns-then-number-ne0 c = call_unruled _ _ _ _ _ _ (c.number_of-number.ensures ∙ c.windows_refusal.ensures) c.if-number-ne0.true
 
 pub returns-then-grant-gt-GRANT_MOST : goal.returns-then-grant-gt-GRANT_MOST
-returns-then-grant-gt-GRANT_MOST c = call_granted _ _ _ _ _ _ c.windows_refusal-number.ensures c.if-number-ne0.false (omega arith)
+returns-then-grant-gt-GRANT_MOST c = call_granted _ _ _ _ _ _ (c.number_of-number.ensures ∙ c.windows_refusal.ensures) c.if-number-ne0.false (omega arith)
 
 pub returns-then-not-is_ruled : goal.returns-then-not-is_ruled
 unfolding shapes_of shape_of
 returns-then-not-is_ruled c =
-    call_ruled _ _ _ _ _ _ c.windows_refusal-number.ensures c.if-number-ne0.false (omega arith) (denied _ _ c.is_ruled.ensures (ap not c.if-not-is_ruled.true))
+    call_ruled _ _ _ _ _ _ (c.number_of-number.ensures ∙ c.windows_refusal.ensures) c.if-number-ne0.false (omega arith) (denied _ _ c.is_ruled.ensures (ap not c.if-not-is_ruled.true))
 
 pub are_admissible-requires : goal.are_admissible-requires
 are_admissible-requires c =
@@ -24,11 +24,11 @@ are_admissible-requires c =
 pub returns-then-not-are_admissible : goal.returns-then-not-are_admissible
 unfolding shapes_of shape_of
 returns-then-not-are_admissible c =
-    call_inadmissible _ _ _ _ _ _ c.windows_refusal-number.ensures c.if-number-ne0.false (omega arith)
+    call_inadmissible _ _ _ _ _ _ (c.number_of-number.ensures ∙ c.windows_refusal.ensures) c.if-number-ne0.false (omega arith)
     (granted _ _ c.is_ruled.ensures (ap not c.if-not-is_ruled.false)) (denied _ _ c.are_admissible.ensures (ap not c.if-not-are_admissible.true))
 
 pub returns : goal.returns
 unfolding shapes_of shape_of
 returns c =
-    call_open _ _ _ _ _ _ c.windows_refusal-number.ensures c.if-number-ne0.false (omega arith)
+    call_open _ _ _ _ _ _ (c.number_of-number.ensures ∙ c.windows_refusal.ensures) c.if-number-ne0.false (omega arith)
     (granted _ _ c.is_ruled.ensures (ap not c.if-not-is_ruled.false)) (granted _ _ c.are_admissible.ensures (ap not c.if-not-are_admissible.false))
