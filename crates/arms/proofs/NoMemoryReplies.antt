@@ -2,7 +2,7 @@
 -- 31, GET, PUT, SYNC. Trips and traps: Interrupts of crate exceptions.
 use Rattle.model.proofs.Prelude.{ℕ, ◌%◌, ◌+◌, ◌<◌, ◌^◌, ◌≤◌, cond, false, true, List, refl, sym, ◌∙◌, ◌≡◌, arith, eqb, le-leb, le-ltb, lt-leb, lt-ltb, ne_eqb}
 use Rattle.model.proofs.Prelude.{Said, reply_of, made, halted, hides, with_parts, get_special, got, put_refusal, put_special, put_state, sync_of}
-use Rattle.model.proofs.Prelude.{unless_hidden, put_most, done_zero, refused_not_zero}
+use Rattle.model.proofs.Prelude.{unless_hidden, put_most, number_zero, refused_not_zero}
 use Rattle.arms.proofs.Prelude.{Reply, Done, Hidden, NoSpecial, SyncIllegal, SyncPrivileged, State, Told, halted_is, next_is}
 use Rattle.arms.specs.NoMemoryArms.{get_of}
 
@@ -43,7 +43,7 @@ module _ (s : State) (x v : ℕ) (r : Reply) (g l : List ℕ)
   pub put_done_law : (n : ℕ) → r ≡ Done → n ≡ (s.pc + 4) % 2 ^ 64 → Told (put_special s x v) r (made g l n s.halt s.marks s.mask)
   unfolding put_special unless_hidden
   put_done_law n h q =
-      let z : put_refusal s x v ≡ 0 = done_zero _ r small e h in
+      let z : put_refusal s x v ≡ 0 = number_zero _ r small e h in
       rw (u, z) (record { reply_is = rw z at e; state_is = next_is (with_parts s g l) _ (rw z at f) n q })
 
   pub put_refused : (r ≡ Done → ⊥) → Told (put_special s x v) r (made g l s.pc 1 s.marks s.mask)

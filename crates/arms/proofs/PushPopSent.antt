@@ -2,7 +2,7 @@
 -- plan with PC sent on, then PUSH, then POP. SAVE and UNSAVE: SaveUnsaveSent.
 use Rattle.model.proofs.Prelude.{ℕ, ◌≤◌, Bool, cond, false, true, List, [], ap, refl, sym, ◌∙◌, ◌≡◌, arith, eqb, ne_eqb, hole, misplaced, no_frame}
 use Rattle.model.proofs.Prelude.{pop_frame, pop_rule, pop_to, push_frame, Windows, tell, reply_of, Outcome, Plan, puts, goes, halted, Answers, on, perform_on, Any}
-use Rattle.model.proofs.Prelude.{done_zero, refused_not_zero, perform_meets, pop_sent, push_sent, sent}
+use Rattle.model.proofs.Prelude.{number_zero, refused_not_zero, perform_meets, pop_sent, push_sent, sent}
 use Rattle.arms.proofs.Prelude.{Reply, State, Gives, only_if, placed, pop_answer, PopGives, pop_in, pop_number, push_in, return_to}
 use Rattle.stack.specs.declared.frame.PopFrame.{PopFrame}
 use Rattle.stack.specs.declared.frame.PopFrame.TheVariants.{Frame, NoFrame, Rejected, Missing, NotAdmissible, WindowRule, Shared}
@@ -77,7 +77,7 @@ module _ (w : Windows) (s : State) (x target : ℕ) (r : Reply) (t : State) (v :
   at_start = (push_stays (placed s) w s (hole s x)).1
 
   pub push_done : r ≡ reply.Done → Replied (only_if (placed s) w s (push_frame s (hole s x) target)) r (goes t target) v
-  push_done d = sent_done s _ _ target r t v push_open g.reply_is g.state_is g.window_is (done_zero _ r small g.reply_is d)
+  push_done d = sent_done s _ _ target r t v push_open g.reply_is g.state_is g.window_is (number_zero _ r small g.reply_is d)
 
   pub push_refused : (r ≡ reply.Done → ⊥) → Replied (only_if (placed s) w s (push_frame s (hole s x) target)) r t v
   push_refused h =

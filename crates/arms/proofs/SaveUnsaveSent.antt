@@ -2,7 +2,7 @@
 -- refused. PUSH and POP: PushPopSent.
 use Rattle.model.proofs.Prelude.{ℕ, ◌%◌, ◌+◌, ◌^◌, ◌≤◌, Bool, cond, false, true, List, ap, refl, sym, ◌∙◌, ◌≡◌, arith, eqb, ltb, eq-eqb, ne_eqb}
 use Rattle.model.proofs.Prelude.{save_context, unsave_context, unsaved, Windows, tell, made, Outcome, Plan, admissible, following, goes, halted, next, r_g, sp}
-use Rattle.model.proofs.Prelude.{Answers, context_meets, on, perform_on, Any, done_zero, refused_not_zero, perform_meets, back_to, save_sent, sent, unsave_sent}
+use Rattle.model.proofs.Prelude.{Answers, context_meets, on, perform_on, Any, number_zero, refused_not_zero, perform_meets, back_to, save_sent, sent, unsave_sent}
 use Rattle.arms.proofs.Prelude.{Reply, Done, State, Gives, only_if}
 use Rattle.arms.specs.Replied.{Replied}
 
@@ -60,7 +60,7 @@ module _ (o : Outcome State Windows) (s : State) (h : Onward o s) (r : Reply) (g
       moved = unfold goes in (ap (λ (t : State). goes t (following s)) e.state_is)
 
       state : made g l n k s.marks s.mask ≡ o.state
-      state = ap (λ (m : ℕ). made g l m k s.marks s.mask) q ∙ moved ∙ sym (state_at_law true (eq-eqb _ _ (done_zero _ r small e.reply_is z)))
+      state = ap (λ (m : ℕ). made g l m k s.marks s.mask) q ∙ moved ∙ sym (state_at_law true (eq-eqb _ _ (number_zero _ r small e.reply_is z)))
 
   pub onward_refused : (r ≡ Done → ⊥) → Replied o r (made g l s.pc k s.marks s.mask) v
   onward_refused z = record {

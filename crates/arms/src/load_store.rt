@@ -18,7 +18,7 @@ pub fn load(s: &mut StateMut<'_>, w: &WindowsMut<'_>, i: &Instruction) -> Reply
         result (state_lent s.new) (windows_lent w.now) }
 {
     let addr = control::sum(s.general, i);
-    if stack::pass::run_refusal(w.a, w.b, w.at, addr, 1) != 0 {
+    if stack::pass::run_refusal(w.a, w.b, w.at, addr, 1) != Reply::Done {
         return Reply::Missing;
     }
     let found = stack::pass::read_octa(w.a, w.b, w.at, addr);
@@ -36,7 +36,7 @@ pub fn store(s: &mut StateMut<'_>, w: &mut WindowsMut<'_>, i: &Instruction) -> R
 {
     let addr = control::sum(s.general, i);
     let lent = w.read();
-    if stack::pass::run_refusal(lent.a, lent.b, lent.at, addr, 1) != 0 {
+    if stack::pass::run_refusal(lent.a, lent.b, lent.at, addr, 1) != Reply::Done {
         return Reply::Missing;
     }
     let found = stack::pass::read_octa(lent.a, lent.b, lent.at, addr);

@@ -7,12 +7,14 @@ use Rattle.model.proofs.Prelude.{perform_on, said, both_lawful, of_worst, perfor
 use Rattle.contexts.proofs.Prelude.{below, Reply, Missing, SavedCount, SavedStatus, SavedThreshold, read_octa, read_in, read_mod}
 use Rattle.machine.proofs.RunRefused.{run_one}
 use Rattle.contexts.specs.SaveUnsave.{layout_at, count_reply, layout_number, layout_answer, LayoutIs, spot, located_of, located_number, located_answer, LocatedIs}
-use Rattle.contexts.specs.declared.layout.Layout.{Layout}
-use Rattle.contexts.specs.declared.layout.Layout.TheVariants.{Excess, Outside}
+use Rattle.contexts.specs.SaveUnsave.{FromLayout, Layout}
+use Rattle.contexts.specs.declared.layout.LayoutError.{LayoutError}
+use Rattle.contexts.specs.declared.layout.ContextError.{ContextError}
+use Rattle.contexts.specs.declared.layout.LayoutError.TheVariants.{Excess, Outside}
+use Rattle.std.specs.Prelude.{Ok, Err}
 use Rattle.contexts.specs.declared.layout.SavedContext.{SavedContext}
-use Rattle.contexts.specs.declared.layout.Located.TheVariants.{Found, Bad, Lost}
+use Rattle.contexts.specs.declared.layout.ContextError.TheVariants.{Bad, Lost}
 use Rattle.contexts.specs.declared.layout.SaveContextLayout.{SaveContextLayout}
-use Rattle.contexts.specs.declared.layout.Layout.TheVariants as layout
 
 -- ---- the octabyte at an address that is taken modulo 2^64
 
@@ -49,9 +51,9 @@ module _ (w : Windows) (p g marker : ℕ) (e : marker ≡ below p (269 - g) % 2 
   answered : (n l : ℕ) (r : Layout) → count_reply w p g ≡ n → look both w (below p (269 - g)) ≡ l → r ≡ layout_answer p g l n → layout_number r ≡ n → LayoutIs w p g r
   answered n l r c d a b = record { answer_is = rw (c, d) a; number_is = b ∙ sym c }
 
-  pub layout_outside : (worst (refusing (shapes_of w)) marker 1 ≡ 0 → ⊥) → (q : Reply) → q ≡ Missing → LayoutIs w p g (Outside q)
+  pub layout_outside : (worst (refusing (shapes_of w)) marker 1 ≡ 0 → ⊥) → (q : Reply) → q ≡ Missing → LayoutIs w p g (Err (Outside q))
   unfolding count_reply layout_answer layout_number reply_of number_of
-  layout_outside h q d = rw d (answered 6 _ (Outside Missing) (rw (one_out w (below p (269 - g)) marker e h)) refl refl refl)
+  layout_outside h q d = rw d (answered 6 _ (Err (Outside Missing)) (rw (one_out w (below p (269 - g)) marker e h)) refl refl refl)
 
   module _ (count : ℕ) (h : worst (refusing (shapes_of w)) marker 1 ≡ 0) (d : count ≡ read_octa w marker) where
     count_there : inside (shapes_of w) (below p (269 - g)) ≡ true
@@ -60,12 +62,12 @@ module _ (w : Windows) (p g marker : ℕ) (e : marker ≡ below p (269 - g) % 2 
     count_read : look both w (below p (269 - g)) ≡ count
     count_read = one_read w (below p (269 - g)) marker e count h d
 
-    pub layout_excess : g < count → LayoutIs w p g (Excess count)
+    pub layout_excess : g < count → LayoutIs w p g (Err (Excess count))
     unfolding count_reply layout_answer layout_number
-    layout_excess l = answered 16 count (Excess count) (rw (count_there, count_read, lt-leb count g l)) count_read refl refl
+    layout_excess l = answered 16 count (Err (Excess count)) (rw (count_there, count_read, lt-leb count g l)) count_read refl refl
 
     pub layout_found : (lb : ℕ) → count ≤ g → lb ≡ below p (count + 269 - g) % 2 ^ 64
-        → LayoutIs w p g (layout.Found (record { local_count = count; locals_base = lb }))
+        → LayoutIs w p g (Ok (record { local_count = count; locals_base = lb }))
     unfolding count_reply layout_answer layout_number layout_at
     layout_found lb l el = answered 0 count _ (rw (count_there, count_read, le-leb count g l)) count_read (rw el) refl
 
@@ -132,9 +134,9 @@ module _ (w : Windows) (p g : ℕ) (k : Layout) (e : LayoutIs w p g k) where
 
   -- a fact that follows from the case of each of the three numbers
   by_number : (P : Layout → Type 0)
-      → (inside (shapes_of w) at_count ≡ true → look both w at_count ≤ g → P (layout.Found (layout_at p g (look both w at_count))))
-      → (inside (shapes_of w) at_count ≡ true → g < look both w at_count → P (Excess (look both w at_count)))
-      → (inside (shapes_of w) at_count ≡ false → P (Outside Missing))
+      → (inside (shapes_of w) at_count ≡ true → look both w at_count ≤ g → P (Ok (layout_at p g (look both w at_count))))
+      → (inside (shapes_of w) at_count ≡ true → g < look both w at_count → P (Err (Excess (look both w at_count))))
+      → (inside (shapes_of w) at_count ≡ false → P (Err (Outside Missing)))
       → P k
   unfolding count_reply layout_answer reply_of
   by_number P a b c =
@@ -143,23 +145,23 @@ module _ (w : Windows) (p g : ℕ) (k : Layout) (e : LayoutIs w p g k) where
       (λ h. on (λ (n : ℕ). P (layout_answer p g (look both w at_count) n)) (leb (look both w at_count) g) (λ f. a h (leb-true _ _ f)) (λ f. b h (leb-false _ _ f)))
       c)
 
-  told_outside : (r : Reply) → k ≡ Outside r → (inside (shapes_of w) at_count ≡ false) × (r ≡ Missing)
+  told_outside : (r : Reply) → k ≡ Err (Outside r) → (inside (shapes_of w) at_count ≡ false) × (r ≡ Missing)
   told_outside r =
-      by_number (λ (y : Layout). y ≡ Outside r → (inside (shapes_of w) at_count ≡ false) × (r ≡ Missing))
+      by_number (λ (y : Layout). y ≡ Err (Outside r) → (inside (shapes_of w) at_count ≡ false) × (r ≡ Missing))
       (λ h f q. let z : ◌≡◌ {A = ℕ} 0 1 = cc in absurd (omega arith)) (λ h f q. let z : ◌≡◌ {A = ℕ} 0 1 = cc in absurd (omega arith)) (λ h q. (h, cc))
 
-  told_excess : (n : ℕ) → k ≡ Excess n → (inside (shapes_of w) at_count ≡ true) × (g < look both w at_count)
+  told_excess : (n : ℕ) → k ≡ Err (Excess n) → (inside (shapes_of w) at_count ≡ true) × (g < look both w at_count)
   told_excess n =
-      by_number (λ (y : Layout). y ≡ Excess n → (inside (shapes_of w) at_count ≡ true) × (g < look both w at_count))
+      by_number (λ (y : Layout). y ≡ Err (Excess n) → (inside (shapes_of w) at_count ≡ true) × (g < look both w at_count))
       (λ h f q. let z : ◌≡◌ {A = ℕ} 0 1 = cc in absurd (omega arith)) (λ h f q. (h, f)) (λ h q. let z : ◌≡◌ {A = ℕ} 0 1 = cc in absurd (omega arith))
 
-  told_found : (l : SaveContextLayout) → k ≡ layout.Found l
+  told_found : (l : SaveContextLayout) → k ≡ Ok l
       → (inside (shapes_of w) at_count ≡ true) × (look both w at_count ≤ g) × (l ≡ layout_at p g (look both w at_count))
   told_found l =
-      by_number (λ (y : Layout). y ≡ layout.Found l → (inside (shapes_of w) at_count ≡ true) × (look both w at_count ≤ g) × (l ≡ layout_at p g (look both w at_count)))
+      by_number (λ (y : Layout). y ≡ Ok l → (inside (shapes_of w) at_count ≡ true) × (look both w at_count ≤ g) × (l ≡ layout_at p g (look both w at_count)))
       (λ h f q. (h, f, cc)) (λ h f q. let z : ◌≡◌ {A = ℕ} 0 1 = cc in absurd (omega arith)) (λ h q. let z : ◌≡◌ {A = ℕ} 0 1 = cc in absurd (omega arith))
 
-  pub told_count : (l : SaveContextLayout) → k ≡ layout.Found l → l.local_count ≤ g
+  pub told_count : (l : SaveContextLayout) → k ≡ Ok l → l.local_count ≤ g
   unfolding layout_at
   told_count l d =
       let t = told_found l d in
@@ -179,15 +181,15 @@ not_inside w a h i =
     omega arith
 
 module _ (w : Windows) (p : ℕ) where
-  lost_is : located_of w p ≡ record { reply = 6; state = spot 0 0 0 0; memory = w } → (q : Reply) → q ≡ Missing → LocatedIs w p (Lost q)
+  lost_is : located_of w p ≡ record { reply = 6; state = spot 0 0 0 0; memory = w } → (q : Reply) → q ≡ Missing → LocatedIs w p (Err (Lost q))
   unfolding located_answer located_number reply_of number_of
   lost_is e q d = rw d (record { answer_is = rw e refl; number_is = rw e refl })
 
-  bad_is : (n : ℕ) (q : Reply) → located_of w p ≡ record { reply = n; state = spot 0 0 0 0; memory = w } → Bad q ≡ located_answer n (spot 0 0 0 0) → number_of q ≡ n → LocatedIs w p (Bad q)
+  bad_is : (n : ℕ) (q : Reply) → located_of w p ≡ record { reply = n; state = spot 0 0 0 0; memory = w } → Err (Bad q) ≡ located_answer n (spot 0 0 0 0) → number_of q ≡ n → LocatedIs w p (Err (Bad q))
   unfolding located_number
   bad_is n q e d f = record { answer_is = rw e d; number_is = rw e f }
 
-  found_is : (o g a l : ℕ) → located_of w p ≡ record { reply = 0; state = spot o g a l; memory = w } → LocatedIs w p (Found (record { first = o; rg = g; ra = a; count = l }))
+  found_is : (o g a l : ℕ) → located_of w p ≡ record { reply = 0; state = spot o g a l; memory = w } → LocatedIs w p (Ok (record { first = o; rg = g; ra = a; count = l }))
   unfolding spot located_answer located_number
   found_is o g a l e = record { answer_is = rw e refl; number_is = rw e refl }
 
@@ -197,7 +199,7 @@ module _ (w : Windows) (p : ℕ) where
   abbrev here : ℕ → ℕ → ℕ → ℕ → List ℕ → SavedContext
   here o g a l vs = spot o g a l
 
-  pub way_lost : (Inside w p 1 → ⊥) → (q : Reply) → q ≡ Missing → LocatedIs w p (Lost q)
+  pub way_lost : (Inside w p 1 → ⊥) → (q : Reply) → q ≡ Missing → LocatedIs w p (Err (Lost q))
   unfolding located_of
   way_lost h = lost_is (at_out w nothing nothing here p h)
 
@@ -215,17 +217,17 @@ module _ (w : Windows) (p : ℕ) where
     unfolding located_of
     opened = at_open w nothing nothing here p v h packed_is
 
-    pub way_threshold : g_of < 32 → LocatedIs w p (Bad SavedThreshold)
+    pub way_threshold : g_of < 32 → LocatedIs w p (Err (Bad SavedThreshold))
     unfolding located_answer reply_of number_of
     way_threshold l = bad_is 14 SavedThreshold (opened ∙ count_low w nothing nothing here p g_of a_of l) refl refl
 
     module _ (lo : 32 ≤ g_of) (hi : g_of ≤ 255) where
-      pub way_status : 0x3FFFF < a_of → LocatedIs w p (Bad SavedStatus)
+      pub way_status : 0x3FFFF < a_of → LocatedIs w p (Err (Bad SavedStatus))
       unfolding located_answer reply_of number_of
       way_status l = bad_is 15 SavedStatus (opened ∙ count_status w nothing nothing here p g_of a_of lo hi l) refl refl
 
       module _ (am : a_of ≤ 0x3FFFF) (k : Layout) (ek : LayoutIs w p g_of k) where
-        pub way_outside : (r : Reply) → k ≡ Outside r → LocatedIs w p (Lost r)
+        pub way_outside : (r : Reply) → k ≡ Err (Outside r) → LocatedIs w p (Err (Lost r))
         way_outside r q =
             let t = told_outside w p g_of k ek r q in
             lost_is (opened ∙ count_out w nothing nothing here p g_of a_of lo hi am (not_inside w (below p (269 - g_of)) t.0)) r t.1
@@ -234,13 +236,18 @@ module _ (w : Windows) (p : ℕ) where
             → located_of w p ≡ perform_on w nothing (context_rest nothing here p g_of a_of l)
         rested l t q = opened ∙ count_open w nothing nothing here p g_of a_of lo hi am l (has_inside w (below p (269 - g_of)) t) q
 
-        pub way_excess : (n : ℕ) → k ≡ Excess n → LocatedIs w p (Bad SavedCount)
+        pub way_excess : (n : ℕ) → k ≡ Err (Excess n) → LocatedIs w p (Err (Bad SavedCount))
         unfolding located_answer reply_of number_of
         way_excess n q =
             let t = told_excess w p g_of k ek n q in
             bad_is 16 SavedCount (rested _ t.0 refl ∙ rest_many w nothing nothing here p g_of a_of _ t.1) refl refl
 
-        module _ (l : SaveContextLayout) (q : k ≡ layout.Found l) where
+        -- either, as `?` makes it
+        pub way_from : (d : LayoutError) (r : ContextError) → k ≡ Err d → FromLayout d r → LocatedIs w p (Err r)
+        way_from (Excess n) r q f = rw f (way_excess n q)
+        way_from (Outside x) r q f = rw f (way_outside x q)
+
+        module _ (l : SaveContextLayout) (q : k ≡ Ok l) where
           count_is : l.local_count ≡ look both w (below p (269 - g_of))
           unfolding layout_at
           count_is = ap (λ (x : SaveContextLayout). x.local_count) (told_found w p g_of k ek l q).2
@@ -250,14 +257,14 @@ module _ (w : Windows) (p : ℕ) where
           first_is =
               ap (λ (x : SaveContextLayout). x.locals_base) (told_found w p g_of k ek l q).2 ∙ ap (λ (n : ℕ). below p (n + 269 - g_of) % 2 ^ 64) (sym count_is)
 
-          pub way_short : (Inside w l.locals_base (l.local_count + 270 - g_of) → ⊥) → (r : Reply) → r ≡ Missing → LocatedIs w p (Lost r)
+          pub way_short : (Inside w l.locals_base (l.local_count + 270 - g_of) → ⊥) → (r : Reply) → r ≡ Missing → LocatedIs w p (Err (Lost r))
           way_short f =
               lost_is (rested l.local_count (told_found w p g_of k ek l q).0 (sym count_is)
               ∙ rest_out w nothing nothing here p g_of a_of l.local_count (told_count w p g_of k ek l q)
               (λ i. f (run_back w (below p (l.local_count + 269 - g_of)) l.locals_base first_is (l.local_count + 270 - g_of) i)))
 
           pub way_found : Inside w l.locals_base (l.local_count + 270 - g_of)
-              → LocatedIs w p (Found (record { first = l.locals_base; rg = g_of; ra = a_of; count = l.local_count }))
+              → LocatedIs w p (Ok (record { first = l.locals_base; rg = g_of; ra = a_of; count = l.local_count }))
           unfolding located_of
           way_found i =
               found_is l.locals_base g_of a_of l.local_count

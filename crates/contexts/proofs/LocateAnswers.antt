@@ -7,8 +7,10 @@ use Rattle.contexts.proofs.Prelude.{below, Reply, Missing}
 use Rattle.contexts.specs.SaveUnsave.{spot, located_of, located_answer, LocatedIs}
 use Rattle.contexts.specs.ContextWork.{octas_from}
 use Rattle.contexts.specs.declared.layout.SavedContext.{SavedContext}
-use Rattle.contexts.specs.declared.layout.Located.{Located}
-use Rattle.contexts.specs.declared.layout.Located.TheVariants.{Found, Bad, Lost}
+use Rattle.contexts.specs.SaveUnsave.{Located}
+use Rattle.contexts.specs.declared.layout.ContextError.{ContextError}
+use Rattle.contexts.specs.declared.layout.ContextError.TheVariants.{Bad, Lost}
+use Rattle.std.specs.Prelude.{Ok, Err}
 use Rattle.contexts.proofs.UnsaveLoads.{octas_are}
 use Rattle.contexts.proofs.ContextPlaces.{run_back}
 
@@ -78,11 +80,11 @@ pub record Standing (w : Windows) (c : SavedContext) : Type 0 where
 
 -- what comes of a plan by what `locate` answered
 pub record Comes {S : Type 0} (w : Windows) (s bad : S) (found : ℕ → ℕ → ℕ → ℕ → List ℕ → S) (r : Located) (o : Outcome S Windows) : Type 0 where
-  pub standing : (c : SavedContext) → r ≡ Found c → Standing w c
-  pub done : (c : SavedContext) → r ≡ Found c
+  pub standing : (c : SavedContext) → r ≡ Ok c → Standing w c
+  pub done : (c : SavedContext) → r ≡ Ok c
       → o ≡ record { reply = 0; state = found c.first c.rg c.ra c.count (octas_from w c.first (c.count + 270 - c.rg)); memory = w }
-  pub lost : (q : Reply) → r ≡ Lost q → o ≡ record { reply = number_of q; state = s; memory = w }
-  pub other : (q : Reply) → r ≡ Bad q → o ≡ record { reply = number_of q; state = bad; memory = w }
+  pub lost : (q : Reply) → r ≡ Err (Lost q) → o ≡ record { reply = number_of q; state = s; memory = w }
+  pub other : (q : Reply) → r ≡ Err (Bad q) → o ≡ record { reply = number_of q; state = bad; memory = w }
 
 module _ {S : Type 0} (w : Windows) (p : ℕ) (s bad : S) (found : ℕ → ℕ → ℕ → ℕ → List ℕ → S) (r : Located) where
   stood : (g a l : ℕ) → g ≤ 255 → l ≤ g → Inside w (below p (l + 269 - g)) (l + 270 - g) → (c : SavedContext) → c ≡ spot (below p (l + 269 - g) % 2 ^ 64) g a l
@@ -106,7 +108,7 @@ module _ {S : Type 0} (w : Windows) (p : ℕ) (s bad : S) (found : ℕ → ℕ �
     other = λ q d. let z : ◌≡◌ {A = ℕ} 0 1 = cc in absurd (omega arith);
   }
   go (lacks n six) e =
-      let k : r ≡ Lost Missing = e ∙ (unfold reply_of in rw six refl) in
+      let k : r ≡ Err (Lost Missing) = e ∙ (unfold reply_of in rw six refl) in
       record {
         standing = λ c d. let z : ◌≡◌ {A = ℕ} 0 1 = cc in absurd (omega arith);
         done = λ c d. let z : ◌≡◌ {A = ℕ} 0 1 = cc in absurd (omega arith);
@@ -114,7 +116,7 @@ module _ {S : Type 0} (w : Windows) (p : ℕ) (s bad : S) (found : ℕ → ℕ �
         other = λ q d. let z : ◌≡◌ {A = ℕ} 0 1 = cc in absurd (omega arith);
       }
   go (refuses n lo hi) e =
-      let k : r ≡ Bad (reply_of n) = e ∙ rw (ne_eqb n 0 (λ z. omega arith), ne_eqb n 6 (λ z. omega arith)) refl in
+      let k : r ≡ Err (Bad (reply_of n)) = e ∙ rw (ne_eqb n 0 (λ z. omega arith), ne_eqb n 6 (λ z. omega arith)) refl in
       record {
         standing = λ c d. let z : ◌≡◌ {A = ℕ} 0 1 = cc in absurd (omega arith);
         done = λ c d. let z : ◌≡◌ {A = ℕ} 0 1 = cc in absurd (omega arith);
@@ -126,5 +128,9 @@ module _ {S : Type 0} (w : Windows) (p : ℕ) (s bad : S) (found : ℕ → ℕ �
   comes h = go (turns w p s bad found) h.answer_is
 
 -- of the place alone
-pub stands_at : (w : Windows) (p : ℕ) (r : Located) → LocatedIs w p r → (c : SavedContext) → r ≡ Found c → Standing w c
+pub stands_at : (w : Windows) (p : ℕ) (r : Located) → LocatedIs w p r → (c : SavedContext) → r ≡ Ok c → Standing w c
 stands_at w p r h = (comes {S = ℕ} w p 0 0 (λ o g a l vs. 0) r h).standing
+
+-- an error as code tells it
+pub at_err : (r : Located) (d e : ContextError) → r ≡ Err d → d ≡ e → r ≡ Err e
+at_err r d e p q = rw q at p

@@ -10,8 +10,9 @@ use Rattle.model.specs.declared.Bases.{Bases}
 use Rattle.model.proofs.Held.{holder_has, holder_most, whole_one, across_two}
 use Rattle.contexts.specs.SaveUnsave.{LocatedIs, place_at, part_in, held_part, PlaceIs}
 use Rattle.contexts.specs.declared.layout.SavedContext.{SavedContext}
-use Rattle.contexts.specs.declared.layout.Located.{Located}
-use Rattle.contexts.specs.declared.layout.Located.TheVariants.{Found, Bad, Lost}
+use Rattle.contexts.specs.SaveUnsave.{Located}
+use Rattle.contexts.specs.declared.layout.ContextError.TheVariants.{Bad, Lost}
+use Rattle.std.specs.Prelude.{Ok, Err}
 use Rattle.contexts.specs.declared.reader.Place.{Place}
 use Rattle.contexts.proofs.LocateAnswers.{stands_at, Comes, comes}
 
@@ -104,7 +105,7 @@ module _ (w : Windows) (p : ℕ) where
     by_checks : (r : ℕ) (s : Span) → checked w p ≡ record { reply = r; state = s; memory = w } → read_context w p ≡ handed w r s
     by_checks r s e = reader_open w p u ∙ rw e
 
-    module _ (c : SavedContext) (z : at ≡ Found c) where
+    module _ (c : SavedContext) (z : at ≡ Ok c) where
       abbrev octas : ℕ
       octas = c.count + 270 - c.rg
 
@@ -131,10 +132,10 @@ module _ (w : Windows) (p : ℕ) where
     unfolding handed
     none q e k d = rw d (refused (number_of q) q (sym (numbered.reply_number q)) refl (by_checks (number_of q) nowhere e))
 
-    pub place_lost : (q : Reply) → at ≡ Lost q → (k : Place) → k ≡ place_at q 0 0 0 → PlaceIs w p k
+    pub place_lost : (q : Reply) → at ≡ Err (Lost q) → (k : Place) → k ≡ place_at q 0 0 0 → PlaceIs w p k
     place_lost q z = none q (comes_of.lost q z)
 
-    pub place_bad : (q : Reply) → at ≡ Bad q → (k : Place) → k ≡ place_at q 0 0 0 → PlaceIs w p k
+    pub place_bad : (q : Reply) → at ≡ Err (Bad q) → (k : Place) → k ≡ place_at q 0 0 0 → PlaceIs w p k
     place_bad q z = none q (comes_of.other q z)
 
 -- ---- the part itself

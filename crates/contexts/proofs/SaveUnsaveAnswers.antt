@@ -10,8 +10,9 @@ use Rattle.stack.specs.GivenBack.{refusal_on, Gives}
 use Rattle.contexts.specs.SaveUnsave.{save_of, save_in, unsave_of, unsave_in, LocatedIs}
 use Rattle.contexts.specs.ContextWork.{Ranged, StoresContext, unsaved_as}
 use Rattle.contexts.specs.declared.layout.SavedContext.{SavedContext}
-use Rattle.contexts.specs.declared.layout.Located.{Located}
-use Rattle.contexts.specs.declared.layout.Located.TheVariants.{Found, Bad, Lost}
+use Rattle.contexts.specs.SaveUnsave.{Located}
+use Rattle.contexts.specs.declared.layout.ContextError.TheVariants.{Bad, Lost}
+use Rattle.std.specs.Prelude.{Ok, Err}
 use Rattle.contexts.proofs.LocateAnswers.{comes}
 
 -- the bounds of an admissible state
@@ -103,7 +104,7 @@ module _ (w : Windows) (s : State) (p : ℕ) where
     unfolding unsave_in unsave_context
     opened = refl
 
-    pub unsave_done : (c : SavedContext) → at ≡ Found c → (t : State)
+    pub unsave_done : (c : SavedContext) → at ≡ Ok c → (t : State)
         → t ≡ unsaved_as w s c → Gives (unsave_in w s p) s Done t w
     unfolding reply_of
     unsave_done c z t d =
@@ -113,8 +114,8 @@ module _ (w : Windows) (s : State) (p : ℕ) where
         same : (unsaved_as w s c).pc ≡ s.pc
         same = unfold unsaved spilled with_special unsaved_unspilled in refl
 
-    pub unsave_lost : (q : Reply) → at ≡ Lost q → Gives (unsave_in w s p) s q s w
+    pub unsave_lost : (q : Reply) → at ≡ Err (Lost q) → Gives (unsave_in w s p) s q s w
     unsave_lost q z = kept w s _ (number_of q) q (sym (numbered.reply_number q)) (opened ∙ (comes w p s (halted s) found at h).lost q z)
 
-    pub unsave_bad : (q : Reply) → at ≡ Bad q → Gives (unsave_in w s p) s q (halted s) w
+    pub unsave_bad : (q : Reply) → at ≡ Err (Bad q) → Gives (unsave_in w s p) s q (halted s) w
     unsave_bad q z = halts w s _ (number_of q) q (sym (numbered.reply_number q)) (opened ∙ (comes w p s (halted s) found at h).other q z)

@@ -1,5 +1,5 @@
 -- What save_context and unsave_context, save_context_judged and unsave_context_judged in place, save_context_layout, locate, place_context and read_context answer and leave.
-use Rattle.std.specs.Prelude.{ℕ, ◌+◌, ◌*◌, ◌%◌, ◌^◌, ◌≤◌, List, ◌≡◌, cond, leb, ltb, eqb, length}
+use Rattle.std.specs.Prelude.{Result, Ok, Err, ℕ, ◌+◌, ◌*◌, ◌%◌, ◌^◌, ◌≤◌, List, ◌≡◌, cond, leb, ltb, eqb, length}
 use Rattle.std.specs.Borrow.{Bor}
 use Rattle.model.specs.Memory.{Window, shape_of, offset, Windows, shapes_of, inside, both}
 use Rattle.model.specs.Plan.{Outcome, perform, look}
@@ -14,12 +14,12 @@ use Rattle.stack.specs.GivenBack.{guarded_on, only_if, Gives}
 use Rattle.model.specs.declared.Bases.{Bases}
 use Rattle.model.specs.declared.State.{State}
 use Rattle.model.specs.declared.Reply.{Reply}
-use Rattle.model.specs.declared.Reply.TheVariants.{Done, Across}
+use Rattle.model.specs.declared.Reply.TheVariants.{Done, Across, SavedCount}
 use Rattle.contexts.specs.declared.layout.SavedContext.{SavedContext}
-use Rattle.contexts.specs.declared.layout.Located.{Located}
-use Rattle.contexts.specs.declared.layout.Located.TheVariants.{Found, Bad, Lost}
-use Rattle.contexts.specs.declared.layout.Layout.{Layout}
-use Rattle.contexts.specs.declared.layout.Layout.TheVariants as layout
+use Rattle.contexts.specs.declared.layout.ContextError.{ContextError}
+use Rattle.contexts.specs.declared.layout.ContextError.TheVariants.{Bad, Lost}
+use Rattle.contexts.specs.declared.layout.LayoutError.{LayoutError}
+use Rattle.contexts.specs.declared.layout.LayoutError.TheVariants.{Excess, Outside}
 use Rattle.contexts.specs.declared.layout.SaveContextLayout.{SaveContextLayout}
 use Rattle.contexts.specs.declared.reader.Place.{Place}
 
@@ -58,15 +58,19 @@ layout_at p g l = record {
 unfoldable pub count_reply : Windows → ℕ → ℕ → ℕ
 count_reply w p g = cond (inside (shapes_of w) (below p (count_below g))) (cond (leb (look both w (below p (count_below g))) g) 0 16) 6
 
+-- a context's parts, or why there are none
+abbrev pub Layout : Type 0
+Layout = Result SaveContextLayout LayoutError
+
 -- 01's number of each case
 unfoldable pub layout_number : Layout → ℕ
-layout_number (layout.Found l) = 0
-layout_number (layout.Excess count) = 16
-layout_number (layout.Outside reply) = number_of reply
+layout_number (Ok l) = 0
+layout_number (Err (Excess count)) = 16
+layout_number (Err (Outside reply)) = number_of reply
 
 -- the case of each number, with its values, where the count is l
 unfoldable pub layout_answer : ℕ → ℕ → ℕ → ℕ → Layout
-layout_answer p g l n = cond (eqb n 0) (layout.Found (layout_at p g l)) (cond (eqb n 16) (layout.Excess l) (layout.Outside (reply_of n)))
+layout_answer p g l n = cond (eqb n 0) (Ok (layout_at p g l)) (cond (eqb n 16) (Err (Excess l)) (Err (Outside (reply_of n))))
 
 pub record LayoutIs (w : Windows) (p g : ℕ) (r : Layout) : Type 0 where
   pub answer_is : r ≡ layout_answer p g (look both w (below p (count_below g))) (count_reply w p g)
@@ -80,15 +84,24 @@ spot o g a l = record { first = o; rg = g; ra = a; count = l }
 unfoldable pub located_of : Windows → ℕ → Outcome SavedContext Windows
 located_of w p = perform both (refusing (shapes_of w)) (spot 0 0 0 0) (context_at (spot 0 0 0 0) (λ o g a l vs. spot o g a l) p) w
 
+-- a context, or why there is none
+abbrev pub Located : Type 0
+Located = Result SavedContext ContextError
+
+-- what a context whose parts cannot be told is refused by
+abbrev pub FromLayout : LayoutError → ContextError → Type 0
+FromLayout (Excess count) e = e ≡ Bad SavedCount
+FromLayout (Outside reply) e = e ≡ Lost reply
+
 -- 01's number of each case
 unfoldable pub located_number : Located → ℕ
-located_number (Found at) = 0
-located_number (Bad reply) = number_of reply
-located_number (Lost reply) = number_of reply
+located_number (Ok at) = 0
+located_number (Err (Bad reply)) = number_of reply
+located_number (Err (Lost reply)) = number_of reply
 
 -- the case of each number, with its value
 unfoldable pub located_answer : ℕ → SavedContext → Located
-located_answer n at = cond (eqb n 0) (Found at) (cond (eqb n 6) (Lost (reply_of n)) (Bad (reply_of n)))
+located_answer n at = cond (eqb n 0) (Ok at) (cond (eqb n 6) (Err (Lost (reply_of n))) (Err (Bad (reply_of n))))
 
 pub record LocatedIs (w : Windows) (p : ℕ) (r : Located) : Type 0 where
   pub answer_is : r ≡ located_answer (located_of w p).reply (located_of w p).state

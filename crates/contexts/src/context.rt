@@ -10,20 +10,17 @@ ghost use Rattle.contexts.specs.SaveUnsave.{save_in, unsave_in, context_specials
 ghost use Rattle.contexts.specs.ContextWork.{Ranged, StoresContext, left_general, left_special, octas_from, unsaved_as, loaded};
 
 use super::layout::{
-    AT_PACKED, AT_SPECIALS, CONTEXT_OCTAS, CONTEXT_SPECIALS, Located, PACKED_RG, SavedContext,
+    AT_PACKED, AT_SPECIALS, CONTEXT_OCTAS, CONTEXT_SPECIALS, ContextError, PACKED_RG, SavedContext,
 };
-use model::replies::reply_of;
 use model::{Bases, Reply, State};
 
 /// The special register that is number i of the twelve (`SAVE_SPECIALS`): rB to rR, which are 0 to 6, then rP to rZ, 23 to 27.
+#[tactic(auto, using(model::proofs::SaveUnsave::saved_special_low, crate::proofs::UnsaveLoads::saved_special_up))]
 fn save_special(i: usize) -> usize
     requires { i < context_specials }
     ensures { (result ≡ saved_special i) × (result < 32) }
 {
-    if i <= State::RR {
-        return i;
-    }
-    i + 16
+    if i <= State::RR { i } else { i + 16 }
 }
 
 /// The twelve special registers, stored from address addr up.
@@ -31,13 +28,10 @@ fn store_specials(special: &[u64; 32], a: &mut [u8], b: &mut [u8], at: Bases, ad
     ensures { lent at a.new b.new
         ≡ written_run (lent at a.old b.old) addr context_specials (λ (i : ℕ). get_or special.now (saved_special i) 0) }
 {
-    let mut i: usize = 0;
-    while i < CONTEXT_SPECIALS {
+    for i in 0..CONTEXT_SPECIALS {
         let place = model::number::wrapping_add(addr, 8 * (i as u64));
         let k = save_special(i);
-        let v = special[k];
-        machine::memory::write_octa(a, b, at, place, v);
-        i += 1;
+        machine::memory::write_octa(a, b, at, place, special[k]);
     }
 }
 
@@ -82,6 +76,7 @@ fn store_context(general: &[u64; 256], special: &[u64; 32], a: &mut [u8], b: &mu
 }
 
 /// The context is stored; then the registers below rG become 0 and $x gets the context's address.
+#[tactic(auto, unfolding(crate::specs::ContextWork::left_general))]
 fn put_away(
     general: &mut [u64; 256],
     special: &[u64; 32],
@@ -105,6 +100,7 @@ fn put_away(
 }
 
 /// The special registers after it: rL is 0, and rO and rS follow the context.
+#[tactic(auto, unfolding(crate::specs::ContextWork::left_special))]
 fn depart(special: &mut [u64; 32])
     requires { Ranged special.old }
     ensures { special.new ≡ left_special special.old }
@@ -146,11 +142,10 @@ pub fn save_context_judged(
         *halt = 1;
         return Reply::SaveLocal;
     }
-    let number = machine::memory::run_refusal(a, b, at, ro, rl + CONTEXT_OCTAS - rg);
-    if number != 0 {
-        return reply_of(number);
+    let reply = machine::memory::run_refusal(a, b, at, ro, rl + CONTEXT_OCTAS - rg);
+    if reply != Reply::Done {
+        return reply;
     }
-    machine::registers::counted(general, special);
     put_away(general, special, a, b, at, x);
     depart(special);
     Reply::Done
@@ -158,6 +153,7 @@ pub fn save_context_judged(
 
 /// All general registers from a context of `count` locals and threshold rg whose first local is at `first`: the locals, 0 above them,
 /// the globals.
+#[tactic(auto, using(crate::proofs::UnsaveLoads::loaded_general))]
 fn load_general(
     general: &mut [u64; 256],
     a: &[u8],
@@ -182,13 +178,11 @@ fn load_specials(special: &mut [u64; 32], a: &[u8], b: &[u8], at: Bases, addr: u
     ensures { special.new
         ≡ loaded (λ (i : ℕ). read_octa (lent at a.now b.now) ((addr + 8 * i) % 2 ^ 64)) context_specials special.old }
 {
-    let mut i: usize = 0;
-    while i < CONTEXT_SPECIALS {
+    for i in 0..CONTEXT_SPECIALS {
         let place = model::number::wrapping_add(addr, 8 * (i as u64));
         let octa = machine::memory::read_octa(a, b, at, place);
         let k = save_special(i);
         special[k] = octa.value;
-        i += 1;
     }
 }
 
@@ -205,7 +199,6 @@ fn arrive(
     ensures { (pc halt marks mask : ℕ) → made general.new special.new pc halt marks mask
         ≡ unsaved_as (lent at a.now b.now) (made general.old special.old pc halt marks mask) context }
 {
-    machine::registers::counted(general, special);
     let first = context.first;
     let rg = context.rg;
     let count = context.count;
@@ -236,14 +229,14 @@ pub fn unsave_context_judged(
 {
     let located = super::layout::locate(a, b, at, address);
     match located {
-        Located::Found(context) => {
+        Ok(context) => {
             arrive(general, special, a, b, at, context);
             Reply::Done
         }
-        Located::Bad(reply) => {
+        Err(ContextError::Bad(reply)) => {
             *halt = 1;
             reply
         }
-        Located::Lost(reply) => reply,
+        Err(ContextError::Lost(reply)) => reply,
     }
 }

@@ -1,9 +1,8 @@
 // Where a context lies in the windows, below its packed octabyte. One of l locals and threshold g has l + 270 − g octabytes: the locals,
 // their count, 256 − g globals, the twelve specials, and the packed octabyte.
 ghost use Rattle.model.specs.Parts.{lent};
-ghost use Rattle.contexts.specs.SaveUnsave.{LayoutIs, LocatedIs};
+ghost use Rattle.contexts.specs.SaveUnsave.{LayoutIs, LocatedIs, FromLayout};
 
-use model::replies::reply_of;
 use model::{Bases, Reply};
 
 /// How many special registers a context has.
@@ -26,11 +25,9 @@ pub struct SaveContextLayout {
     pub locals_base: u64,
 }
 
-/// The layout, or why there is none.
+/// Why a context has no layout.
 #[derive(Clone, Copy)]
-pub enum Layout {
-    /// The context's parts.
-    Found(SaveContextLayout),
+pub enum LayoutError {
     /// The local count is above the saved rG (16).
     Excess(u64),
     /// The local count is in neither window: the reply that says so.
@@ -46,74 +43,83 @@ pub struct SavedContext {
     pub count: u64,
 }
 
-/// Where a context is, or the reply that refuses it.
+/// Why there is no context, with the reply that says so.
 #[derive(Clone, Copy)]
-pub enum Located {
-    /// It is there.
-    Found(SavedContext),
+pub enum ContextError {
     /// What is there is no context (14, 15, 16).
     Bad(Reply),
     /// An octabyte of it is in neither window (6).
     Lost(Reply),
 }
 
+impl From<LayoutError> for ContextError {
+    ghost from_gives = { FromLayout };
+
+    fn from(error: LayoutError) -> ContextError {
+        match error {
+            LayoutError::Excess(_) => ContextError::Bad(Reply::SavedCount),
+            LayoutError::Outside(reply) => ContextError::Lost(reply),
+        }
+    }
+}
+
 /// The parts of the context whose packed octabyte is at `packed_addr`, for its rG; the count is compared at full width.
-pub fn save_context_layout(a: &[u8], b: &[u8], at: Bases, packed_addr: u64, rg_saved: u8) -> Layout
+pub fn save_context_layout(
+    a: &[u8],
+    b: &[u8],
+    at: Bases,
+    packed_addr: u64,
+    rg_saved: u8,
+) -> Result<SaveContextLayout, LayoutError>
     ensures { LayoutIs (lent at a.now b.now) packed_addr rg_saved result }
 {
     let rg = rg_saved as u64;
     let marker = model::number::wrapping_sub(packed_addr, 8 * (AT_PACKED - rg));
-    let number = machine::memory::run_refusal(a, b, at, marker, 1);
-    if number != 0 {
-        return Layout::Outside(reply_of(number));
+    let reply = machine::memory::run_refusal(a, b, at, marker, 1);
+    if reply != Reply::Done {
+        return Err(LayoutError::Outside(reply));
     }
     let octa = machine::memory::read_octa(a, b, at, marker);
     let count = octa.value;
     if rg < count {
-        return Layout::Excess(count);
+        return Err(LayoutError::Excess(count));
     }
     let locals_base = model::number::wrapping_sub(packed_addr, 8 * (count + AT_PACKED - rg));
-    Layout::Found(SaveContextLayout {
+    Ok(SaveContextLayout {
         local_count: count,
-        locals_base: locals_base,
+        locals_base,
     })
 }
 
 /// The context whose packed octabyte is at `address`, after UNSAVE's own checks.
-pub fn locate(a: &[u8], b: &[u8], at: Bases, address: u64) -> Located
+pub fn locate(a: &[u8], b: &[u8], at: Bases, address: u64) -> Result<SavedContext, ContextError>
     ensures { LocatedIs (lent at a.now b.now) address result }
 {
-    let number = machine::memory::run_refusal(a, b, at, address, 1);
-    if number != 0 {
-        return Located::Lost(reply_of(number));
+    let reply = machine::memory::run_refusal(a, b, at, address, 1);
+    if reply != Reply::Done {
+        return Err(ContextError::Lost(reply));
     }
     let octa = machine::memory::read_octa(a, b, at, address);
     let packed = octa.value;
     let rg = packed / PACKED_RG;
     let ra = packed % PACKED_RG;
     if rg < machine::registers::THRESHOLD_MIN {
-        return Located::Bad(Reply::SavedThreshold);
+        return Err(ContextError::Bad(Reply::SavedThreshold));
     }
     if machine::registers::STATUS_MAX < ra {
-        return Located::Bad(Reply::SavedStatus);
+        return Err(ContextError::Bad(Reply::SavedStatus));
     }
-    let layout = save_context_layout(a, b, at, address, rg as u8);
-    match layout {
-        Layout::Found(l) => {
-            let count = l.local_count;
-            let first = l.locals_base;
-            let short = machine::memory::run_refusal(a, b, at, first, count + CONTEXT_OCTAS - rg);
-            if short != 0 {
-                return Located::Lost(reply_of(short));
-            }
-            Located::Found(SavedContext {
-                first: first,
-                rg: rg,
-                ra: ra,
-                count: count,
-            })
-        }
-        Layout::Excess(_) => Located::Bad(Reply::SavedCount),
-        Layout::Outside(reply) => Located::Lost(reply),
+    let layout = save_context_layout(a, b, at, address, rg as u8)?;
+    let count = layout.local_count;
+    let first = layout.locals_base;
+    let short = machine::memory::run_refusal(a, b, at, first, count + CONTEXT_OCTAS - rg);
+    if short != Reply::Done {
+        return Err(ContextError::Lost(short));
     }
+    Ok(SavedContext {
+        first,
+        rg,
+        ra,
+        count,
+    })
 }

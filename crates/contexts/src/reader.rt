@@ -8,12 +8,16 @@ ghost use Rattle.model.specs.Parts.{lent};
 ghost use Rattle.machine.specs.Octas.{lent_one};
 ghost use Rattle.contexts.specs.SaveUnsave.{place_at, part_in, held_part, PlaceIs, PartIs};
 
-use super::layout::{CONTEXT_OCTAS, Located};
-use model::replies::{number_of, reply_of};
-use model::{Bases, Octabyte, Reply};
+use super::layout::{CONTEXT_OCTAS, ContextError};
+use model::replies::number_of;
+use model::{Bases, Reply};
 
-/// Where a context lies: the reply, which window, as in `Octabyte`, its first byte's index there and its length; all three 0 where it is
-/// refused.
+/// The windows' numbers, as the C library hands them out.
+const IN_A: u64 = 0;
+
+const IN_B: u64 = 1;
+
+/// Where a context lies: the reply, the window's number, its first byte's index there and its length; all three 0 where it is refused.
 #[derive(Clone, Copy)]
 pub struct Place {
     pub reply: Reply,
@@ -56,9 +60,9 @@ fn held_part(a: &[u8], b: &[u8], at: Bases, first: u64, octas: u64) -> Place
     ensures { result ≡ held_part (lent at a.now b.now) first octas }
 {
     if machine::window::room(b, at.b, first) != 0 {
-        return part_in(b, at.b, Octabyte::IN_B, first, octas);
+        return part_in(b, at.b, IN_B, first, octas);
     }
-    part_in(a, at.a, Octabyte::IN_A, first, octas)
+    part_in(a, at.a, IN_A, first, octas)
 }
 
 /// The context whose packed octabyte is at `address`, first local to packed octabyte, after UNSAVE's own checks;
@@ -67,17 +71,17 @@ pub fn place_context(a: &[u8], b: &[u8], at: Bases, address: u64) -> Place
     ensures { PlaceIs (lent at a.now b.now) address result }
 {
     let refusal = machine::memory::windows_refusal(a, b, at);
-    if refusal != 0 {
-        return nowhere(reply_of(refusal));
+    if refusal != Reply::Done {
+        return nowhere(refusal);
     }
     let located = super::layout::locate(a, b, at, address);
     match located {
-        Located::Found(context) => {
+        Ok(context) => {
             let octas = context.count + CONTEXT_OCTAS - context.rg;
             held_part(a, b, at, context.first, octas)
         }
-        Located::Bad(reply) => nowhere(reply),
-        Located::Lost(reply) => nowhere(reply),
+        Err(ContextError::Bad(reply)) => nowhere(reply),
+        Err(ContextError::Lost(reply)) => nowhere(reply),
     }
 }
 
@@ -98,7 +102,7 @@ pub fn read_context<'w>(
     let answer = found.reply;
     *reply = number_of(answer);
     *which = found.which;
-    if found.which == Octabyte::IN_B {
+    if found.which == IN_B {
         return &b[start..end];
     }
     &a[start..end]

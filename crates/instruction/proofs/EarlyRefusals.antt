@@ -2,7 +2,7 @@
 -- 4 and 5 are judged by their arms: SystemArms.
 use Rattle.model.proofs.Prelude.{ℕ, ◌≤◌, true, List, ⊎_elim, ap, refl, sym, ◌∙◌, ◌≡◌, arith, shapes_of, Windows, say, number_of, reply_of, among, arm_of}
 use Rattle.model.proofs.Prelude.{first_branch, last_branch, made, admissible, from_three, step_of, step_plan, unruled_by, plan_replies, Any, perform_meets}
-use Rattle.model.proofs.Prelude.{step_meets, on, ruled, shares}
+use Rattle.model.proofs.Prelude.{step_meets}
 use Rattle.instruction.proofs.Prelude.{State, branch_arm, guarded_on, refusal_on, refused_guarded, branch_of, quiet_step}
 use Rattle.model.specs.declared.Reply.{Reply}
 use Rattle.exceptions.specs.Told.{Told}
@@ -35,14 +35,3 @@ pub done_numbered : (w : Windows) (s : State) (op x y z : ℕ) (r : Reply) (t : 
     → Told (say 0 (branch_of s op x y z)) r t → Numbered (step_of w s op x y z) (number_of r) t w
 unfolding branch_of
 done_numbered w s op x y z r t a u b h = numbered w s op x y z r t w (quiet_step w s a u op x y z r t _ (branch_arm op b) _ refl refl h)
-
--- the reply of a number by which state or windows are refused has that number
-refusal_small : (w : Windows) (s : State) → refusal_on w s ≤ 33
-unfolding refusal_on unruled_by
-refusal_small w s = on (λ n. n ≤ 33) (admissible s) (λ a. on (λ n. n ≤ 33) (ruled (shapes_of w)) (λ b. on (λ n. n ≤ 33) (shares (shapes_of w)) (λ c. omega arith) (λ c. omega arith)) (λ b. omega arith)) (λ a. omega arith)
-
-pub refused_reply : (w : Windows) (s : State) (n : ℕ) (r : Reply) → n ≡ refusal_on w s → r ≡ reply_of n → number_of r ≡ refusal_on w s
-refused_reply w s n r e q = ap number_of q ∙ numbers.number_reply n (let h = refusal_small w s in omega arith) ∙ e
-
-pub refused_not_done : (w : Windows) (s : State) (n : ℕ) (r : Reply) → n ≡ refusal_on w s → r ≡ reply_of n → (n ≡ 0 → ⊥) → number_of r ≡ 0 → ⊥
-refused_not_done w s n r e q f z = f (e ∙ sym (refused_reply w s n r e q) ∙ z)

@@ -8,9 +8,6 @@ use Rattle.model.specs.declared.Bases.{Bases}
 use Rattle.model.proofs.RunTurns.{Turned, turned_none, turned_done, turned_refused, turned_spent}
 use Rattle.instruction.specs.StepAnswer.{Numbered, RunNumbered}
 use Rattle.instruction.specs.FetchedArms.{said_by}
-use Rattle.model.proofs.Prelude.{number_of, reply_of, numbered}
-use Rattle.model.specs.declared.Reply.{Reply}
-use Rattle.model.specs.declared.Reply.TheVariants.{Done}
 
 -- ---- one instruction
 
@@ -70,14 +67,6 @@ module _ (grant : ℕ) (r : Stopped State Windows) (i : ℕ) (w : Windows) (s : 
     run_refused z =
         rw (turned_refused grant r i w s b k.turned (λ e. z (h.reply_is ∙ e)))
         (record { reply_is = h.reply_is; count_is = refl; state_is = h.state_is; window_is = h.window_is })
-
--- a reply's number, as code tells it from 0
-pub refused_number : (r : Reply) → (r ≡ Done → ⊥) → number_of r ≡ 0 → ⊥
-refused_number r h z = h (sym (numbered.reply_number r) ∙ (unfold reply_of in ap reply_of z))
-
-pub done_number : (r : Reply) → r ≡ Done → number_of r ≡ 0
-unfolding number_of
-done_number r h = ap number_of h
 
 -- ---- 1, 2, 22, 25
 

@@ -13,7 +13,7 @@ ghost use Rattle.instruction.specs.FetchedArms.{said_by};
 use super::{claim, step};
 use arms::control;
 use decode::{opcode, operand};
-use model::{GRANT_MOST, Instruction, Octabyte, Reply, StateMut, WindowsMut, replies};
+use model::{GRANT_MOST, Instruction, Reply, StateMut, WindowsMut};
 
 /// What a run came to: the reply of its last instruction, and how many were done.
 #[derive(Clone, Copy)]
@@ -50,7 +50,7 @@ fn fetched(s: &mut StateMut<'_>, w: &mut WindowsMut<'_>) -> Reply
     let from = *s.pc;
     let lent = w.read();
     let found = stack::pass::read_octa(lent.a, lent.b, lent.at, from);
-    if found.holder == Octabyte::IN_NEITHER {
+    if found.holder.is_none() {
         return Reply::NotFetched;
     }
     attempt(s, w, operand::tetra_at(from, found.value))
@@ -83,12 +83,9 @@ pub fn run(s: &mut StateMut<'_>, w: &mut WindowsMut<'_>, grant: u64) -> Ran
         (number_of result.reply) result.done (state_lent s.new) (windows_lent w.new) }
 {
     let lent = w.read();
-    let number = stack::pass::refusal(s.special, s.marks, s.mask, lent.a, lent.b, lent.at);
-    if number != 0 {
-        return Ran {
-            reply: replies::reply_of(number),
-            done: 0,
-        };
+    let reply = stack::pass::refusal(s.special, s.marks, s.mask, lent.a, lent.b, lent.at);
+    if reply != Reply::Done {
+        return Ran { reply, done: 0 };
     }
     if GRANT_MOST < grant {
         return Ran {

@@ -12,7 +12,7 @@ ghost use Rattle.arms.specs.Arms.{NoCall, ranged_of};
 
 use arms::{calls, control, load_store, operations, registers, saves, system};
 use decode::{opcode, target};
-use model::{Instruction, Reply, StateMut, WindowsMut, replies};
+use model::{Instruction, Reply, StateMut, WindowsMut};
 
 /// The opcodes that come in ranges, the branches apart: a question for each range, then 3. PUT and PUTI are asked for together, so that their arm is called
 /// once and stands in line.
@@ -93,9 +93,9 @@ pub fn step(s: &mut StateMut<'_>, w: &mut WindowsMut<'_>, i: &Instruction) -> Re
         (number_of result) (state_lent s.new) (windows_lent w.new) }
 {
     let lent = w.read();
-    let number = stack::pass::refusal(s.special, s.marks, s.mask, lent.a, lent.b, lent.at);
-    if number != 0 {
-        return replies::reply_of(number);
+    let refused = stack::pass::refusal(s.special, s.marks, s.mask, lent.a, lent.b, lent.at);
+    if refused != Reply::Done {
+        return refused;
     }
     dispatch(s, w, i)
 }

@@ -56,9 +56,9 @@ pub in_a : (m : Windows) (x : ℕ) → holder (shapes_of m) x ≡ 0 → (has (sh
 unfolding shapes_of
 in_a m x e = has_a' (shapes_of m) x e
 
-pub in_none : (m : Windows) (x h : ℕ) → holder (shapes_of m) x ≡ h → h ≢ 1 → h ≢ 0 → (has (shape_of m.b) x ≡ false) × (has (shape_of m.a) x ≡ false)
+pub in_none : (m : Windows) (x : ℕ) → holder (shapes_of m) x ≡ 2 → (has (shape_of m.b) x ≡ false) × (has (shape_of m.a) x ≡ false)
 unfolding shapes_of
-in_none m x h e p q = has_none (shapes_of m) x (λ t. p (sym e ∙ t)) (λ t. q (sym e ∙ t))
+in_none m x e = has_none (shapes_of m) x e
 
 one_run_shape : (n : ℕ) (w : Window) (a : ℕ) (f : ℕ → ℕ) → shape_of (written_run_by one w a n f) ≡ shape_of w
 unfolding one
@@ -89,15 +89,29 @@ module _ (m : Windows) (x : ℕ) (f : ℕ → ℕ) where
       let t : has (shape_of u) (x + 8 * n) ≡ true = ap (λ (s : Shape). has s (x + 8 * n)) q ∙ p.1 in
       write_a (record { a = u; b = m.b }) (x + 8 * n) (f n) p.0 t ∙ ap (λ (v : Windows). written_octa v (x + 8 * n) (f n)) (run_a n (λ i l. h i (omega arith)))
 
-  pub run_lost : (n h : ℕ) → h ≢ 1 → h ≢ 0 → Held h n → m ≡ written_run m x n f
+  pub run_lost : (n : ℕ) → Held 2 n → m ≡ written_run m x n f
   unfolding written_run_by
-  run_lost zero h p q g = refl
-  run_lost (suc n) h p q g =
-      let r : (has (shape_of m.b) (x + 8 * n) ≡ false) × (has (shape_of m.a) (x + 8 * n) ≡ false) = in_none m (x + 8 * n) h (g n (omega arith)) p q in
-      write_none m (x + 8 * n) (f n) r.0 r.1 ∙ ap (λ (u : Windows). written_octa u (x + 8 * n) (f n)) (run_lost n h p q (λ i l. g i (omega arith)))
+  run_lost zero h = refl
+  run_lost (suc n) h =
+      let r : (has (shape_of m.b) (x + 8 * n) ≡ false) × (has (shape_of m.a) (x + 8 * n) ≡ false) = in_none m (x + 8 * n) (h n (omega arith)) in
+      write_none m (x + 8 * n) (f n) r.0 r.1 ∙ ap (λ (u : Windows). written_octa u (x + 8 * n) (f n)) (run_lost n (λ i l. h i (omega arith)))
 
--- what code writes in the window that holds the octabyte
+-- what code reads in the window that holds the octabyte
+module _ (m : Windows) (x : ℕ) where
+  pub read_in_b : (v : ℕ) → v ≡ read_by one m.b x → holder (shapes_of m) x ≡ 1 → v ≡ read_octa m x
+  read_in_b v e h = e ∙ read_b m x (in_b m x h)
+
+  pub read_in_a : (v : ℕ) → v ≡ read_by one m.a x → holder (shapes_of m) x ≡ 0 → v ≡ read_octa m x
+  read_in_a v e h = e ∙ read_a m x (in_a m x h).0 (in_a m x h).1
+
+  pub read_lost : holder (shapes_of m) x ≡ 2 → 0 ≡ read_octa m x
+  read_lost h = sym (read_none m x (in_none m x h).0 (in_none m x h).1)
+
+-- what code writes there
 module _ (m : Windows) (x v : ℕ) where
+  pub write_lost : holder (shapes_of m) x ≡ 2 → m ≡ written_octa m x v
+  write_lost h = write_none m x v (in_none m x h).0 (in_none m x h).1
+
   pub write_in_b : (w : Window) → w ≡ written_by one m.b x v → holder (shapes_of m) x ≡ 1 → record { a = m.a; b = w } ≡ written_octa m x v
   write_in_b w e h = ap (λ (u : Window). record { a = m.a; b = u }) e ∙ write_b m x v (in_b m x h)
 
@@ -125,10 +139,10 @@ module _ (m : Windows) (x from end h octas : ℕ) (g : List ℕ) (piece : PieceI
       over_alike (λ k. read_by one m.a (x + 8 * (k - from))) reads from end g
       (λ k a b. let p = in_a m (x + 8 * (k - from)) (held_at k a b ∙ e) in read_a m (x + 8 * (k - from)) p.0 p.1)
 
-  pub load_lost : h ≢ 1 → h ≢ 0 → over (λ (k : ℕ). 0) from end g ≡ over reads from end g
-  load_lost p q =
+  pub load_lost : h ≡ 2 → over (λ (k : ℕ). 0) from end g ≡ over reads from end g
+  load_lost e =
       over_alike (λ k. 0) reads from end g
-      (λ k a b. let r = in_none m (x + 8 * (k - from)) h (held_at k a b) p q in sym (read_none m (x + 8 * (k - from)) r.0 r.1))
+      (λ k a b. let r = in_none m (x + 8 * (k - from)) (held_at k a b ∙ e) in sym (read_none m (x + 8 * (k - from)) r.0 r.1))
 
   abbrev stores : ℕ → ℕ
   stores i = get_or g (from + i) 0
@@ -150,8 +164,8 @@ module _ (m : Windows) (x from end h octas : ℕ) (g : List ℕ) (piece : PieceI
   unfolding shapes_of
   room_a e = omega (arith, piece.in_a e)
 
-  pub store_lost : h ≢ 1 → h ≢ 0 → m ≡ written_run m x (end - from) stores
-  store_lost p q = run_lost m x stores (end - from) h p q held_run
+  pub store_lost : h ≡ 2 → m ≡ written_run m x (end - from) stores
+  store_lost e = run_lost m x stores (end - from) (λ i l. held_run i l ∙ e)
 
 -- addresses modulo 2^64
 pub read_mod : (m : Windows) (a b : ℕ) → a % 2 ^ 64 ≡ b % 2 ^ 64 → read_octa m a ≡ read_octa m b
@@ -160,8 +174,8 @@ read_mod = read_at both both_lawful
 pub written_mod : (m : Windows) (a b v : ℕ) → a % 2 ^ 64 ≡ b % 2 ^ 64 → written_octa m a v ≡ written_octa m b v
 written_mod = written_at both both_lawful put_octa_law
 
-pub run_more : (m u t : Windows) (a from i at v : ℕ) (f : ℕ → ℕ) → from ≤ i → u ≡ written_run m a (i - from) f → at ≡ (a + 8 * (i - from)) % 2 ^ 64
-    → v ≡ f (i - from) → t ≡ written_octa u at v → t ≡ written_run m a (i + 1 - from) f
+pub run_more : (m u t : Windows) (a i at v : ℕ) (f : ℕ → ℕ) → u ≡ written_run m a i f → at ≡ (a + 8 * i) % 2 ^ 64
+    → v ≡ f i → t ≡ written_octa u at v → t ≡ written_run m a (i + 1) f
 run_more = run_turn both both_lawful put_octa_law
 
 -- register k in a loop that reads it from a further piece, which starts with register i

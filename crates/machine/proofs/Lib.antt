@@ -7,3 +7,4 @@ pub mod Octas
 pub mod BothOctas
 pub mod PutRegisters
 pub mod OctabyteRuns
+pub mod WindowRuns

@@ -1,8 +1,39 @@
--- Laws of runs of octabytes in a list of bytes: as a loop reads them; as a loop writes them; where they fit. Those of a window are in Octas.
+-- Laws of octabytes in a list of bytes: one, as the library has it; a run, as a loop reads it, as a loop writes it, and where it fits. Those of a window are in Octas.
 use Rattle.model.proofs.Prelude.{suc, zero, ℕ, ◌*◌, ◌+◌, ◌<◌, ◌≤◌, append_assoc, append-nil, List, [], ◌++◌, ◌∷◌, ap, refl, subst, sym, ◌∙◌, ◌≡◌, add-one}
-use Rattle.model.proofs.Prelude.{arith, get_or, length, length-append, length-set, set, take, length-take-le, take_all, take-suc, take-suc-set, le-leb, bytes_of}
-use Rattle.model.proofs.Prelude.{part, value_of, written, eight, written_append, written_nil}
+use Rattle.model.proofs.Prelude.{arith, get_or, length, length-append, length-set, set, take, length-take-le, take-suc, take-suc-set, le-leb, bytes_of}
+use Rattle.std.specs.Int.{from_be_bytes, to_be_bytes, w64}
+use borrow.Rule.Slice.PartMut.{put_mid}
+use Rattle.std.proofs.lemmas.List.{drop_more}
+use Rattle.machine.proofs.RegisterRanges.{over_part}
+use Rattle.model.proofs.Prelude.{◌-◌, drop, over_written, part, value_of, written, eight, written_append, written_nil}
 use Rattle.machine.specs.Octabytes.{flat, octas, loaded_octas, stored_octas}
+
+-- ---- one octabyte
+
+take_part : (n : ℕ) (l : List ℕ) (o : ℕ) → o + n ≤ length l → take n (drop o l) ≡ part l o n
+unfolding part
+take_part zero l o h = refl
+take_part (suc n) l o h =
+    rw (drop_more l o 0 (omega arith), add-one) (ap (λ (r : List ℕ). get_or l o 0 ∷ r) (take_part n l (suc o) (omega arith)))
+
+-- a number from its bytes, as the library has it
+bytes_eight : (a b c d e f g h : ℕ) → from_be_bytes w64 (a ∷ b ∷ c ∷ d ∷ e ∷ f ∷ g ∷ h ∷ []) ≡ value_of 0 (a ∷ b ∷ c ∷ d ∷ e ∷ f ∷ g ∷ h ∷ [])
+unfolding value_of
+bytes_eight a b c d e f g h = omega arith
+
+pub octa_loaded : (l ys : List ℕ) (o r : ℕ) → o + 8 ≤ length l → ys ≡ take (o + 8 - o) (drop o l) → r ≡ from_be_bytes w64 ys → r ≡ value_of 0 (part l o 8)
+unfolding part
+octa_loaded l ys o r h e f =
+    let n : o + 8 - o ≡ 8 = omega arith in
+    let p : ys ≡ part l o 8 = e ∙ rw n (take_part 8 l o h) in
+    f ∙ ap (from_be_bytes w64) p ∙ bytes_eight _ _ _ _ _ _ _ _
+
+pub octa_stored : (l ys : List ℕ) (o v : ℕ) → o + 8 ≤ length l → ys ≡ to_be_bytes w64 v → put_mid o (o + 8 - o) l ys ≡ written l o (bytes_of v)
+octa_stored l ys o v h e =
+    let n : length ys ≡ 8 = ap length e in
+    over_part (λ (k : ℕ). get_or ys (k - o) 0) o (o + 8) l ys (omega arith) h (omega arith) (λ i m. ap (λ (k : ℕ). get_or ys k 0) (omega arith))
+    ∙ over_written l o ys 8 n h
+    ∙ ap (written l o) (e ∙ (unfold bytes_of in refl))
 
 -- ---- read
 
@@ -35,6 +66,13 @@ pub octas_turn : (l vs : List ℕ) (o i v : ℕ) → i < length vs → take i vs
     → take (i + 1) (set vs i v) ≡ octas l o (i + 1)
 octas_turn l vs o i v h e f = rw (octas_append l o i 1, one, ← e, ← f, add-one, take-suc-set vs i v h)
 
+-- octabyte i of them
+pub get_or-octas : (n : ℕ) (l : List ℕ) (o i : ℕ) → i < n → get_or (octas l o n) i 0 ≡ value_of 0 (part l (o + 8 * i) 8)
+unfolding octas
+get_or-octas zero l o i h = absurd (omega arith)
+get_or-octas (suc n) l o zero h = ap (λ (k : ℕ). value_of 0 (part l k 8)) (omega arith)
+get_or-octas (suc n) l o (suc i) h = get_or-octas n l (o + 8) i (omega arith) ∙ ap (λ (k : ℕ). value_of 0 (part l k 8)) (omega arith)
+
 -- four turns
 pub octas_four : (l vs : List ℕ) (o i a b c d : ℕ) → i + 4 ≤ length vs → take i vs ≡ octas l o i
     → a ≡ value_of 0 (part l (o + 8 * i) 8) → b ≡ value_of 0 (part l (o + 8 * (i + 1)) 8)
@@ -55,9 +93,6 @@ octas_four l vs o i a b c d h e fa fb fc fd =
     let e₂ : take (i + 2) v₂ ≡ octas l o (i + 2) = subst (λ (n : ℕ). take n v₂ ≡ octas l o n) q₂ (octas_turn l v₁ o (i + 1) b (omega arith) e₁ fb) in
     let e₃ : take (i + 3) v₃ ≡ octas l o (i + 3) = subst (λ (n : ℕ). take n v₃ ≡ octas l o n) q₃ (octas_turn l v₂ o (i + 2) c (omega arith) e₂ fc) in
     subst (λ (n : ℕ). take n v₄ ≡ octas l o n) q₄ (octas_turn l v₃ o (i + 3) d (omega arith) e₃ fd)
-
-pub octas_all : (l vs : List ℕ) (o i n : ℕ) → take i vs ≡ octas l o i → length vs ≤ i → i ≡ n → vs ≡ octas l o n
-octas_all l vs o i n f h e = sym (take_all i vs h) ∙ f ∙ ap (octas l o) e
 
 -- ---- written
 
@@ -106,9 +141,6 @@ flat_four l l₁ l₂ l₃ l₄ k vs o i h e d₁ d₂ d₃ d₄ =
     let e₂ : l₂ ≡ written k o (flat (take (i + 2) vs)) = subst (λ (n : ℕ). l₂ ≡ written k o (flat (take n vs))) q₂ (d₂ ∙ flat_turn l₁ k vs o (i + 1) (omega arith) e₁) in
     let e₃ : l₃ ≡ written k o (flat (take (i + 3) vs)) = subst (λ (n : ℕ). l₃ ≡ written k o (flat (take n vs))) q₃ (d₃ ∙ flat_turn l₂ k vs o (i + 2) (omega arith) e₂) in
     subst (λ (n : ℕ). l₄ ≡ written k o (flat (take n vs))) q₄ (d₄ ∙ flat_turn l₃ k vs o (i + 3) (omega arith) e₃)
-
-pub flat_all : (l k vs : List ℕ) (o i : ℕ) → l ≡ written k o (flat (take i vs)) → length vs ≤ i → l ≡ written k o (flat vs)
-flat_all l k vs o i e h = e ∙ ap (λ (us : List ℕ). written k o (flat us)) (take_all i vs h)
 
 -- ---- where they fit
 

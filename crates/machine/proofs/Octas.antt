@@ -1,7 +1,7 @@
 -- Octabytes of one window, as code reads and writes them, and of any memory. Two windows: BothOctas.
-use Rattle.model.proofs.Prelude.{suc, zero, ℕ, ◌%◌, ◌*◌, ◌+◌, ◌-◌, ◌<◌, ◌^◌, ◌≤◌, Bool, cond, false, true, List, ap, refl, sym, ◌∙◌, ◌≡◌, arith, length}
-use Rattle.model.proofs.Prelude.{leb-true, has, octa_bytes, offset, one, Shape, shape_of, Store, Window, write_octa, bytes_of, octa, part, value_of, written}
-use Rattle.model.proofs.Prelude.{look, Lawful, one_lawful, length_written, look_mod, octa_mod, further}
+use Rattle.model.proofs.Prelude.{suc, zero, ℕ, ◌%◌, ◌*◌, ◌+◌, ◌<◌, ◌^◌, ◌≤◌, Bool, cond, false, true, List, ap, refl, sym, ◌∙◌, ◌≡◌, arith, length}
+use Rattle.model.proofs.Prelude.{leb-true, has, octa_bytes, offset, one, shape_of, Store, Window, write_octa, bytes_of, octa, part, value_of, written}
+use Rattle.model.proofs.Prelude.{look, Lawful, look_mod, octa_mod, further}
 use Rattle.machine.specs.Octas.{read_by, written_by, written_run_by, lent_one, room_in}
 use Rattle.machine.proofs.RunTest.{room_has, room_offset}
 
@@ -49,23 +49,20 @@ module _ {M Sh : Type 0} (st : Store M Sh) where
     unfolding read_by
     read_at m a b e = rw (ok.inside_octa (st.shape m) a b (octa_mod a b e), look_mod st ok m a b e)
 
-    pub read_wraps : (m : M) (a : ℕ) → read_by st m (a % 2 ^ 64) ≡ read_by st m a
-    read_wraps m a = let e : a % 2 ^ 64 % 2 ^ 64 ≡ a % 2 ^ 64 = omega arith in read_at m (a % 2 ^ 64) a e
-
     -- a put knows an address by its octabyte alone
     module _ (put_octa_law : (m : M) (a b v : ℕ) → octa a ≡ octa b → st.put m a v ≡ st.put m b v) where
       pub written_at : (m : M) (a b v : ℕ) → a % 2 ^ 64 ≡ b % 2 ^ 64 → written_by st m a v ≡ written_by st m b v
       unfolding written_by
       written_at m a b v e = rw (ok.inside_octa (st.shape m) a b (octa_mod a b e), put_octa_law m a b v (octa_mod a b e))
 
-      -- a turn of the loop that writes a run: i counts from `from`, the address wraps
-      pub run_turn : (m u t : M) (a from i at v : ℕ) (f : ℕ → ℕ) → from ≤ i → u ≡ written_run_by st m a (i - from) f → at ≡ (a + 8 * (i - from)) % 2 ^ 64
-          → v ≡ f (i - from) → t ≡ written_by st u at v → t ≡ written_run_by st m a (i + 1 - from) f
+      -- a turn of the loop that writes a run: the address wraps
+      pub run_turn : (m u t : M) (a i at v : ℕ) (f : ℕ → ℕ) → u ≡ written_run_by st m a i f → at ≡ (a + 8 * i) % 2 ^ 64
+          → v ≡ f i → t ≡ written_by st u at v → t ≡ written_run_by st m a (i + 1) f
       unfolding written_run_by
-      run_turn m u t a from i at v f l eu ea ev et =
-          let count : i + 1 - from ≡ suc (i - from) = omega arith in
-          let same : at % 2 ^ 64 ≡ (a + 8 * (i - from)) % 2 ^ 64 = omega arith in
-          et ∙ written_at u at (a + 8 * (i - from)) v same ∙ rw (eu, ev, count)
+      run_turn m u t a i at v f eu ea ev et =
+          let count : i + 1 ≡ suc i = omega arith in
+          let same : at % 2 ^ 64 ≡ (a + 8 * i) % 2 ^ 64 = omega arith in
+          et ∙ written_at u at (a + 8 * i) v same ∙ rw (eu, ev, count)
 
       -- a run written after a run: both are one
       pub run_joined : (k : ℕ) (m : M) (a n at : ℕ) (f g : ℕ → ℕ) → at % 2 ^ 64 ≡ (a + 8 * n) % 2 ^ 64 → ((i : ℕ) → i < k → g i ≡ f (n + i))
@@ -81,10 +78,6 @@ module _ {M Sh : Type 0} (st : Store M Sh) where
           ∙ ap (λ (j : ℕ). written_run_by st m a j f) count
 
 -- ---- one window, as code has it
-
-pub write_octa_law : (w : Window) (a b v : ℕ) → octa a ≡ octa b → one.put w a v ≡ one.put w b v
-unfolding one write_octa offset
-write_octa_law w a b v e = rw e
 
 -- what an octabyte inside is, byte by byte
 pub look_is : (w : Window) (a : ℕ) → look one w a ≡ value_of 0 (part w.bytes (offset w.base a) 8)
@@ -134,19 +127,3 @@ module _ (base : ℕ) (l : List ℕ) (x j : ℕ) (short : length l < 2 ^ 64) (h 
 pub room_same : (base x : ℕ) (l m : List ℕ) → length m ≡ length l → room_in (shape_of (lent_one base m)) x ≡ room_in (shape_of (lent_one base l)) x
 unfolding room_in shape_of
 room_same base x l m e = rw e
-
--- a turn of the loop that stores a run in one window
-pub run_grown : (w u t : Window) (a from i v : ℕ) (f : ℕ → ℕ) → from ≤ i → u ≡ written_run_by one w a (i - from) f → v ≡ f (i - from)
-    → t ≡ written_by one u (a + 8 * (i - from)) v → t ≡ written_run_by one w a (i + 1 - from) f
-unfolding written_run_by
-run_grown w u t a from i v f l eu ev et = let count : i + 1 - from ≡ suc (i - from) = omega arith in et ∙ rw (eu, ev, count)
-
-pub written_size : (l m : List ℕ) (d v : ℕ) → m ≡ written l d (bytes_of v) → length m ≡ length l
-written_size l m d v e = ap length e ∙ length_written l d (bytes_of v)
-
-same_size : (base : ℕ) (l m : List ℕ) (u : Window) → lent_one base m ≡ u → shape_of u ≡ shape_of (lent_one base l) → length m ≡ length l
-unfolding shape_of
-same_size base l m u e f = ap (λ (t : Window). length t.bytes) e ∙ ap (λ (t : Shape). t.size) f
-
-pub one_length : (base : ℕ) (l m : List ℕ) (a v : ℕ) → lent_one base m ≡ written_by one (lent_one base l) a v → length m ≡ length l
-one_length base l m a v e = same_size base l m _ e (unfold one in (written_shape one one_lawful (lent_one base l) a v))

@@ -1,6 +1,8 @@
 -- Laws of a range of registers, `over`, at lists of any length: two ranges alike, a loop's turn, also past the end, a range cut to
 -- the list, and one after another. Those for loops that go down are in SlidRanges; the first ones in model, Fill.
-use Rattle.model.proofs.Prelude.{min, ℕ, ◌+◌, ◌<◌, ◌≤◌, List, ⊎_elim, sym, ◌∙◌, ◌≡◌, arith, length, set, ext_get_or, set_out, over, length_over, lt_or_le}
+use borrow.Rule.Slice.PartMut.{mid_of, put_mid}
+use Rattle.std.proofs.lemmas.List.{places}
+use Rattle.model.proofs.Prelude.{min, ℕ, ◌+◌, ◌-◌, ◌<◌, ◌≤◌, List, ⊎_elim, ap, sym, ◌∙◌, ◌≡◌, arith, get_or, get_or-replicate, length, length-replicate, replicate, set, ext_get_or, set_out, over, length_over, lt_or_le}
 use Rattle.model.proofs.Prelude.{over_above, over_below, over_in, over_more}
 
 -- two ranges that hold the same elements of the list
@@ -55,3 +57,27 @@ over_joined f g a i b l p q e =
     (λ out. over_above g i b (over f a i l) k out z ∙ over_above f a i l k hi m ∙ sym (over_above f a b l k out m))
     (lt_or_le k b))
     (lt_or_le k i))
+
+-- a part of the list written: its elements from number a up to b become ys
+pub over_part : (f : ℕ → ℕ) (a b : ℕ) (l ys : List ℕ) → a ≤ b → b ≤ length l → length ys ≡ b - a → ((i : ℕ) → i < b - a → get_or ys i 0 ≡ f (a + i))
+    → put_mid a (b - a) l ys ≡ over f a b l
+over_part f a b l ys g h n e =
+    let long : length (put_mid a (b - a) l ys) ≡ length l = grind (arith, places) in
+    ext_get_or 0 (put_mid a (b - a) l ys) (over f a b l) (long ∙ sym (length_over f a b l))
+    (λ i p. let m : i < length l = omega (arith, long) in
+    ⊎_elim (λ lo. let same : get_or (put_mid a (b - a) l ys) i 0 ≡ get_or l i 0 = grind (arith, places) in same ∙ sym (over_below f a b l i lo m))
+    (λ hi. ⊎_elim
+    (λ in_b. let here : get_or (put_mid a (b - a) l ys) i 0 ≡ get_or ys (i - a) 0 = grind (arith, places) in
+    here ∙ e (i - a) (omega arith) ∙ ap f (omega arith) ∙ sym (over_in f a b l i hi in_b m))
+    (λ out. let same : get_or (put_mid a (b - a) l ys) i 0 ≡ get_or l i 0 = grind (arith, places) in same ∙ sym (over_above f a b l i out m))
+    (lt_or_le i b))
+    (lt_or_le i a))
+
+-- a part filled with 0
+pub over_filled : (a b : ℕ) (l ys : List ℕ) → a ≤ b → b ≤ length l → ys ≡ replicate (length (mid_of a (b - a) l)) 0
+    → put_mid a (b - a) l ys ≡ over (λ (k : ℕ). 0) a b l
+over_filled a b l ys g h e =
+    let n : length (mid_of a (b - a) l) ≡ b - a = grind (arith, places) in
+    let long : length ys ≡ b - a = ap length e ∙ length-replicate _ 0 ∙ n in
+    over_part (λ (k : ℕ). 0) a b l ys g h long
+    (λ i m. ap (λ (zs : List ℕ). get_or zs i 0) e ∙ get_or-replicate (length (mid_of a (b - a) l)) i 0 0 (omega (arith, n)))

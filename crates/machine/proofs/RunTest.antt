@@ -1,6 +1,6 @@
 -- Distances, the room from an address up, and which window holds an octabyte, as code asks for them. Runs: RunRefused.
 use Rattle.model.proofs.Prelude.{suc, zero, ℕ, ◌%◌, ◌*◌, ◌+◌, ◌-◌, ◌/◌, ◌<◌, ◌^◌, ◌≤◌, Bool, cond, false, true, ◌&&◌, ◌||◌, List, ◌≢◌, ⊎_elim, refl, ◌∙◌}
-use Rattle.model.proofs.Prelude.{◌≡◌, mod-eq_of_lt, arith, leb, ltb, length, le-leb, le-ltb, leb-false, leb-true, lt-leb, lt-ltb, ltb-true, has, holder, inside}
+use Rattle.model.proofs.Prelude.{◌≡◌, mod-eq_of_lt, arith, leb, ltb, length, le-leb, leb-false, leb-true, lt-leb, ltb-true, has, holder, inside}
 use Rattle.model.proofs.Prelude.{offset, Shape, shape_of, Shapes, octa, refusing, and_left, and_right, lt_or_le, offset_next}
 use Rattle.machine.specs.Octas.{lent_one, room_in, held_range}
 use Rattle.machine.specs.Pieces.{PieceIs}
@@ -32,23 +32,9 @@ offset_run (suc n) base a h =
 
 -- ---- the room from an address up in one window
 
-pub room_past : (base : ℕ) (l : List ℕ) (x at : ℕ) → at ≡ offset base x → length l < at → 0 ≡ room_in (shape_of (lent_one base l)) x
-unfolding room_in shape_of
-room_past base l x at e h = omega arith
-
 pub room_is : (base : ℕ) (l : List ℕ) (x at : ℕ) → at ≡ offset base x → (length l - at) / 8 ≡ room_in (shape_of (lent_one base l)) x
 unfolding room_in shape_of
 room_is base l x at e = rw e
-
--- the test of one octabyte, as code has it
-module _ (base : ℕ) (l : List ℕ) (x at : ℕ) (e : at ≡ offset base x) where
-  pub fits_in : at + 8 ≤ length l → has (shape_of (lent_one base l)) x ≡ true
-  unfolding has shape_of
-  fits_in h = le-leb (offset base x + 8) (length l) (omega arith)
-
-  pub fits_not : length l < at + 8 → has (shape_of (lent_one base l)) x ≡ false
-  unfolding has shape_of
-  fits_not h = lt-leb (offset base x + 8) (length l) (omega arith)
 
 module _ (w : Shape) (x : ℕ) where
   -- there is none where the first octabyte lies outside
@@ -105,22 +91,6 @@ module _ (w : Shape) (a from to : ℕ) where
       let l : to - from ≤ room_in w a = leb-true _ _ (and_right (leb to 256) _ e) in
       (ltb-true _ _ (and_left (ltb from to) _ h), leb-true _ _ (and_left (leb to 256) _ e), omega arith)
 
-  pub range_held : (k : ℕ) → k ≡ room_in w a → from < to → to ≤ 256 → to - from ≤ k → true ≡ held_range w a from to
-  unfolding held_range
-  range_held k e p q l = rw (lt-ltb from to p, le-leb to 256 q, le-leb (to - from) (room_in w a) (omega arith))
-
-  pub range_empty : to ≤ from → false ≡ held_range w a from to
-  unfolding held_range
-  range_empty p = rw (le-ltb from to p)
-
-  pub range_past : from < to → 256 < to → false ≡ held_range w a from to
-  unfolding held_range
-  range_past p q = rw (lt-ltb from to p, lt-leb to 256 q)
-
-  pub range_over : (k : ℕ) → k ≡ room_in w a → from < to → to ≤ 256 → k < to - from → false ≡ held_range w a from to
-  unfolding held_range
-  range_over k e p q l = rw (lt-ltb from to p, le-leb to 256 q, lt-leb (to - from) (room_in w a) (omega arith))
-
 -- ---- which window holds an octabyte
 
 module _ (w : Shapes) (x : ℕ) where
@@ -155,14 +125,14 @@ module _ (w : Shapes) (x : ℕ) where
       go false true e = (refl, refl)
       go false false e = absurd (omega arith)
 
-  pub has_none : holder w x ≢ 1 → holder w x ≢ 0 → (has w.b x ≡ false) × (has w.a x ≡ false)
+  pub has_none : holder w x ≡ 2 → (has w.b x ≡ false) × (has w.a x ≡ false)
   unfolding holder
   has_none = go (has w.b x) (has w.a x)
     where
-      go : (t u : Bool) → (◌≡◌ {A = ℕ} (cond t 1 (cond u 0 2)) 1 → ⊥) → (◌≡◌ {A = ℕ} (cond t 1 (cond u 0 2)) 0 → ⊥) → (t ≡ false) × (u ≡ false)
-      go true u e f = absurd (e refl)
-      go false true e f = absurd (f refl)
-      go false false e f = (refl, refl)
+      go : (t u : Bool) → ◌≡◌ {A = ℕ} (cond t 1 (cond u 0 2)) 2 → (t ≡ false) × (u ≡ false)
+      go true u e = absurd (omega arith)
+      go false true e = absurd (omega arith)
+      go false false e = (refl, refl)
 
   pub held_inside : holder w x ≢ 2 → refusing w x ≡ 0
   unfolding holder refusing inside

@@ -3,7 +3,6 @@
 #![tactic(auto)]
 
 pub mod memory;
-pub mod number;
 pub mod octabytes;
 pub mod ranges;
 pub mod registers;

@@ -6,17 +6,15 @@ ghost use Rattle.model.specs.Parts.{lent};
 ghost use Rattle.machine.specs.Octas.{read_octa, written_run, written_range};
 
 use super::memory::next_piece;
-use model::{Bases, Octabyte};
+use super::{registers, window};
+use model::{Bases, Window};
 
 /// Where a piece of k octabytes that starts with register `from` ends, at most `to`.
 fn end_of(k: u64, from: u64, to: u64) -> u64
     requires { (from < to) × (0 < k) }
     ensures { (result ≤ from + k) × (from < result) × (result ≤ to) }
 {
-    if to - from <= k {
-        return to;
-    }
-    from + k
+    from + k.min(to - from)
 }
 
 /// The registers from `from` up become the octabytes of the piece from `addr` up, at most to `to`; how far. The octabyte that neither window
@@ -37,15 +35,11 @@ fn load_piece(
 {
     let next = next_piece(a, b, at, addr);
     let end = end_of(next.octas, from, to);
-    if next.holder == Octabyte::IN_B {
-        super::window::load_range(general, b, at.b, addr, from, end);
-        return end;
+    match next.holder {
+        Some(Window::A) => window::load_range(general, a, at.a, addr, from, end),
+        Some(Window::B) => window::load_range(general, b, at.b, addr, from, end),
+        None => registers::clear_range(general, from, end),
     }
-    if next.holder == Octabyte::IN_A {
-        super::window::load_range(general, a, at.a, addr, from, end);
-        return end;
-    }
-    super::registers::clear_range(general, from, end);
     end
 }
 
@@ -62,8 +56,7 @@ fn load_pieces(
     ensures { general.new
         ≡ over (λ (k : ℕ). read_octa (lent at a.now b.now) (addr + 8 * (k - from))) from to general.old }
 {
-    super::registers::of_256(*general);
-    let end = super::number::least(to, 256);
+    let end = to.min(256);
     let mut i = from;
     while i < end {
         let place = model::number::wrapping_add(addr, 8 * (i - from));
@@ -85,8 +78,8 @@ pub fn load_range(
     ensures { general.new
         ≡ over (λ (k : ℕ). read_octa (lent at a.now b.now) (addr + 8 * (k - from))) from to general.old }
 {
-    if super::window::has_room(b, at.b, addr, from, to) {
-        super::window::load_range(general, b, at.b, addr, from, to);
+    if window::has_room(b, at.b, addr, from, to) {
+        window::load_range(general, b, at.b, addr, from, to);
         return;
     }
     load_pieces(general, a, b, at, addr, from, to);
@@ -109,13 +102,10 @@ fn store_piece(
 {
     let next = next_piece(a, b, at, addr);
     let end = end_of(next.octas, from, to);
-    if next.holder == Octabyte::IN_B {
-        super::window::store_range(general, b, at.b, addr, from, end);
-        return end;
-    }
-    if next.holder == Octabyte::IN_A {
-        super::window::store_range(general, a, at.a, addr, from, end);
-        return end;
+    match next.holder {
+        Some(Window::A) => window::store_range(general, a, at.a, addr, from, end),
+        Some(Window::B) => window::store_range(general, b, at.b, addr, from, end),
+        None => {}
     }
     end
 }
@@ -133,8 +123,7 @@ fn store_pieces(
     ensures { lent at a.new b.new
         ≡ written_range (lent at a.old b.old) addr from to general.now }
 {
-    super::registers::of_256(*general);
-    let end = super::number::least(to, 256);
+    let end = to.min(256);
     let mut i = from;
     while i < end {
         let place = model::number::wrapping_add(addr, 8 * (i - from));
@@ -155,8 +144,8 @@ pub fn store_range(
     ensures { lent at a.new b.new
         ≡ written_range (lent at a.old b.old) addr from to general.now }
 {
-    if super::window::has_room(b, at.b, addr, from, to) {
-        super::window::store_range(general, b, at.b, addr, from, to);
+    if window::has_room(b, at.b, addr, from, to) {
+        window::store_range(general, b, at.b, addr, from, to);
         return;
     }
     store_pieces(general, a, b, at, addr, from, to);

@@ -57,62 +57,41 @@ const RA: u64 = State::RA as u64;
 const RZZ: u64 = State::RZZ as u64;
 
 /// Whether the registers, marks and mask are those of an admissible state.
+#[tactic(auto, unfolding(model::specs::Registers::admissible))]
 pub fn admissible(special: &[u64; 32], marks: u64, mask: u64) -> bool
     ensures { (general : List ℕ) (pc halt : ℕ) → result ≡ admissible (made general special.now pc halt marks mask) }
 {
     let rg = special[State::RG];
     let rl = special[State::RL];
     let ra = special[State::RA];
-    if rg < THRESHOLD_MIN {
-        return false;
-    }
-    if THRESHOLD_MAX < rg {
-        return false;
-    }
-    if rg < rl {
-        return false;
-    }
-    if STATUS_MAX < ra {
-        return false;
-    }
-    if MARKS_END <= marks {
-        return false;
-    }
-    if mask & HIDEABLE == mask {
-        return true;
-    }
-    false
+    THRESHOLD_MIN <= rg
+        && rg <= THRESHOLD_MAX
+        && rl <= rg
+        && ra <= STATUS_MAX
+        && marks < MARKS_END
+        && mask & HIDEABLE == mask
 }
 
 /// Whether the mask hides special register k from programs; above 31 there is none. An empty mask is asked for first: most are.
+#[tactic(auto, using(model::proofs::Mask::hides_bit, model::proofs::Mask::unmasked, model::proofs::Mask::unhideable, model::proofs::Mask::above_special))]
 pub fn is_hidden(mask: u64, k: u8) -> bool
     ensures { result ≡ hides mask k }
 {
-    if mask == 0 {
-        return false;
-    }
-    if RZZ < k as u64 {
-        return false;
-    }
-    ((mask & HIDEABLE) >> k) % 2 == 1
+    mask != 0 && k as u64 <= RZZ && ((mask & HIDEABLE) >> k) % 2 == 1
 }
 
 /// The general registers from `from` up to, not including, `to` become 0; there are 256, whatever `to` says.
 pub fn clear_range(general: &mut [u64; 256], from: u64, to: u64)
     ensures { general.new ≡ over (λ (k : ℕ). 0) from to general.old }
 {
-    // How many there are is a fact that a reference does not tell; asking compiles to nothing.
-    let all = *general;
-    of_256(all);
-    let end = super::number::least(to, 256);
-    let mut i = from;
-    while i < end {
-        general[i as usize] = 0;
-        i += 1;
+    let end = to.min(256);
+    if from < end {
+        general[from as usize..end as usize].fill(0);
     }
 }
 
 /// $reg is to be written: a marginal one becomes local, and it and those down to rL become 0.
+#[tactic(auto, unfolding(model::specs::Registers::claim_local, model::specs::Registers::with_special, model::specs::Registers::cleared))]
 pub fn claim_local(general: &mut [u64; 256], special: &mut [u64; 32], reg: u8)
     ensures { (s : State) → with_parts s general.new special.new
         ≡ claim_local (with_parts s general.old special.old) reg }
@@ -131,6 +110,7 @@ pub fn claim_local(general: &mut [u64; 256], special: &mut [u64; 32], reg: u8)
 }
 
 /// $reg becomes v.
+#[tactic(auto, unfolding(model::specs::Registers::set_register, model::specs::Registers::stored))]
 pub fn set_register(general: &mut [u64; 256], special: &mut [u64; 32], reg: u8, v: u64)
     ensures { (s : State) → with_parts s general.new special.new
         ≡ set_register (with_parts s general.old special.old) reg v }
@@ -140,29 +120,32 @@ pub fn set_register(general: &mut [u64; 256], special: &mut [u64; 32], reg: u8, 
 }
 
 /// PUT rL: it is only ever lowered, and what is dropped becomes 0.
+#[tactic(auto, unfolding(model::specs::Registers::put_locals, model::specs::Registers::with_special, model::specs::Registers::cleared))]
 pub fn put_rl(general: &mut [u64; 256], special: &mut [u64; 32], value: u64)
     ensures { (s : State) → with_parts s general.new special.new
         ≡ put_locals (with_parts s general.old special.old) value }
 {
     let rl = special[State::RL];
-    let low = super::number::least(value, rl);
+    let low = value.min(rl);
     clear_range(general, low, rl);
     special[State::RL] = low;
 }
 
 /// PUT rG of a value that it may have: what lies between the two thresholds becomes 0.
+#[tactic(auto, unfolding(model::specs::Registers::put_globals, model::specs::Registers::with_special, model::specs::Registers::cleared))]
 pub fn put_rg(general: &mut [u64; 256], special: &mut [u64; 32], value: u64)
     ensures { (s : State) → with_parts s general.new special.new
         ≡ put_globals (with_parts s general.old special.old) value }
 {
     let rg = special[State::RG];
-    let low = super::number::least(value, rg);
-    let high = super::number::most(value, rg);
+    let low = value.min(rg);
+    let high = value.max(rg);
     clear_range(general, low, high);
     special[State::RG] = value;
 }
 
 /// What PUT of `value` to special register x answers where rL is `rl`: one of 7 to 11, or Done. It judges by nothing else of a state.
+#[tactic(auto, unfolding(model::specs::System::put_refusal, model::specs::Numbers::reply_of))]
 pub fn put_refusal(rl: u64, x: u64, value: u64) -> Reply
     ensures { (s : State) → sp s r_l ≡ rl → result ≡ reply_of (put_refusal s x value) }
 {
@@ -197,6 +180,7 @@ pub fn put_refusal(rl: u64, x: u64, value: u64) -> Reply
 }
 
 /// Special register x becomes `value` as PUT makes it, which judged it before; above 31 there is none, and nothing changes.
+#[tactic(auto, unfolding(model::specs::System::put_state, model::specs::Registers::with_special))]
 pub fn put_state(general: &mut [u64; 256], special: &mut [u64; 32], x: u64, value: u64)
     ensures { (s : State) → with_parts s general.new special.new
         ≡ put_state (with_parts s general.old special.old) x value }
@@ -209,8 +193,6 @@ pub fn put_state(general: &mut [u64; 256], special: &mut [u64; 32], x: u64, valu
         put_rg(general, special, value);
         return;
     }
-    let all = *special;
-    of_32(all);
     if x <= RZZ {
         special[x as usize] = value;
     }
@@ -229,20 +211,7 @@ pub fn put_special(general: &mut [u64; 256], special: &mut [u64; 32], x: u8, val
     judged
 }
 
-pub(crate) fn of_256(general: [u64; 256])
-    ensures { length general ≡ 256 }
-{}
-
-fn of_32(special: [u64; 32])
-    ensures { length special ≡ 32 }
-{}
-
 /// There are 256 general registers and 32 special ones: facts that a reference does not tell its caller. It does nothing.
 pub fn counted(general: &[u64; 256], special: &[u64; 32])
     ensures { (length general.now ≡ 256) × (length special.now ≡ 32) }
-{
-    let g = *general;
-    of_256(g);
-    let s = *special;
-    of_32(s);
-}
+{}

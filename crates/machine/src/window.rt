@@ -4,27 +4,22 @@ ghost use Rattle.model.specs.Fill.{over};
 ghost use Rattle.model.specs.Memory.{shape_of, ruled_one, offset, has, one};
 ghost use Rattle.machine.specs.Octas.{lent_one, room_in, held_range, read_by, written_by, written_run_by};
 
+use super::octabytes;
+
 /// The longest window, in bytes.
 pub const WINDOW_MAX: usize = 1048576;
 
 /// Whether length and base obey the window's rule.
+#[tactic(auto, unfolding(model::specs::Memory::ruled_one, model::specs::Memory::shape_of))]
 pub fn is_ruled(window: &[u8], base: u64) -> bool
     ensures { result ≡ ruled_one (shape_of (lent_one base window.now)) }
 {
     let len = window.len();
-    if base % 8 != 0 {
-        return false;
-    }
-    if len % 8 != 0 {
-        return false;
-    }
-    if len <= WINDOW_MAX {
-        return true;
-    }
-    false
+    base % 8 == 0 && len % 8 == 0 && len <= WINDOW_MAX
 }
 
 /// The distance from the base to the octabyte that `addr` names.
+#[tactic(auto, using(crate::proofs::RunTest::offset_of))]
 pub fn distance(base: u64, addr: u64) -> u64
     ensures { result ≡ offset base addr }
 {
@@ -32,6 +27,7 @@ pub fn distance(base: u64, addr: u64) -> u64
 }
 
 /// How many octabytes from `addr` up lie in the window.
+#[tactic(auto, unfolding(crate::specs::Octas::room_in, model::specs::Memory::shape_of))]
 pub fn room(window: &[u8], base: u64, addr: u64) -> u64
     ensures { (result ≡ room_in (shape_of (lent_one base window.now)) addr) × (8 * result < 2 ^ 64) }
 {
@@ -44,36 +40,24 @@ pub fn room(window: &[u8], base: u64, addr: u64) -> u64
 }
 
 /// Whether the octabyte that `addr` names lies in the window.
+#[tactic(auto, unfolding(model::specs::Memory::has, model::specs::Memory::shape_of))]
 pub fn holds(window: &[u8], base: u64, addr: u64) -> bool
     ensures { result ≡ has (shape_of (lent_one base window.now)) addr }
 {
     let len = window.len() as u64;
-    if len < 8 {
-        return false;
-    }
-    if distance(base, addr) <= len - 8 {
-        return true;
-    }
-    false
+    8 <= len && distance(base, addr) <= len - 8
 }
 
 /// Whether the registers from `from` up to, not including, `to` are some of the 256 and the window has room for them from `addr` up.
+#[tactic(auto, unfolding(crate::specs::Octas::held_range))]
 pub(crate) fn has_room(window: &[u8], base: u64, addr: u64, from: u64, to: u64) -> bool
     ensures { result ≡ held_range (shape_of (lent_one base window.now)) addr from to }
 {
-    if to <= from {
-        return false;
-    }
-    if 256 < to {
-        return false;
-    }
-    if to - from <= room(window, base, addr) {
-        return true;
-    }
-    false
+    from < to && to <= 256 && to - from <= room(window, base, addr)
 }
 
 /// The octabyte that `addr` names, or 0 where it lies outside the window.
+#[tactic(auto, using(crate::proofs::Octas::has_fits, crate::proofs::Octas::has_read, crate::proofs::Octas::none_read))]
 pub fn read_octa(window: &[u8], base: u64, addr: u64) -> u64
     ensures { result ≡ read_by one (lent_one base window.now) addr }
 {
@@ -81,10 +65,11 @@ pub fn read_octa(window: &[u8], base: u64, addr: u64) -> u64
         return 0;
     }
     let at = distance(base, addr) as usize;
-    super::octabytes::load(window, at)
+    octabytes::load(window, at)
 }
 
 /// The octabyte that `addr` names becomes v; a window that does not hold it is left as it was.
+#[tactic(auto, using(crate::proofs::Octas::has_fits, crate::proofs::Octas::has_written, crate::proofs::Octas::none_written))]
 pub fn write_octa(window: &mut [u8], base: u64, addr: u64, v: u64)
     ensures { lent_one base window.new ≡ written_by one (lent_one base window.old) addr v }
 {
@@ -92,7 +77,7 @@ pub fn write_octa(window: &mut [u8], base: u64, addr: u64, v: u64)
         return;
     }
     let at = distance(base, addr) as usize;
-    super::octabytes::store_down(window, at, v);
+    octabytes::store(window, at, v);
 }
 
 /// The general registers from `from` up to, not including, `to` become the octabytes from `addr` up, which the window holds.
@@ -108,14 +93,8 @@ pub(crate) fn load_range(
     ensures { general.new
         ≡ over (λ (k : ℕ). read_by one (lent_one base window.now) (addr + 8 * (k - from))) from to general.old }
 {
-    let mut at = distance(base, addr) as usize;
-    let mut i = from;
-    while i < to {
-        let v = super::octabytes::load(window, at);
-        general[i as usize] = v;
-        at += 8;
-        i += 1;
-    }
+    let at = distance(base, addr) as usize;
+    octabytes::load_all(window, at, &mut general[from as usize..to as usize]);
 }
 
 /// They go to the octabytes from `addr` up, which the window holds.
@@ -131,17 +110,12 @@ pub(crate) fn store_range(
     ensures { lent_one base window.new
         ≡ written_run_by one (lent_one base window.old) addr (to - from) (λ (i : ℕ). get_or general.now (from + i) 0) }
 {
-    let mut at = distance(base, addr) as usize;
-    let mut i = from;
-    while i < to {
-        let v = general[i as usize];
-        super::octabytes::store(window, at, v);
-        at += 8;
-        i += 1;
-    }
+    let at = distance(base, addr) as usize;
+    octabytes::store_all(window, at, &general[from as usize..to as usize]);
 }
 
 /// They go there where the window has room for them all, and else nothing changes; whether it has.
+
 pub fn store_held(
     general: &[u64; 256],
     window: &mut [u8],

@@ -2,9 +2,14 @@
 use Rattle.model.proofs.Logic.{ℕ, ◌<◌, ◌≤◌, cond, true, List, [], ◌∷◌, inl, inr, ◌⊎◌, ap, refl, sym, ◌∙◌, ◌≡◌, arith, eqb, leb, get_or_eq_default}
 use Rattle.model.proofs.Logic.{false, not, eqb-false, eqb-true, le-leb, tag_of, has_key, Among}
 use borrow.Enum.Refused.{not_key, opened}
-use denote.Enum.Bare.{sameb, same_true, same_false, differs_true, differs_false}
+use denote.Enum.Bare.{differs_false, differs_true, sameb, same_false, same_true}
 use Rattle.std.proofs.Common.{rules}
-use Rattle.model.specs.Numbers.{Halting, number_of, in_order, reply_of, RepliesNumbered}
+use Rattle.std.specs.Prelude.{Option, None, Some}
+use Rattle.std.specs.Option.{is_some}
+use Rattle.model.proofs.Logic.{Bool, true≢false}
+use Rattle.model.specs.declared.Window.{Window}
+use Rattle.model.specs.declared.Window.TheVariants.{A, B}
+use Rattle.model.specs.Numbers.{Halting, number_of, number_of_holder, in_order, reply_of, RepliesNumbered}
 use Rattle.model.specs.declared.Reply.{Reply}
 use Rattle.model.specs.declared.Reply.TheVariants.{Done, NotAdmissible, WindowRule, NoArm, NamedTrap, NoSpecial, Missing, PutUnknown, PutPrivileged, PutIllegal, PutThreshold, PutStatus, Misplaced, SaveLocal, SavedThreshold, SavedStatus, SavedCount, SyncPrivileged, SyncIllegal, NotLoaded, Trapped, OutOfReach, Shared, Across, NotFetched, GrantTooLarge, StoreTooShort, NoPoint, OtherPoint, NoFrame, TooManyPairs, Hidden, Foreign, TasksRule}
 use Rattle.model.specs.contracts.Reply.{the_type}
@@ -107,9 +112,9 @@ reply_other n m = go (lt_or_le n 1) (lt_or_le n 34)
     go (inr a) (inr b) = sym (get_or_eq_default in_order Done b)
 
 -- a reply that is a number's: done where it is 0, and there alone
-pub done_zero : (n : ℕ) (r : Reply) → n ≤ 33 → r ≡ reply_of n → r ≡ Done → n ≡ 0
+pub number_zero : (n : ℕ) (r : Reply) → n ≤ 33 → r ≡ reply_of n → r ≡ Done → n ≡ 0
 unfolding number_of
-done_zero n r h e d = sym (numbered.number_reply n h) ∙ ap number_of (sym e ∙ d)
+number_zero n r h e d = sym (numbered.number_reply n h) ∙ ap number_of (sym e ∙ d)
 
 pub refused_not_zero : (n : ℕ) (r : Reply) → r ≡ reply_of n → (r ≡ Done → ⊥) → n ≡ 0 → ⊥
 unfolding reply_of
@@ -122,9 +127,43 @@ is_done e = same_true the_type (search rules) _ _ e
 pub is_refused : {r : Reply} → sameb the_type r Done ≡ false → r ≡ Done → ⊥
 is_refused e = same_false the_type _ _ e
 
--- and a test for any other
-pub is_not_done : {r : Reply} → not (sameb the_type r Done) ≡ true → r ≡ Done → ⊥
-is_not_done e = differs_true the_type _ _ e
+-- Done has the number 0, and no other reply has
+pub done_zero : (r : Reply) → r ≡ Done → number_of r ≡ 0
+unfolding number_of
+done_zero r e = rw e refl
 
-pub is_not_refused : {r : Reply} → not (sameb the_type r Done) ≡ false → r ≡ Done
-is_not_refused e = differs_false the_type (search rules) _ _ e
+pub zero_done : (r : Reply) → number_of r ≡ 0 → r ≡ Done
+unfolding reply_of
+zero_done r e = sym (there r) ∙ ap reply_of e
+
+pub reply_by : (r : Reply) → r ≡ reply_of (number_of r)
+reply_by r = sym (there r)
+
+-- what a test `r != Reply::Done` tells of the number
+module _ (r : Reply) (t : Bool) (e : t ≡ not (sameb the_type r Done)) where
+  pub told_done : t ≡ false → number_of r ≡ 0
+  told_done f = done_zero r (differs_false the_type (search rules) r Done (sym e ∙ f))
+
+  pub told_refused : t ≡ true → number_of r ≡ 0 → ⊥
+  told_refused f z = differs_true the_type r Done (sym e ∙ f) (zero_done r z)
+
+-- ---- which window holds an octabyte, as code tells it
+
+module _ (h : Option Window) where
+  pub holder_a : (x : Window) → h ≡ Some x → x ≡ A → number_of_holder h ≡ 0
+  holder_a x e f = rw (e, f) refl
+
+  pub holder_b : (x : Window) → h ≡ Some x → x ≡ B → number_of_holder h ≡ 1
+  holder_b x e f = rw (e, f) refl
+
+  pub holder_none : h ≡ None → number_of_holder h ≡ 2
+  holder_none e = rw e refl
+
+pub no_holder : (h : Option Window) (r : Bool) → is_some h ≡ not r → r ≡ true → number_of_holder h ≡ 2
+no_holder None r e f = refl
+no_holder (Some x) r e f = absurd (true≢false (e ∙ ap not f))
+
+pub some_holder : (h : Option Window) (r : Bool) → is_some h ≡ not r → r ≡ false → number_of_holder h ≡ 2 → ⊥
+some_holder None r e f z = absurd (true≢false (sym (e ∙ ap not f)))
+some_holder (Some A) r e f z = omega arith
+some_holder (Some B) r e f z = omega arith

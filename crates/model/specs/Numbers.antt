@@ -1,5 +1,7 @@
 -- 01, 'Replies': "For each answer that is an enum, a definition gives this paper's number and values for every case of that enum."
-use Rattle.std.specs.Prelude.{◌≡◌, ℕ, ◌≤◌, ◌⊎◌, List, [], ◌∷◌, slice_index_or}
+use Rattle.std.specs.Prelude.{◌≡◌, ℕ, ◌≤◌, ◌⊎◌, List, [], ◌∷◌, Option, None, Some, slice_index_or}
+use Rattle.model.specs.declared.Window.{Window}
+use Rattle.model.specs.declared.Window.TheVariants.{A, B}
 use Rattle.model.specs.declared.Reply.{Reply}
 use Rattle.model.specs.declared.Reply.TheVariants.{Done, NotAdmissible, WindowRule, NoArm, NamedTrap, NoSpecial, Missing, PutUnknown, PutPrivileged, PutIllegal, PutThreshold, PutStatus, Misplaced, SaveLocal, SavedThreshold, SavedStatus, SavedCount, SyncPrivileged, SyncIllegal, NotLoaded, Trapped, OutOfReach, Shared, Across, NotFetched, GrantTooLarge, StoreTooShort, NoPoint, OtherPoint, NoFrame, TooManyPairs, Hidden, Foreign, TasksRule}
 
@@ -71,3 +73,9 @@ reply_of n = slice_index_or in_order n Done
 pub record RepliesNumbered : Type 0 where
   pub reply_number : (r : Reply) → reply_of (number_of r) ≡ r
   pub number_reply : (n : ℕ) → n ≤ 33 → number_of (reply_of n) ≡ n
+
+-- which window holds an octabyte, as `holder` of Memory numbers it
+abbrev pub number_of_holder : Option Window → ℕ
+number_of_holder (Some A) = 0
+number_of_holder (Some B) = 1
+number_of_holder None = 2

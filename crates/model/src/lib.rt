@@ -144,19 +144,18 @@ pub enum Reply {
     TasksRule,
 }
 
-/// An octabyte that was read, and which window holds it: `IN_A`, `IN_B` or `IN_NEITHER`.
+/// One of the two lent windows; B is the stack's.
+#[derive(Clone, Copy, PartialEq, Eq)]
+pub enum Window {
+    A,
+    B,
+}
+
+/// An octabyte that was read, and which window holds it.
 #[derive(Clone, Copy)]
 pub struct Octabyte {
     pub value: u64,
-    pub holder: u64,
-}
-
-impl Octabyte {
-    pub const IN_A: u64 = 0;
-
-    pub const IN_B: u64 = 1;
-
-    pub const IN_NEITHER: u64 = 2;
+    pub holder: Option<Window>,
 }
 
 /// The largest grant of a run.

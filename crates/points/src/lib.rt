@@ -6,6 +6,7 @@ ghost use Rattle.model.specs.Kept.{point_in};
 ghost use Rattle.model.specs.Numbers.{number_of};
 ghost use Rattle.points.specs.Store.{Took, GoneBack};
 
+use model::replies::number_of;
 use model::{Bases, Reply};
 use room::ROOM_LEN;
 
@@ -23,7 +24,7 @@ pub fn take(at: Bases, name: u64, image: &[u8], a: &[u8], b: &[u8], store: &mut 
     if !image::is_admissible(image) {
         return Reply::NotAdmissible;
     }
-    let number = machine::memory::windows_refusal(a, b, at);
+    let number = number_of(machine::memory::windows_refusal(a, b, at));
     if number == 2 {
         return Reply::WindowRule;
     }
@@ -58,7 +59,7 @@ pub fn go_back(
     if !image::is_image(&*image) {
         return Reply::NotAdmissible;
     }
-    let number = machine::memory::windows_refusal(&*a, &*b, at);
+    let number = number_of(machine::memory::windows_refusal(&*a, &*b, at));
     if number == 2 {
         return Reply::WindowRule;
     }

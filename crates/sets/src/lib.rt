@@ -115,6 +115,6 @@ pub fn put_set_bytes(state: &mut StateMut<'_>, bytes: &[u8]) -> Result<(), Faile
         (state_lent state.new) }
 {
     let mut octas = [0; READ_MAX];
-    let count = machine::number::least((bytes.len() / 8) as u64, READ_MAX as u64) as usize;
+    let count = (bytes.len() / 8).min(READ_MAX);
     put_read(state, bytes, &mut octas[0..count])
 }

@@ -38,10 +38,6 @@ module _ (w : Windows) (s : State) where
   unfolding refusal_on
   judged_by = on (λ (k : ℕ). k ≡ 0 → (admissible s ≡ true) × (unruled_by (shapes_of w) ≡ 0)) (admissible s) (λ a e. (a, e)) (λ a e. absurd (omega arith))
 
-  pub refused_one : admissible s ≡ false → 1 ≡ refusal_on w s
-  unfolding refusal_on
-  refused_one a = rw a
-
   pub refused_windows : admissible s ≡ true → unruled_by (shapes_of w) ≡ refusal_on w s
   unfolding refusal_on
   refused_windows a = rw a

@@ -21,18 +21,6 @@ pub admissible_placed : (s : State) → admissible s ≡ true → placed s ≡ t
 unfolding placed
 admissible_placed s a = let b = adm s a in rw (le-leb (sp s r_g) 255 b.g_high, le-leb (sp s r_l) (sp s r_g) b.l_g)
 
-pub is_placed : (s : State) → sp s r_g ≤ 255 → sp s r_l ≤ sp s r_g → true ≡ placed s
-unfolding placed
-is_placed s g l = rw (le-leb (sp s r_g) 255 g, le-leb (sp s r_l) (sp s r_g) l)
-
-pub too_high : (s : State) → 255 < sp s r_g → false ≡ placed s
-unfolding placed
-too_high s g = rw (lt-leb (sp s r_g) 255 g)
-
-pub out_of_order : (s : State) → sp s r_g ≤ 255 → sp s r_g < sp s r_l → false ≡ placed s
-unfolding placed
-out_of_order s g l = rw (le-leb (sp s r_g) 255 g, lt-leb (sp s r_l) (sp s r_g) l)
-
 -- ---- PUSH
 
 module _ (w : Windows) (s : State) (x : ℕ) where

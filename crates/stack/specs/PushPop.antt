@@ -1,11 +1,10 @@
 -- What push_frame and pop_frame, and push_frame_judged and pop_frame_judged in place, answer and leave, and what the private functions go by.
-use Rattle.std.specs.Prelude.{ℕ, ◌+◌, ◌-◌, ◌*◌, ◌%◌, ◌^◌, ◌≤◌, ◌<◌, min, ◌≡◌, true, false, cond, List, eqb, length, get_or}
-use Rattle.model.specs.Memory.{Windows, shapes_of, both}
+use Rattle.std.specs.Prelude.{ℕ, ◌+◌, ◌-◌, ◌*◌, ◌%◌, ◌^◌, ◌≤◌, ◌<◌, min, ◌≡◌, cond, List, eqb, length, get_or}
+use Rattle.model.specs.Memory.{Windows, both}
 use Rattle.model.specs.Plan.{Outcome, looks}
-use Rattle.model.specs.Registers.{r_j, r_o, r_g, r_l, stack_start, sp, admissible, goes}
-use Rattle.model.specs.Frames.{hole, push_frame, misplaced, popped, pop_frame}
+use Rattle.model.specs.Registers.{r_j, r_o, r_g, r_l, stack_start, sp, goes}
+use Rattle.model.specs.Frames.{hole, push_frame, popped, pop_frame}
 use Rattle.model.specs.PopOrder.{between}
-use Rattle.model.specs.Step.{unruled_by}
 use Rattle.stack.specs.GivenBack.{guarded_on, only_if, placed, Gives}
 use Rattle.model.specs.declared.State.{State}
 use Rattle.model.specs.declared.Reply.{Reply}

@@ -8,12 +8,13 @@ ghost use Rattle.model.specs.Frames.{count_of, last_output, misplaced};
 ghost use Rattle.model.specs.PopOrder.{lowered};
 ghost use Rattle.model.specs.Parts.{made, lent};
 ghost use Rattle.model.specs.Step.{refusing};
+ghost use Rattle.model.specs.Numbers.{number_of};
 ghost use Rattle.model.specs.declared.State.{State};
 ghost use Rattle.machine.specs.Octas.{read_octa};
 ghost use Rattle.stack.specs.GivenBack.{Refused, placed};
 ghost use Rattle.stack.specs.PushPop.{pop_number, pop_answer, Held, Placed, bottom_of, between_by, popped_as, pop_in, PopGives};
 
-use model::{Bases, Octabyte, State, replies};
+use model::{Bases, Reply, State};
 
 /// What POP found at rO.
 #[derive(Clone, Copy)]
@@ -34,34 +35,29 @@ pub enum PopFrame {
     Shared,
 }
 
-/// The case of a number by which state or windows are refused.
-pub(crate) fn refused(number: u64) -> PopFrame
-    requires { Refused number }
-    ensures { (pop_number result ≡ number) × ((s : State) (yz : ℕ) → result ≡ pop_answer s yz number) }
+/// The case of a reply by which state or windows are refused.
+#[tactic(auto, unfolding(model::specs::Numbers::number_of, crate::specs::PushPop::pop_number, crate::specs::PushPop::pop_answer))]
+pub(crate) fn refused(reply: Reply) -> PopFrame
+    requires { Refused (number_of reply) }
+    ensures { (pop_number result ≡ number_of reply) × ((s : State) (yz : ℕ) → result ≡ pop_answer s yz (number_of reply)) }
 {
-    if number == replies::NOT_ADMISSIBLE {
-        return PopFrame::NotAdmissible;
+    match reply {
+        Reply::NotAdmissible => PopFrame::NotAdmissible,
+        Reply::WindowRule => PopFrame::WindowRule,
+        _ => PopFrame::Shared,
     }
-    if number == replies::WINDOW_RULE {
-        return PopFrame::WindowRule;
-    }
-    PopFrame::Shared
 }
 
 /// Whether rG and rL are numbers of registers, in order.
+#[tactic(auto, unfolding(crate::specs::GivenBack::placed))]
 pub(crate) fn is_placed(rg: u64, rl: u64) -> bool
     ensures { (s : State) → sp s r_g ≡ rg → sp s r_l ≡ rl → result ≡ placed s }
 {
-    if 255 < rg {
-        return false;
-    }
-    if rg < rl {
-        return false;
-    }
-    true
+    rg <= 255 && rl <= rg
 }
 
 /// They become the octabytes from `addr` up.
+#[tactic(auto, using(model::proofs::Fill::over_none))]
 fn load_locals(general: &mut [u64; 256], a: &[u8], b: &[u8], at: Bases, addr: u64, n: u64)
     ensures { general.new
         ≡ over (λ (k : ℕ). read_octa (lent at a.now b.now) (addr + 8 * (k - 0))) 0 n general.old }
@@ -73,26 +69,21 @@ fn load_locals(general: &mut [u64; 256], a: &[u8], b: &[u8], at: Bases, addr: u6
 }
 
 /// How many outputs there are.
+#[tactic(auto, unfolding(model::specs::Frames::count_of))]
 fn count_of(rl: u64, x: u8) -> u64
     requires { rl ≤ 255 }
     ensures { ((s : State) → sp s r_l ≡ rl → result ≡ count_of s x) × (result ≤ 256) }
 {
-    let n = x as u64;
-    if rl < n {
-        return rl + 1;
-    }
-    n
+    (x as u64).min(rl + 1)
 }
 
 /// The last output.
+#[tactic(auto, unfolding(model::specs::Frames::last_output))]
 fn last_output(general: &[u64; 256], rl: u64, x: u8) -> u64
     ensures { (special : List ℕ) (pc halt marks mask : ℕ) → get_or special r_l 0 ≡ rl
         → result ≡ last_output (made general.now special pc halt marks mask) x }
 {
-    if rl < x as u64 {
-        return 0;
-    }
-    if x == 0 {
+    if x == 0 || rl < x as u64 {
         return 0;
     }
     let i = x as usize - 1;
@@ -129,13 +120,11 @@ fn restore(
 }
 
 /// Whether rO, above the stack's start, cannot hold a frame.
+#[tactic(auto, using(crate::proofs::PushPopRegisters::misplaced_negative, crate::proofs::PushPopRegisters::misplaced_odd))]
 fn is_misplaced(ro: u64) -> bool
     ensures { (s : State) → sp s r_o ≡ ro → result ≡ misplaced s }
 {
-    if ro % 8 == 0 {
-        return model::number::is_negative(ro);
-    }
-    true
+    ro % 8 != 0 || model::number::is_negative(ro)
 }
 
 /// The special registers of a pop, which come last: the new rL, and rO and rS at the frame's bottom.
@@ -167,7 +156,7 @@ fn leave(
     let rl = special[State::RL];
     let bottom = model::number::wrapping_sub(ro, 8 * (h + 1));
     let count = count_of(rl, x);
-    let low = machine::number::least(h + count, rg);
+    let low = (h + count).min(rg);
     restore(general, a, b, at, bottom, rl, x, h, low);
     machine::registers::clear_range(general, low, rg);
     set_frame(special, low, bottom);
@@ -194,13 +183,13 @@ fn pop_at(
     let rj = special[State::RJ];
     let below = model::number::wrapping_sub(ro, 8);
     let octa = machine::memory::read_octa(a, b, at, below);
-    if octa.holder == Octabyte::IN_NEITHER {
+    if octa.holder.is_none() {
         return PopFrame::Missing;
     }
     let h = octa.value % 256;
     let bottom = model::number::wrapping_sub(ro, 8 * (h + 1));
-    let n = machine::number::least(h, rg);
-    if machine::memory::run_refusal(a, b, at, bottom, n) != 0 {
+    let n = h.min(rg);
+    if machine::memory::run_refusal(a, b, at, bottom, n) != Reply::Done {
         return PopFrame::Missing;
     }
     leave(general, special, a, b, at, x, h);
@@ -224,7 +213,6 @@ pub fn pop_frame_judged(
         (made general.old special.old pc halt.old marks mask) yz result
         (made general.new special.new pc halt.new marks mask) }
 {
-    machine::registers::counted(general, special);
     let rg = special[State::RG];
     let rl = special[State::RL];
     let ro = special[State::RO];

@@ -13,10 +13,10 @@ ghost use Rattle.stack.specs.GivenBack.{Gives};
 ghost use Rattle.stack.specs.PushPop.{Held, push_in};
 
 use super::frame::is_placed;
-use model::replies::reply_of;
 use model::{Bases, Reply, State};
 
 /// The hole's number.
+#[tactic(auto, unfolding(model::specs::Frames::hole))]
 fn hole_of(rg: u64, rl: u64, x: u8) -> u64
     requires { rl ≤ 255 }
     ensures { ((s : State) → sp s r_g ≡ rg → sp s r_l ≡ rl → result ≡ hole s x) × (result ≤ 255) }
@@ -29,6 +29,7 @@ fn hole_of(rg: u64, rl: u64, x: u8) -> u64
 }
 
 /// The first n general registers go to the octabytes from `addr` up; where there are none it is no call.
+#[tactic(auto, using(machine::proofs::Octas::run_none), unfolding(machine::specs::Octas::written_range_by))]
 fn store_locals(general: &[u64; 256], a: &mut [u8], b: &mut [u8], at: Bases, addr: u64, n: u64)
     ensures { lent at a.new b.new
         ≡ written_range (lent at a.old b.old) addr 0 n general.now }
@@ -59,7 +60,7 @@ fn enter(general: &mut [u64; 256], special: &mut [u64; 32], pc: u64, h: u64)
     let ro = special[State::RO];
     let rl = special[State::RL];
     let rg = special[State::RG];
-    let n = machine::number::saturating_sub(rl, h + 1);
+    let n = rl.saturating_sub(h + 1);
     let new_ro = model::number::wrapping_add(ro, 8 * (h + 1));
     let rj = model::number::wrapping_add(pc, 4);
     super::slide::slide(general, h + 1, n);
@@ -86,7 +87,6 @@ pub fn push_frame_judged(
         (made general.old special.old pc halt marks mask) result
         (made general.new special.new pc halt marks mask) (lent at a.new b.new) }
 {
-    machine::registers::counted(general, special);
     let rg = special[State::RG];
     let rl = special[State::RL];
     let ro = special[State::RO];
@@ -94,9 +94,9 @@ pub fn push_frame_judged(
         return Reply::NotAdmissible;
     }
     let h = hole_of(rg, rl, x);
-    let number = machine::memory::run_refusal(a, b, at, ro, h + 1);
-    if number != 0 {
-        return reply_of(number);
+    let reply = machine::memory::run_refusal(a, b, at, ro, h + 1);
+    if reply != Reply::Done {
+        return reply;
     }
     store_frame(general, a, b, at, ro, h);
     enter(general, special, pc, h);

@@ -7,12 +7,8 @@ pub(crate) fn slide(general: &mut [u64; 256], from: u64, n: u64)
     requires { (0 < from) × (from + n ≤ 256) }
     ensures { general.new ≡ over (λ (k : ℕ). get_or general.old (from + k) 0) 0 n general.old }
 {
-    let mut i: u64 = 0;
-    while i < n {
-        let src = from + i;
-        let v = general[src as usize];
-        general[i as usize] = v;
-        i += 1;
+    for i in 0..n {
+        general[i as usize] = general[(from + i) as usize];
     }
 }
 
@@ -22,12 +18,7 @@ pub(crate) fn slide_up(general: &mut [u64; 256], by: u64, to: u64)
     requires { to ≤ 256 }
     ensures { general.new ≡ over (λ (k : ℕ). get_or general.old (k - by) 0) by to general.old }
 {
-    let mut k = to;
-    while by < k {
-        let at = k - 1;
-        let src = at - by;
-        let v = general[src as usize];
-        general[at as usize] = v;
-        k = at;
+    for k in (by..to).rev() {
+        general[k as usize] = general[(k - by) as usize];
     }
 }

@@ -90,7 +90,7 @@ fn pop_asks(special: &[u64; 32], windows: WindowsRef<'_>, whole: Whole) -> bool
         return true;
     }
     let octa = machine::memory::read_octa(windows.a, windows.b, windows.at, below);
-    if octa.holder == NEITHER {
+    if octa.holder.is_none() {
         return false;
     }
     let h = octa.value % 256;
@@ -124,7 +124,7 @@ fn count_asks(windows: WindowsRef<'_>, whole: Whole, address: u64, rg: u64) -> b
         return true;
     }
     let octa = machine::memory::read_octa(windows.a, windows.b, windows.at, marker);
-    if octa.holder == NEITHER {
+    if octa.holder.is_none() {
         return false;
     }
     let count = octa.value;
@@ -144,7 +144,7 @@ fn unsave_asks(windows: WindowsRef<'_>, whole: Whole, address: u64) -> bool
         return true;
     }
     let octa = machine::memory::read_octa(windows.a, windows.b, windows.at, address);
-    if octa.holder == NEITHER {
+    if octa.holder.is_none() {
         return false;
     }
     let packed = octa.value;
@@ -199,7 +199,7 @@ pub(crate) fn asks_foreign(state: &StateMut<'_>, windows: WindowsRef<'_>, whole:
 {
     let pc = *state.pc;
     let found = machine::memory::read_octa(windows.a, windows.b, windows.at, pc);
-    if found.holder == NEITHER {
+    if found.holder.is_none() {
         return is_foreign(whole, pc);
     }
     let v = found.value;

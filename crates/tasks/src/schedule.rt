@@ -71,7 +71,7 @@ fn turn(
     let start = k * each;
     let end = start + each;
     let own = judge::part_at(parts, k);
-    let grant = machine::number::least(q, left);
+    let grant = q.min(left);
     let mut done: u64 = 0;
     let number = image_turn(&mut images[start..end], windows, own, grant, &mut done);
     refusals[k] = number;

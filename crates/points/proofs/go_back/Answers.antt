@@ -17,7 +17,7 @@ unfolding number_of
 returns-then-number-eq2 c =
     let is = granted _ _ c.is_image.ensures (ap not c.if-not-is_image.false) in
     back_not _ _ _ 2 (λ z. omega arith)
-    (back_two _ _ _ is 2 (two_unruled _ _ _ _ _ c.windows_refusal-number.ensures (λ z. omega arith) ∙ c.if-number-eq2.true))
+    (back_two _ _ _ is 2 (two_unruled _ _ _ _ _ (c.number_of-number.ensures ∙ c.windows_refusal.ensures) (λ z. omega arith) ∙ c.if-number-eq2.true))
 
 pub returns-then-number-ne0 : goal.returns-then-number-ne0
 unfolding number_of
@@ -25,22 +25,22 @@ returns-then-number-ne0 c =
     let is = granted _ _ c.is_image.ensures (ap not c.if-not-is_image.false) in
     back_not _ _ _ 22 (λ z. omega arith)
     (back_two _ _ _ is 22
-    (two_unruled _ _ _ _ _ c.windows_refusal-number.ensures c.if-number-ne0.true
-    ∙ shared_left _ _ c.windows_refusal-number.ensures c.if-number-eq2.false c.if-number-ne0.true))
+    (two_unruled _ _ _ _ _ (c.number_of-number.ensures ∙ c.windows_refusal.ensures) c.if-number-ne0.true
+    ∙ shared_left _ _ (c.number_of-number.ensures ∙ c.windows_refusal.ensures) c.if-number-eq2.false c.if-number-ne0.true))
 
 pub returns-then-store-lt-STORE_LEN : goal.returns-then-store-lt-STORE_LEN
 unfolding number_of
 returns-then-store-lt-STORE_LEN c =
     let is = granted _ _ c.is_image.ensures (ap not c.if-not-is_image.false) in
     back_not _ _ _ 26 (λ z. omega arith)
-    (back_two _ _ _ is 26 (two_short _ _ _ _ _ c.windows_refusal-number.ensures c.if-number-ne0.false (omega arith)))
+    (back_two _ _ _ is 26 (two_short _ _ _ _ _ (c.number_of-number.ensures ∙ c.windows_refusal.ensures) c.if-number-ne0.false (omega arith)))
 
 pub returns-then-name-ge-POINTS : goal.returns-then-name-ge-POINTS
 unfolding number_of
 returns-then-name-ge-POINTS c =
     let is = granted _ _ c.is_image.ensures (ap not c.if-not-is_image.false) in
     back_not _ _ _ 27 (λ z. omega arith)
-    (back_two _ _ _ is 27 (two_name _ _ _ _ _ c.windows_refusal-number.ensures c.if-number-ne0.false (omega arith) (omega arith)))
+    (back_two _ _ _ is 27 (two_name _ _ _ _ _ (c.number_of-number.ensures ∙ c.windows_refusal.ensures) c.if-number-ne0.false (omega arith) (omega arith)))
 
 pub returns-then-not-is_taken : goal.returns-then-not-is_taken
 unfolding number_of
@@ -50,7 +50,7 @@ returns-then-not-is_taken c =
     let room = room_lent a.store.now a.name (a.name * room_length + room_length - a.name * room_length) (omega arith) (omega arith) (omega arith) in
     back_not _ _ _ 27 (λ z. omega arith)
     (back_two _ _ _ is 27
-    (two_open _ _ _ _ _ c.windows_refusal-number.ensures c.if-number-ne0.false (omega arith) (omega arith)
+    (two_open _ _ _ _ _ (c.number_of-number.ensures ∙ c.windows_refusal.ensures) c.if-number-ne0.false (omega arith) (omega arith)
     ∙ room_none _ _ room _ (denied _ _ c.is_taken.ensures (ap not c.if-not-is_taken.true))))
 
 pub returns-then-not-suits : goal.returns-then-not-suits
@@ -61,7 +61,7 @@ returns-then-not-suits c =
     let room = room_lent a.store.now a.name (a.name * room_length + room_length - a.name * room_length) (omega arith) (omega arith) (omega arith) in
     back_not _ _ _ 28 (λ z. omega arith)
     (back_two _ _ _ is 28
-    (two_open _ _ _ _ _ c.windows_refusal-number.ensures c.if-number-ne0.false (omega arith) (omega arith)
+    (two_open _ _ _ _ _ (c.number_of-number.ensures ∙ c.windows_refusal.ensures) c.if-number-ne0.false (omega arith) (omega arith)
     ∙ room_unlike _ _ room _ (granted _ _ c.is_taken.ensures (ap not c.if-not-is_taken.false)) (denied _ _ c.suits.ensures (ap not c.if-not-suits.true))))
 
 pub returns-then-not-mask_fits : goal.returns-then-not-mask_fits
@@ -72,7 +72,7 @@ returns-then-not-mask_fits c =
     let room = room_lent a.store.now a.name (a.name * room_length + room_length - a.name * room_length) (omega arith) (omega arith) (omega arith) in
     back_not _ _ _ 1 (λ z. omega arith)
     (back_two _ _ _ is 1
-    (two_open _ _ _ _ _ c.windows_refusal-number.ensures c.if-number-ne0.false (omega arith) (omega arith)
+    (two_open _ _ _ _ _ (c.number_of-number.ensures ∙ c.windows_refusal.ensures) c.if-number-ne0.false (omega arith) (omega arith)
     ∙ room_masked _ _ room _ (granted _ _ c.is_taken.ensures (ap not c.if-not-is_taken.false)) (granted _ _ c.suits.ensures (ap not c.if-not-suits.false))
     (denied _ _ c.mask_fits.ensures (ap not c.if-not-mask_fits.true))))
 
@@ -81,7 +81,7 @@ restore-requires c =
     let is = granted _ _ c.is_image.ensures (ap not c.if-not-is_image.false) in
     let a = c.args in
     let fits : PointFits (full (point_in a.image.now a.at.a a.at.b a.a.now a.b.now))
-    = lent_fits _ _ c.windows_refusal-number.ensures c.if-number-ne0.false in
+    = lent_fits _ _ (c.number_of-number.ensures ∙ c.windows_refusal.ensures) c.if-number-ne0.false in
     (search rules, at_most a.image.now is, fits.long_a, fits.long_b)
 
 pub returns : goal.returns
@@ -91,11 +91,11 @@ returns c =
     let a = c.args in
     let room = room_lent a.store.now a.name (a.name * room_length + room_length - a.name * room_length) (omega arith) (omega arith) (omega arith) in
     let fits : PointFits (full (point_in a.image.now a.at.a a.at.b a.a.now a.b.now))
-    = lent_fits _ _ c.windows_refusal-number.ensures c.if-number-ne0.false in
+    = lent_fits _ _ (c.number_of-number.ensures ∙ c.windows_refusal.ensures) c.if-number-ne0.false in
     let suits = granted _ _ c.suits.ensures (ap not c.if-not-suits.false) in
     back_done a.store.now a.name (point_in a.image.now a.at.a a.at.b a.a.now a.b.now)
     (back_two _ _ _ is 0
-    (two_open _ _ _ _ _ c.windows_refusal-number.ensures c.if-number-ne0.false (omega arith) (omega arith)
+    (two_open _ _ _ _ _ (c.number_of-number.ensures ∙ c.windows_refusal.ensures) c.if-number-ne0.false (omega arith) (omega arith)
     ∙ room_open _ _ room _ (granted _ _ c.is_taken.ensures (ap not c.if-not-is_taken.false)) suits (granted _ _ c.mask_fits.ensures (ap not c.if-not-mask_fits.false))))
     (at_most a.image.now is) _ room suits fits.whole_a fits.whole_b _ _ _
     c.restore.ensures.0 c.restore.ensures.1 c.restore.ensures.2

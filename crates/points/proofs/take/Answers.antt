@@ -17,35 +17,35 @@ unfolding number_of
 returns-then-number-eq2 c =
     took_not _ _ _ 2 (λ z. omega arith)
     (take_two _ _ _ (granted _ _ c.is_admissible.ensures (ap not c.if-not-is_admissible.false)) 2
-    (two_unruled _ _ _ _ _ c.windows_refusal-number.ensures (λ z. omega arith) ∙ c.if-number-eq2.true))
+    (two_unruled _ _ _ _ _ (c.number_of-number.ensures ∙ c.windows_refusal.ensures) (λ z. omega arith) ∙ c.if-number-eq2.true))
 
 pub returns-then-number-ne0 : goal.returns-then-number-ne0
 unfolding number_of
 returns-then-number-ne0 c =
     took_not _ _ _ 22 (λ z. omega arith)
     (take_two _ _ _ (granted _ _ c.is_admissible.ensures (ap not c.if-not-is_admissible.false)) 22
-    (two_unruled _ _ _ _ _ c.windows_refusal-number.ensures c.if-number-ne0.true
-    ∙ shared_left _ _ c.windows_refusal-number.ensures c.if-number-eq2.false c.if-number-ne0.true))
+    (two_unruled _ _ _ _ _ (c.number_of-number.ensures ∙ c.windows_refusal.ensures) c.if-number-ne0.true
+    ∙ shared_left _ _ (c.number_of-number.ensures ∙ c.windows_refusal.ensures) c.if-number-eq2.false c.if-number-ne0.true))
 
 pub returns-then-store-lt-STORE_LEN : goal.returns-then-store-lt-STORE_LEN
 unfolding number_of
 returns-then-store-lt-STORE_LEN c =
     took_not _ _ _ 26 (λ z. omega arith)
     (take_two _ _ _ (granted _ _ c.is_admissible.ensures (ap not c.if-not-is_admissible.false)) 26
-    (two_short _ _ _ _ _ c.windows_refusal-number.ensures c.if-number-ne0.false (omega arith)))
+    (two_short _ _ _ _ _ (c.number_of-number.ensures ∙ c.windows_refusal.ensures) c.if-number-ne0.false (omega arith)))
 
 pub returns-then-name-ge-POINTS : goal.returns-then-name-ge-POINTS
 unfolding number_of
 returns-then-name-ge-POINTS c =
     took_not _ _ _ 27 (λ z. omega arith)
     (take_two _ _ _ (granted _ _ c.is_admissible.ensures (ap not c.if-not-is_admissible.false)) 27
-    (two_name _ _ _ _ _ c.windows_refusal-number.ensures c.if-number-ne0.false (omega arith) (omega arith)))
+    (two_name _ _ _ _ _ (c.number_of-number.ensures ∙ c.windows_refusal.ensures) c.if-number-ne0.false (omega arith) (omega arith)))
 
 pub fill-requires : goal.fill-requires
 fill-requires c =
     let a = c.args in
     let fits : PointFits (full (point_in a.image.now a.at.a a.at.b a.a.now a.b.now))
-    = lent_fits _ _ c.windows_refusal-number.ensures c.if-number-ne0.false in
+    = lent_fits _ _ (c.number_of-number.ensures ∙ c.windows_refusal.ensures) c.if-number-ne0.false in
     let is = and_left _ _ (granted _ _ c.is_admissible.ensures (ap not c.if-not-is_admissible.false)) in
     (search rules, at_least a.image.now is, at_most a.image.now is, fits.long_a, fits.long_b)
 
@@ -55,5 +55,5 @@ returns c =
     let a = c.args in
     took_done _ _ _
     (take_two _ _ _ (granted _ _ c.is_admissible.ensures (ap not c.if-not-is_admissible.false)) 0
-    (two_open _ _ _ _ _ c.windows_refusal-number.ensures c.if-number-ne0.false (omega arith) (omega arith)))
+    (two_open _ _ _ _ _ (c.number_of-number.ensures ∙ c.windows_refusal.ensures) c.if-number-ne0.false (omega arith) (omega arith)))
     (omega arith) (omega arith) (a.name * room_length + room_length - a.name * room_length) c.fill.new.room (omega arith) c.fill.ensures

@@ -5,7 +5,7 @@ use Rattle.sets.proofs.locals_after.Goals as goal
 
 pub returns-then-x-eq-RL : goal.returns-then-x-eq-RL
 unfolding locals_after
-returns-then-x-eq-RL c = rw (eq-eqb _ 20 c.if-x-eq-RL.true) c.least.ensures
+returns-then-x-eq-RL c = rw (eq-eqb _ 20 c.if-x-eq-RL.true) c.min.ensures
 
 pub returns : goal.returns
 unfolding locals_after

@@ -5,4 +5,4 @@ use Rattle.sets.proofs.put_set_bytes.Goals as goal
 
 pub returns-clause-put : goal.returns-clause-put
 returns-clause-put c =
-    read_same _ _ _ (c.least-count.result - 0) (omega arith) (omega (arith, c.least-count.ensures)) _ _ _ c.put_read.ensures.put
+    read_same _ _ _ (c.min-count.result - 0) (omega arith) (omega (arith, c.min-count.ensures)) _ _ _ c.put_read.ensures.put

@@ -1,4 +1,4 @@
-use Rattle.model.proofs.Prelude.{ap, refl, ◌∙◌, ◌≡◌, arith}
+use Rattle.model.proofs.Prelude.{ap, refl, ◌∙◌, arith}
 use Rattle.contexts.proofs.Prelude.{read_octa}
 use Rattle.contexts.specs.ContextWork.{loaded}
 use Rattle.contexts.proofs.UnsaveLoads.{loaded_more}
@@ -6,7 +6,7 @@ use Rattle.contexts.proofs.context.load_specials.Goals as goal
 
 pub loop-i-init : goal.loop-i-init
 unfolding loaded
-loop-i-init c = (omega arith, refl)
+loop-i-init c = refl
 
 pub offset_bounds-special-k : goal.offset_bounds-special-k
 offset_bounds-special-k c = omega (arith, c.save_special-k.ensures.1)
@@ -15,13 +15,6 @@ pub bounds-special-k : goal.bounds-special-k
 bounds-special-k c = omega (arith, c.save_special-k.ensures.1)
 
 pub loop-i-preserved : goal.loop-i-preserved
-loop-i-preserved c = (
-  omega arith,
-  loaded_more _ _ _ _ _ _ c.loop-i.invariant.1 c.save_special-k.ensures.0
-      (c.read_octa-octa.ensures.0 ∙ ap (read_octa _) c.wrapping_add-place.ensures),
-)
-
-pub returns : goal.returns
-returns c =
-    let e : c.loop-i.i ≡ 12 = omega arith in
-    rw e at c.loop-i.invariant.1
+loop-i-preserved c =
+    loaded_more _ _ _ _ _ _ c.loop-i.invariant c.save_special-k.ensures.0
+    (c.read_octa-octa.ensures.0 ∙ ap (read_octa _) c.wrapping_add-place.ensures)

@@ -1,5 +1,5 @@
 -- `save_context_judged` meets its contract: each way out is one of the plan: 1, 13, 6, done.
-use Rattle.model.proofs.Prelude.{not}
+use Rattle.model.proofs.Prelude.{reply_by, told_done, told_refused, not}
 use Rattle.model.proofs.Prelude.{ap}
 use Rattle.model.proofs.Prelude.{◌∙◌, arith, halted, denied, granted}
 use Rattle.contexts.proofs.Prelude.{missing_by}
@@ -18,11 +18,11 @@ returns-then-named-rg c = λ pc. save_local _ _ _ (granted _ _ (c.admissible.ens
 pub overflow_add-rl : goal.overflow_add-rl
 overflow_add-rl c = let e : Ranged c.args.special.now = ranged _ _ 0 0 _ _ (granted _ _ (c.admissible.ensures c.args.general.now 0 0) (ap not c.if-not-admissible.false)) in omega arith
 
-pub returns-then-number-ne0 : goal.returns-then-number-ne0
-returns-then-number-ne0 c =
+pub returns-then-ne : goal.returns-then-ne
+returns-then-ne c =
     λ pc.
-    let run = c.run_refusal-number in
-    save_missing _ _ _ (granted _ _ (c.admissible.ensures c.args.general.now pc _) (ap not c.if-not-admissible.false)) c.if-named-rg.false (λ z. c.if-number-ne0.true (run.ensures ∙ z)) _ (missing_by _ _ _ _ run.ensures c.if-number-ne0.true _ c.reply_of.ensures)
+    let run = c.run_refusal-reply in
+    save_missing _ _ _ (granted _ _ (c.admissible.ensures c.args.general.now pc _) (ap not c.if-not-admissible.false)) c.if-named-rg.false (λ z. (told_refused _ _ c.ne.ensures c.if-ne.true) (run.ensures ∙ z)) _ (missing_by _ _ _ _ run.ensures (told_refused _ _ c.ne.ensures c.if-ne.true) _ (reply_by _))
 
 pub put_away-requires : goal.put_away-requires
 put_away-requires c = (ranged _ _ 0 0 _ _ (granted _ _ (c.admissible.ensures c.args.general.now 0 0) (ap not c.if-not-admissible.false)))
@@ -34,5 +34,5 @@ pub returns : goal.returns
 returns c =
     λ pc.
     let stored = c.put_away.ensures in
-    save_done _ _ _ (granted _ _ (c.admissible.ensures c.args.general.now pc _) (ap not c.if-not-admissible.false)) c.if-named-rg.false (omega (arith, c.run_refusal-number.ensures, c.if-number-ne0.false)) _ _
-    (departed _ _ _ _ _ c.counted.ensures.1 stored.1 c.depart.ensures pc _ _ _) stored.0
+    save_done _ _ _ (granted _ _ (c.admissible.ensures c.args.general.now pc _) (ap not c.if-not-admissible.false)) c.if-named-rg.false (omega (arith, c.run_refusal-reply.ensures, (told_done _ _ c.ne.ensures c.if-ne.false))) _ _
+    (departed _ _ _ _ _ c.told-special stored.1 c.depart.ensures pc _ _ _) stored.0

@@ -15,6 +15,6 @@ returns-then-in_a-eq0 c =
 pub returns : goal.returns
 unfolding shapes_of shape_of
 returns c =
-    let shorter : 8 * c.least.result < 2 ^ 64 = omega (arith, c.least.ensures, c.room-in_a.ensures.1) in
-    piece_a _ _ _ (omega arith) (sym c.room-in_b.ensures.0 ∙ c.if-in_b-ne0.false) (omega (arith, c.least.ensures))
-    (omega (arith, c.least.ensures, c.room-in_a.ensures.0)) (omega (arith, c.least.ensures, c.distance.ensures)) shorter
+    let shorter : 8 * c.min.result < 2 ^ 64 = omega (arith, c.min.ensures, c.room-in_a.ensures.1) in
+    piece_a _ _ _ (omega arith) (sym c.room-in_b.ensures.0 ∙ c.if-in_b-ne0.false) (omega (arith, c.min.ensures))
+    (omega (arith, c.min.ensures, c.room-in_a.ensures.0)) (omega (arith, c.min.ensures, c.distance.ensures)) shorter

@@ -1,8 +1,6 @@
--- `load` meets its contract: eight bytes are two halves of four.
-use Rattle.model.proofs.Prelude.{arith, value_halves}
+-- `load` meets its contract: a number from its bytes is the library's.
+use Rattle.machine.proofs.OctabyteRuns.{octa_loaded}
 use Rattle.machine.proofs.octabytes.load.Goals as goal
 
 pub returns : goal.returns
-returns c =
-    let a = c.args in
-    omega (arith, value_halves a.bytes.now a.at)
+returns c = octa_loaded c.args.bytes.now _ c.args.at _ c.requires c.copy_from_slice.ensures.after c.from_be_bytes.ensures

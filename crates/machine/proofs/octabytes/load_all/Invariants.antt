@@ -1,10 +1,7 @@
 -- `load_all` meets its contract. The loop's invariant: the first i values are the bytes' octabytes from `at` up.
-use Rattle.model.proofs.Prelude.{◌-◌, ◌≤◌, ◌≡◌, length, take}
+use Rattle.model.proofs.Prelude.{◌≡◌, length, take}
 use Rattle.machine.specs.Octabytes.{octas}
 use Rattle.machine.proofs.octabytes.load_all.Given as goal
 
 abbrev pub invariant-loop-i : goal.invariant-loop-i
-invariant-loop-i l = (l.i ≤ length l.values) × (length l.values ≡ length l.initial.values) × (take l.i l.values ≡ octas l.bytes l.at l.i)
-
-abbrev pub decreases-loop-i : goal.decreases-loop-i
-decreases-loop-i l = length l.initial.values - l.i
+invariant-loop-i l = (length l.values ≡ length l.fn.values) × (take l.i l.values ≡ octas l.bytes l.at l.i)

@@ -8,7 +8,7 @@ pub loop-i-init : goal.loop-i-init
 loop-i-init c = (sym (over_none _ _ _ _ (omega arith)), omega arith, omega arith)
 
 pub load_piece-i-requires : goal.load_piece-i-requires
-load_piece-i-requires c = (omega arith, omega (arith, c.least-end.ensures))
+load_piece-i-requires c = (omega arith, omega (arith, c.min-end.ensures))
 
 pub loop-i-smaller : goal.loop-i-smaller
 loop-i-smaller c = omega (arith, c.load_piece-i.ensures.1)
@@ -32,5 +32,5 @@ returns c =
     let f : ℕ → ℕ = λ k. read_octa (lent a.at a.a.now a.b.now) (a.addr + 8 * (k - a.from)) in
     c.loop-i.invariant.0
     ∙ over_end _ _ _ _ _ (omega arith) (omega arith) (omega arith)
-    ∙ ap (λ (n : ℕ). over f a.from n a.general.now) c.least-end.ensures
+    ∙ ap (λ (n : ℕ). over f a.from n a.general.now) c.min-end.ensures
     ∙ over_cut f a.from a.to 256 a.general.now (omega arith)

@@ -8,7 +8,7 @@ pub loop-i-init : goal.loop-i-init
 loop-i-init c = (run_none both _ _ _ _ (omega arith), omega arith, omega arith, refl, refl)
 
 pub store_piece-i-requires : goal.store_piece-i-requires
-store_piece-i-requires c = (omega arith, omega (arith, c.least-end.ensures))
+store_piece-i-requires c = (omega arith, omega (arith, c.min-end.ensures))
 
 pub loop-i-smaller : goal.loop-i-smaller
 loop-i-smaller c = omega (arith, c.store_piece-i.ensures.1)
@@ -38,4 +38,4 @@ unfolding written_range_by
 returns c =
     let a = c.args in
     c.loop-i.invariant.0
-    ∙ ap (λ (n : ℕ). written_run (lent a.at a.a.now a.b.now) a.addr n (λ (k : ℕ). get_or a.general.now (a.from + k) 0)) (omega (arith, c.least-end.ensures))
+    ∙ ap (λ (n : ℕ). written_run (lent a.at a.a.now a.b.now) a.addr n (λ (k : ℕ). get_or a.general.now (a.from + k) 0)) (omega (arith, c.min-end.ensures))

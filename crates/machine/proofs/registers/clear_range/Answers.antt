@@ -1,17 +1,18 @@
-use Rattle.model.proofs.Prelude.{ℕ, ap, refl, sym, ◌∙◌, arith, over, over_end, over_none}
-use Rattle.machine.proofs.RegisterRanges.{over_next, over_cut}
+-- `clear_range` meets its contract: the part that is filled is the range, cut to the registers that there are.
+use Rattle.model.proofs.Prelude.{ℕ, ap, sym, ◌∙◌, arith, over, over_none}
+use Rattle.machine.proofs.RegisterRanges.{over_cut, over_filled}
 use Rattle.machine.proofs.registers.clear_range.Goals as goal
 
-pub loop-i-init : goal.loop-i-init
-loop-i-init c = (sym (over_none _ _ _ _ (omega arith)), omega arith, omega arith)
-
-pub loop-i-preserved : goal.loop-i-preserved
-loop-i-preserved c = (rw c.loop-i.invariant.0 (over_next (λ _. 0) _ _ _ 0 (omega arith) refl), omega arith, omega arith)
-
-pub returns : goal.returns
-returns c =
+pub returns-then-from-end : goal.returns-then-from-end
+returns-then-from-end c =
     let a = c.args in
-    c.loop-i.invariant.0
-    ∙ over_end _ _ _ _ _ (omega arith) (omega arith) (omega arith)
-    ∙ ap (λ (n : ℕ). over (λ (k : ℕ). 0) a.from n a.general.now) c.least-end.ensures
+    over_filled a.from c.min-end.result a.general.now c.fill.new.self (omega arith) (omega arith) (c.fill.ensures.after (λ y e. e))
+    ∙ ap (λ (n : ℕ). over (λ (k : ℕ). 0) a.from n a.general.now) c.min-end.ensures
+    ∙ over_cut (λ (k : ℕ). 0) a.from a.to 256 a.general.now (omega arith)
+
+pub returns-else-from-end : goal.returns-else-from-end
+returns-else-from-end c =
+    let a = c.args in
+    sym (over_none (λ (k : ℕ). 0) a.from c.min-end.result a.general.now c.if-from-end.false)
+    ∙ ap (λ (n : ℕ). over (λ (k : ℕ). 0) a.from n a.general.now) c.min-end.ensures
     ∙ over_cut (λ (k : ℕ). 0) a.from a.to 256 a.general.now (omega arith)

@@ -11,7 +11,7 @@ specials g l m pc halt marks mask t e f = ap (λ (q : List ℕ). made g q pc hal
 pub restore-requires : goal.restore-requires
 restore-requires c =
     let a = c.args in
-    let least = c.least-low in (
+    let least = c.min-low in (
       c.requires.1,
       omega (arith, least.ensures, c.requires.0.g_high),
       frame_read_law (lent a.at a.a.now a.b.now) a.special.now a.x a.h _ _ _ c.requires.0 c.requires.2 c.requires.1
@@ -26,8 +26,8 @@ returns c =
     let count = c.count_of-count in
     specials _ _ _ pc halt marks mask _ c.set_frame.ensures
     (left (lent a.at a.a.now a.b.now) a.special.now a.x a.h _ _ _ c.requires.0 c.requires.2 c.requires.1
-    bottom.ensures count.ensures.0 c.least-low.ensures a.general.now _ _ pc halt marks mask
+    bottom.ensures count.ensures.0 c.min-low.ensures a.general.now _ _ pc halt marks mask
     (c.restore.ensures a.special.now pc halt marks mask refl
     (low_is (lent a.at a.a.now a.b.now) a.special.now a.x a.h _ _ _ c.requires.0 c.requires.2 c.requires.1
-    bottom.ensures count.ensures.0 c.least-low.ensures a.general.now pc halt marks mask))
+    bottom.ensures count.ensures.0 c.min-low.ensures a.general.now pc halt marks mask))
     c.clear_range.ensures)

@@ -1,11 +1,11 @@
 -- `pop_at` meets its contract: the hole is read where it is lent, and then the frame.
-use Rattle.model.proofs.Prelude.{sym, ◌∙◌, arith, lent, made}
+use Rattle.model.proofs.Prelude.{no_holder, some_holder, told_done, told_refused, sym, ◌∙◌, arith, lent, made}
 use Rattle.stack.proofs.PushPopRegisters.{held_placed, hole_held, hole_lost, hole_is, frame_run}
 use Rattle.stack.proofs.PushPopAnswers.{pop_lacks, pop_short, pop_done}
 use Rattle.stack.proofs.frame.pop_at.Goals as goal
 
-pub returns-then-octa-eq-IN_NEITHER : goal.returns-then-octa-eq-IN_NEITHER
-returns-then-octa-eq-IN_NEITHER c =
+pub returns-then-is_none : goal.returns-then-is_none
+returns-then-is_none c =
     λ pc halt marks mask m.
     let a = c.args in
     let w = lent a.at a.a.now a.b.now in
@@ -14,10 +14,10 @@ returns-then-octa-eq-IN_NEITHER c =
     let found = c.read_octa-octa in
     let s = made a.general.now l pc halt marks mask in
     let good = held_placed s c.requires.0 in
-    pop_lacks w s a.x a.yz good c.requires.1.above m (hole_lost w l c.requires.1 _ hole.ensures _ found.ensures.1 c.if-octa-eq-IN_NEITHER.true)
+    pop_lacks w s a.x a.yz good c.requires.1.above m (hole_lost w l c.requires.1 _ hole.ensures _ found.ensures.1 (no_holder _ _ c.is_none.ensures c.if-is_none.true))
 
-pub returns-then-run_refusal-ne0 : goal.returns-then-run_refusal-ne0
-returns-then-run_refusal-ne0 c =
+pub returns-then-ne : goal.returns-then-ne
+returns-then-ne c =
     λ pc halt marks mask m.
     let a = c.args in
     let w = lent a.at a.a.now a.b.now in
@@ -26,15 +26,15 @@ returns-then-run_refusal-ne0 c =
     let found = c.read_octa-octa in
     let s = made a.general.now l pc halt marks mask in
     let good = held_placed s c.requires.0 in
-    pop_short w s a.x a.yz good c.requires.1.above m (hole_held w l c.requires.1 _ hole.ensures _ found.ensures.1 c.if-octa-eq-IN_NEITHER.false) _ (hole_is w l c.requires.1 _ hole.ensures _ found.ensures.0)
-    (λ i. c.if-run_refusal-ne0.true ((frame_run w l c.requires.1 _ _ _ _ (omega arith) c.wrapping_sub-bottom.ensures c.least-n.ensures c.run_refusal.ensures) ∙ i))
+    pop_short w s a.x a.yz good c.requires.1.above m (hole_held w l c.requires.1 _ hole.ensures _ found.ensures.1 (some_holder _ _ c.is_none.ensures c.if-is_none.false)) _ (hole_is w l c.requires.1 _ hole.ensures _ found.ensures.0)
+    (λ i. (told_refused _ _ c.ne.ensures c.if-ne.true) ((frame_run w l c.requires.1 _ _ _ _ (omega arith) c.wrapping_sub-bottom.ensures c.min-n.ensures c.run_refusal.ensures) ∙ i))
 
 pub leave-requires : goal.leave-requires
 leave-requires c =
     let a = c.args in
     let w = lent a.at a.a.now a.b.now in
     let l = a.special.now in
-    (c.requires.0, omega arith, c.requires.1, sym (frame_run w l c.requires.1 _ _ _ _ (omega arith) c.wrapping_sub-bottom.ensures c.least-n.ensures c.run_refusal.ensures) ∙ c.if-run_refusal-ne0.false)
+    (c.requires.0, omega arith, c.requires.1, sym (frame_run w l c.requires.1 _ _ _ _ (omega arith) c.wrapping_sub-bottom.ensures c.min-n.ensures c.run_refusal.ensures) ∙ (told_done _ _ c.ne.ensures c.if-ne.false))
 
 pub returns : goal.returns
 returns c =
@@ -46,6 +46,6 @@ returns c =
     let found = c.read_octa-octa in
     let s = made a.general.now l pc halt marks mask in
     let good = held_placed s c.requires.0 in
-    pop_done w s a.x a.yz good c.requires.1.above m (hole_held w l c.requires.1 _ hole.ensures _ found.ensures.1 c.if-octa-eq-IN_NEITHER.false) _ (hole_is w l c.requires.1 _ hole.ensures _ found.ensures.0) _ _
-    (sym (frame_run w l c.requires.1 _ _ _ _ (omega arith) c.wrapping_sub-bottom.ensures c.least-n.ensures c.run_refusal.ensures) ∙ c.if-run_refusal-ne0.false)
+    pop_done w s a.x a.yz good c.requires.1.above m (hole_held w l c.requires.1 _ hole.ensures _ found.ensures.1 (some_holder _ _ c.is_none.ensures c.if-is_none.false)) _ (hole_is w l c.requires.1 _ hole.ensures _ found.ensures.0) _ _
+    (sym (frame_run w l c.requires.1 _ _ _ _ (omega arith) c.wrapping_sub-bottom.ensures c.min-n.ensures c.run_refusal.ensures) ∙ (told_done _ _ c.ne.ensures c.if-ne.false))
     (c.leave.ensures pc halt marks mask) c.wrapping_add-target.ensures

@@ -36,7 +36,7 @@ pub pop_at-requires : goal.pop_at-requires
 pop_at-requires c =
     let a = c.args in
     let s = made a.general.now a.special.now 0 0 0 0 in
-    (held_by s (granted _ _ (c.is_placed.ensures (made a.general.now a.special.now 0 0 0 0) refl refl) (ap not c.if-not-is_placed.false)) (omega (arith, c.counted.ensures.1)), placed_by s c.if-ro-le-STACK_START.false (sym (c.is_misplaced.ensures s refl) ∙ c.if-is_misplaced.false))
+    (held_by s (granted _ _ (c.is_placed.ensures (made a.general.now a.special.now 0 0 0 0) refl refl) (ap not c.if-not-is_placed.false)) (omega (arith, c.told-special)), placed_by s c.if-ro-le-STACK_START.false (sym (c.is_misplaced.ensures s refl) ∙ c.if-is_misplaced.false))
 
 pub returns : goal.returns
 returns c =

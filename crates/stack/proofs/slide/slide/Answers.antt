@@ -3,7 +3,7 @@ use Rattle.machine.proofs.RegisterRanges.{over_next}
 use Rattle.stack.proofs.slide.slide.Goals as goal
 
 pub loop-i-init : goal.loop-i-init
-loop-i-init c = (sym (over_none _ _ _ _ (omega arith)), omega arith)
+loop-i-init c = sym (over_none _ _ _ _ (omega arith))
 
 pub loop-i-preserved : goal.loop-i-preserved
 loop-i-preserved c =
@@ -11,10 +11,10 @@ loop-i-preserved c =
     let i = c.loop-i.i in
     let g = a.general.now in
     let f : ℕ → ℕ = λ k. get_or g (a.from + k) 0 in
-    (rw c.loop-i.invariant.0 (over_next f 0 i g _ (omega arith) (over_after f 0 i g (a.from + i) (omega arith))), omega arith)
+    rw c.loop-i.invariant (over_next f 0 i g _ (omega arith) (over_after f 0 i g (a.from + i) (omega arith)))
 
 pub returns : goal.returns
 returns c =
     let a = c.args in
     let e : c.loop-i.i ≡ a.n = omega arith in
-    c.loop-i.invariant.0 ∙ ap (λ (i : ℕ). over (λ (k : ℕ). get_or a.general.now (a.from + k) 0) 0 i a.general.now) e
+    c.loop-i.invariant ∙ ap (λ (i : ℕ). over (λ (k : ℕ). get_or a.general.now (a.from + k) 0) 0 i a.general.now) e

@@ -3,7 +3,5 @@ use Rattle.model.proofs.Prelude.{min, ℕ, ◌-◌, ◌≤◌, ◌≡◌, get_or
 use Rattle.stack.proofs.slide.slide_up.Given as goal
 
 abbrev pub invariant-loop-k : goal.invariant-loop-k
-invariant-loop-k l = (l.general ≡ over (λ (j : ℕ). get_or l.initial.general (j - l.by) 0) l.k l.to l.initial.general) × (l.k ≤ l.to) × (min l.by l.to ≤ l.k)
-
-abbrev pub decreases-loop-k : goal.decreases-loop-k
-decreases-loop-k l = l.k
+invariant-loop-k l = (l.general ≡ over (λ (j : ℕ). get_or l.initial.general (j - l.by) 0) l.k l.to l.initial.general)
+    × (min l.by l.to ≤ l.k)

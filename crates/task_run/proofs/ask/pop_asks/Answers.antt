@@ -1,5 +1,5 @@
 -- `pop_asks` meets its contract: with no frame, nothing; the octabyte below rO; then the locals.
-use Rattle.model.proofs.Prelude.{sym, ◌∙◌, arith, made}
+use Rattle.model.proofs.Prelude.{no_holder, some_holder, sym, ◌∙◌, arith, made}
 use Rattle.task_run.proofs.Asks.{differ, pop_nothing, pop_foreign, pop_missing, pop_rest}
 use Rattle.task_run.proofs.ask.pop_asks.Goals as goal
 
@@ -17,12 +17,12 @@ pub returns-then-is_foreign : goal.returns-then-is_foreign
 returns-then-is_foreign c = λ general pc halt marks mask.
     pop_foreign _ _ (made general _ pc halt marks mask) c.requires (record { above = c.if-ro-le-STACK_START.false; even = c.if-ro-ne0.false; positive = sym c.is_negative.ensures ∙ c.if-is_negative.false }) _ c.is_foreign.ensures c.if-is_foreign.true
 
-pub returns-then-octa-eq-NEITHER : goal.returns-then-octa-eq-NEITHER
-returns-then-octa-eq-NEITHER c = λ general pc halt marks mask.
+pub returns-then-is_none : goal.returns-then-is_none
+returns-then-is_none c = λ general pc halt marks mask.
     pop_missing _ _ (made general _ pc halt marks mask) c.requires (record { above = c.if-ro-le-STACK_START.false; even = c.if-ro-ne0.false; positive = sym c.is_negative.ensures ∙ c.if-is_negative.false }) _ c.is_foreign.ensures c.if-is_foreign.false
-    _ c.read_octa-octa.ensures.1 c.if-octa-eq-NEITHER.true
+    _ c.read_octa-octa.ensures.1 (no_holder _ _ c.is_none.ensures c.if-is_none.true)
 
 pub returns : goal.returns
 returns c = λ general pc halt marks mask.
     pop_rest _ _ (made general _ pc halt marks mask) c.requires (record { above = c.if-ro-le-STACK_START.false; even = c.if-ro-ne0.false; positive = sym c.is_negative.ensures ∙ c.if-is_negative.false }) _ c.is_foreign.ensures c.if-is_foreign.false
-    _ c.read_octa-octa.ensures.1 c.if-octa-eq-NEITHER.false _ _ c.read_octa-octa.ensures.0 c.least-n.ensures _ c.has_foreign.ensures
+    _ c.read_octa-octa.ensures.1 (some_holder _ _ c.is_none.ensures c.if-is_none.false) _ _ c.read_octa-octa.ensures.0 c.min-n.ensures _ c.has_foreign.ensures

@@ -1,9 +1,0 @@
--- `store_down` meets its contract. The loop's invariant: the bytes of v from number k up stand in the bytes, and nothing else has changed.
-use Rattle.model.proofs.Prelude.{◌+◌, ◌-◌, ◌≤◌, ◌≡◌, get_or, length, over, bytes_of}
-use Rattle.machine.proofs.octabytes.store_down.Given as goal
-
-abbrev pub invariant-loop-k : goal.invariant-loop-k
-invariant-loop-k l = (l.k ≤ 8) × (l.bytes ≡ over (λ j. get_or (bytes_of l.v) (j - l.at) 0) (l.at + l.k) (l.at + 8) l.initial.bytes) × (length l.bytes ≡ length l.initial.bytes)
-
-abbrev pub decreases-loop-k : goal.decreases-loop-k
-decreases-loop-k l = l.k
