@@ -62,9 +62,6 @@ cut_same s l n f = ⊎_elim
     both_long s _ _ (omega (arith, pairs_count (octas l 0 n), length_octas l 0 n)) (omega (arith, pairs_count (octas l 0 (length l / 8)), length_octas l 0 (length l / 8))))
     (lt_or_le (length l / 8) 66)
 
-pub of_read : (s : State) (l vs : List ℕ) → vs ≡ l → (r i : ℕ) (t : State) → PutSet s (pairs_of vs) r i t → PutSet s (pairs_of l) r i t
-of_read s l vs e r i t g = rw e at g
-
 pub read_same : (s : State) (l vs : List ℕ) (n : ℕ) → length vs ≡ n → n ≡ min (length l / 8) 66 → (r i : ℕ) (t : State)
     → PutSet s (pairs_of (loaded_octas l 0 vs)) r i t → PutSet s (pairs_in l) r i t
 read_same s l vs n e f r i t g =

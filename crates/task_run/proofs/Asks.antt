@@ -1,36 +1,15 @@
 -- The questions of `ask`, over plain variables: one octabyte, a run of them octabyte by octabyte, and, in windows that have nothing foreign, a run with what
 -- follows where it passes.
 use Rattle.model.proofs.Prelude.{max, min, suc, ℕ, ◌%◌, ◌*◌, ◌+◌, ◌-◌, ◌<◌, ◌^◌, ◌≤◌, Bool, cond, false, not, true, ◌&&◌, ◌||◌, List, [], ap, refl, sym, ◌∙◌}
-use Rattle.model.proofs.Prelude.{◌≡◌, arith, eqb, ltb, eq-eqb, eqb-true, le-leb, le-ltb, leb-false, lt-leb, lt-ltb, ltb-true, is_negative, misplaced, no_frame}
-use Rattle.model.proofs.Prelude.{both, has, holder, inside, offset, shapes_of, Windows, clear, look, ups, worst, r_g, r_o, sp, stack_start, refusing, hole_below}
+use Rattle.model.proofs.Prelude.{◌≡◌, arith, eqb, ltb, eq-eqb, eqb-true, leb-false, lt-leb, lt-ltb, ltb-true, is_negative, misplaced, no_frame}
+use Rattle.model.proofs.Prelude.{both, holder, inside, shapes_of, Windows, clear, look, ups, worst, r_g, r_o, sp, stack_start, refusing, hole_below}
 use Rattle.model.proofs.Prelude.{pop_needs, run, and_left, and_right, judged_inside}
-use Rattle.task_run.proofs.Prelude.{State, read_octa, held_inside, held_none, octa_held, any_foreign, foreign, owns, any_mod, any_one, any_run}
+use Rattle.task_run.proofs.Prelude.{State, read_octa, held_inside, held_none, octa_held, any_foreign, any_mod, any_one, any_run}
 use Rattle.task_run.specs.Ask.{own_of, whole_of, is_foreign, asks, OwnOnly}
 use Rattle.task_run.specs.declared.ask.Whole.{Whole}
-use Rattle.task_run.proofs.PartShapes.{and_none}
-
--- ---- one octabyte, d bytes from B's base
 
 pub differ : true ≡ false → ⊥
 differ e = let z : ◌≡◌ {A = ℕ} 0 1 = cc in omega arith
-
-module _ (h : Whole) (x d : ℕ) (e : d ≡ offset h.base x) where
-  pub asked_out : h.len < d + 8 → false ≡ is_foreign h x
-  unfolding foreign has
-  asked_out l = rw (lt-leb (offset h.base x + 8) h.len (omega arith))
-
-  pub asked_own : h.part.start ≤ d → d < h.part.start + h.part.len → false ≡ is_foreign h x
-  unfolding foreign owns
-  asked_own l m = rw (le-leb h.part.start (offset h.base x) (omega arith), lt-ltb (offset h.base x) (h.part.start + h.part.len) (omega arith)) (sym (and_none (has (whole_of h).b x)))
-
-  pub asked_before : d + 8 ≤ h.len → d < h.part.start → true ≡ is_foreign h x
-  unfolding foreign has owns
-  asked_before l m = rw (le-leb (offset h.base x + 8) h.len (omega arith), lt-leb h.part.start (offset h.base x) (omega arith))
-
-  pub asked_behind : d + 8 ≤ h.len → h.part.start ≤ d → h.part.start + h.part.len ≤ d → true ≡ is_foreign h x
-  unfolding foreign has owns
-  asked_behind l m n =
-      rw (le-leb (offset h.base x + 8) h.len (omega arith), le-leb h.part.start (offset h.base x) (omega arith), le-ltb (offset h.base x) (h.part.start + h.part.len) (omega arith))
 
 -- ---- a run of n from a up: i are passed, and the next is at b
 

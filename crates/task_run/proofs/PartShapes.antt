@@ -24,17 +24,6 @@ part_ruled_law n p e =
       within = leb-true _ _ (and_right (eqb (p.size % 8) 0) _ f);
     }
 
-pub is_part : (n : ℕ) (p : Own) → Part n p → true ≡ part_ruled n p
-unfolding part_ruled
-is_part n p k = rw (eq-eqb _ _ k.start_octas, eq-eqb _ _ k.size_octas, le-leb _ _ k.within)
-
-pub not_part : (n : ℕ) (p : Own) → (Part n p → ⊥) → false ≡ part_ruled n p
-not_part n p f = go (part_ruled n p) refl
-  where
-    go : (t : Bool) → part_ruled n p ≡ t → false ≡ t
-    go true e = absurd (f (part_ruled_law n p e))
-    go false e = refl
-
 -- ---- distances
 
 plain : (b x : ℕ) → b < 2 ^ 64 → offset b x ≡ (octa x + (2 ^ 64 - b)) % 2 ^ 64

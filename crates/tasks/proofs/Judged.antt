@@ -1,9 +1,9 @@
 -- What the tests of a call come to: tests at each number so far, parts, 33, and what refuses the call.
 use Rattle.model.proofs.Prelude.{suc, zero, ℕ, ◌%◌, ◌+◌, ◌<◌, ◌≤◌, Bool, false, not, true, ◌&&◌, List, ap, refl, sym, ◌∙◌, ◌≡◌, ℕ_discrete, add-one, arith, eqb}
-use Rattle.model.proofs.Prelude.{leb, ltb, length, eq-eqb, le-leb, le-ltb, leb-true, lt-leb, lt-ltb, ne_eqb, Shapes, grant_most, unruled_by, and_left, and_right}
+use Rattle.model.proofs.Prelude.{leb, length, eq-eqb, le-ltb, leb-true, lt-ltb, ne_eqb, Shapes, grant_most, unruled_by, and_left, and_right}
 use Rattle.model.proofs.Prelude.{denied, granted}
 use Rattle.tasks.proofs.Prelude.{State, all_admissible, call_refusal, each_below, overlaps, part_at, part_clear, part_ruled, tasks_in, tasks_ruled, turn_most}
-use Rattle.tasks.proofs.Prelude.{Own, owns, at_below}
+use Rattle.tasks.proofs.Prelude.{Own, at_below}
 
 pub and_false : (t : Bool) → (t && false) ≡ false
 and_false true = refl
@@ -32,23 +32,6 @@ pub below_all : (n k : ℕ) (P : ℕ → Bool) → k ≡ n → each_below k P �
 below_all n k P q e = sym (ap (λ (i : ℕ). each_below i P) (sym q) ∙ e)
 
 -- ---- parts
-
-module _ (p : Own) (d : ℕ) where
-  pub owned_before : d < p.start → false ≡ owns p d
-  unfolding owns
-  owned_before l = rw (lt-leb p.start d l)
-
-  pub owned_after : p.start + p.size ≤ d → false ≡ owns p d
-  unfolding owns
-  owned_after l = rw (le-ltb d (p.start + p.size) l, and_false)
-
-pub overlaps_first : (p r : Own) → (ltb 0 r.size && owns p r.start) ≡ true → true ≡ overlaps p r
-unfolding overlaps
-overlaps_first p r e = rw e
-
-pub overlaps_else : (p r : Own) → (ltb 0 r.size && owns p r.start) ≡ false → (ltb 0 p.size && owns r p.start) ≡ overlaps p r
-unfolding overlaps
-overlaps_else p r e = rw e
 
 -- part k overlaps none of the first j
 abbrev pub clear_so : List ℕ → ℕ → ℕ → Bool
@@ -86,36 +69,6 @@ pub ruled_all : (b : ℕ) (ns : List ℕ) (n k : ℕ) → k ≡ n → ruled_so b
 ruled_all b ns n k e c = below_all n k (λ j. part_ruled b (part_at ns j)) e c
 
 -- ---- 33
-
-module _ (b : ℕ) (ns : List ℕ) (q : ℕ) where
-  pub rule_even : (length ns % 2 ≡ 0 → ⊥) → false ≡ tasks_ruled b ns q
-  unfolding tasks_ruled
-  rule_even d = rw (ne_eqb (length ns % 2) 0 d)
-
-  pub rule_some : tasks_in ns < 1 → false ≡ tasks_ruled b ns q
-  unfolding tasks_ruled
-  rule_some l = simp (lt-leb 1 (tasks_in ns) l, and_false)
-
-  pub rule_few : 8 < tasks_in ns → false ≡ tasks_ruled b ns q
-  unfolding tasks_ruled
-  rule_few l = simp (lt-leb (tasks_in ns) 8 l, and_false)
-
-  pub rule_turn : q < 1 → false ≡ tasks_ruled b ns q
-  unfolding tasks_ruled
-  rule_turn l = simp (lt-leb 1 q l, and_false)
-
-  pub rule_most : turn_most < q → false ≡ tasks_ruled b ns q
-  unfolding tasks_ruled
-  rule_most l = simp (lt-leb q turn_most l, and_false)
-
-  pub rule_part : ruled_so b ns (tasks_in ns) ≡ false → false ≡ tasks_ruled b ns q
-  unfolding tasks_ruled
-  rule_part e = simp (e, and_false)
-
-  pub rule_clear : length ns % 2 ≡ 0 → 1 ≤ tasks_in ns → tasks_in ns ≤ 8 → 1 ≤ q → q ≤ turn_most → ruled_so b ns (tasks_in ns) ≡ true
-      → each_below (tasks_in ns) (part_clear ns) ≡ tasks_ruled b ns q
-  unfolding tasks_ruled
-  rule_clear a d e f g h = rw (eq-eqb (length ns % 2) 0 a, le-leb 1 (tasks_in ns) d, le-leb (tasks_in ns) 8 e, le-leb 1 q f, le-leb q turn_most g, h)
 
 -- what a call that 33 does not refuse has, beside the laws of task_model
 pub record Ruled (b : ℕ) (ns : List ℕ) (q : ℕ) : Type 0 where

@@ -6,7 +6,7 @@ pub use Rattle.task_model.specs.Schedule.{Desk, gave, Given, is_over, opened, ru
 unfoldable pub use Rattle.task_model.specs.Schedule.{any_runs, call_by, count_by, refusal_by, rounds, turn_of, turns_from}
 pub use Rattle.task_model.specs.Tasks.{mmix_in, Own, task_of}
 unfoldable pub use Rattle.task_model.specs.Tasks.{owns}
-pub use Rattle.task_model.proofs.Parts.{at_below, is_owned}
+pub use Rattle.task_model.proofs.Parts.{at_below}
 pub use Rattle.task_model.proofs.SameCall.{call_same, SameDesk, SameStop}
 unfoldable pub use Rattle.task_run.specs.RunIn.{run_in}
 pub use Rattle.image.specs.Image.{image_as, is_image, state_of, stored_in}

@@ -59,6 +59,7 @@ fn are_clear(parts: &[u64], n: usize) -> bool
     requires { 2 * n ≤ length parts.now }
     ensures { result ≡ each_below n (part_clear parts.now) }
 {
+    // Not `(0..n).all(..)`: of that no answer proves `each_below`.
     for k in 0..n {
         if !is_clear(parts, k) {
             return false;
@@ -82,29 +83,18 @@ fn are_ruled(parts: &[u64], n: usize, b_len: u64) -> bool
 }
 
 /// Whether there are 1 to 8 tasks and q is 1 to 1,000, and the parts are what parts should be.
+#[tactic(auto, unfolding(task_model::specs::Call::tasks_ruled))]
 fn is_ruled(parts: &[u64], b_len: u64, q: u64) -> bool
     ensures { result ≡ tasks_ruled b_len parts.now q }
 {
     let n = parts.len() / 2;
-    if parts.len() % 2 != 0 {
-        return false;
-    }
-    if n < 1 {
-        return false;
-    }
-    if super::TASKS_MAX < n {
-        return false;
-    }
-    if q < 1 {
-        return false;
-    }
-    if TURN_MOST < q {
-        return false;
-    }
-    if !are_ruled(parts, n, b_len) {
-        return false;
-    }
-    are_clear(parts, n)
+    parts.len() % 2 == 0
+        && 1 <= n
+        && n <= super::TASKS_MAX
+        && 1 <= q
+        && q <= TURN_MOST
+        && are_ruled(parts, n, b_len)
+        && are_clear(parts, n)
 }
 
 /// How long each of n images is.
