@@ -94,7 +94,7 @@ fn pop_asks(special: &[u64; 32], windows: WindowsRef<'_>, whole: Whole) -> bool
         return false;
     }
     let h = octa.value % 256;
-    let n = machine::number::least(h, rg);
+    let n = h.min(rg);
     has_foreign(whole, ro - 8 * (h + 1), n)
 }
 
@@ -173,10 +173,10 @@ fn arm_asks(
         (arm_of i.op) i.x i.y i.z) }
 {
     if opcode::is_among(i.op, opcode::FIRST_LOAD, opcode::LAST_LOAD) {
-        return is_foreign(whole, arms::control::sum(general, i.op, i.y, i.z));
+        return is_foreign(whole, arms::control::sum(general, &i));
     }
     if opcode::is_among(i.op, opcode::FIRST_STORE, opcode::LAST_STORE) {
-        return is_foreign(whole, arms::control::sum(general, i.op, i.y, i.z));
+        return is_foreign(whole, arms::control::sum(general, &i));
     }
     // An arm a key: of an or-pattern a proof is told ranges in place of the keys.
     match i.op {
@@ -202,9 +202,7 @@ pub(crate) fn asks_foreign(state: &StateMut<'_>, windows: WindowsRef<'_>, whole:
     if found.holder.is_none() {
         return is_foreign(whole, pc);
     }
-    let v = found.value;
-    let tetra = decode::operand::tetra_at(pc, v);
-    let i = Instruction::from(tetra as u32);
+    let i = Instruction::from(decode::operand::tetra_at(pc, found.value));
     if !opcode::claims(i.op) {
         return arm_asks(state.general, state.special, windows, whole, i);
     }

@@ -5,6 +5,7 @@
 ghost use Rattle.std.specs.Prelude.{◌≡◌, true};
 ghost use Rattle.model.specs.Memory.{shapes_of};
 ghost use Rattle.model.specs.Registers.{admissible};
+ghost use Rattle.model.specs.Numbers.{number_of};
 ghost use Rattle.model.specs.Step.{unruled_by};
 ghost use Rattle.model.specs.Run.{run_of};
 ghost use Rattle.model.specs.Parts.{lent};
@@ -16,7 +17,8 @@ ghost use Rattle.task_run.specs.RunIn.{own, lost, run_in};
 ghost use Rattle.task_run.specs.Ask.{OwnOnly, told};
 
 use ask::Whole;
-use model::{Bases, GRANT_MOST, StateMut, WindowsMut, WindowsRef, replies};
+use instruction::run::Ran;
+use model::{Bases, GRANT_MOST, Reply, StateMut, WindowsMut};
 
 mod ask;
 
@@ -48,42 +50,34 @@ impl Part {
     }
 }
 
-/// Up to `grant` instructions of a task on A and its own part of B. How many were done is written at every reply.
-pub fn run(
-    state: &mut StateMut<'_>,
-    windows: &mut WindowsMut<'_>,
-    part: Part,
-    grant: u64,
-    done: &mut u64,
-) -> u64
+/// Up to `grant` instructions of a task on A and its own part of B.
+pub fn run(state: &mut StateMut<'_>, windows: &mut WindowsMut<'_>, part: Part, grant: u64) -> Ran
     ensures same_state { SameState state.old state.new }
     ensures same_windows { SameWindows windows.old windows.new }
     ensures ran { RunNumbered
         (run_in (windows_lent windows.old) (state_lent state.old) (own part) grant)
-        result done.new
+        (number_of result.reply) result.done
         (state_lent state.new) (windows_lent windows.new) }
 {
-    *done = 0;
     let at = windows.at;
     stack::pass::counted(state.general, state.special);
     let lent = windows.read();
-    let refused = stack::pass::refusal(
-        state.special,
-        state.marks,
-        state.mask,
-        lent.a,
-        lent.b,
-        lent.at,
-    );
-    if refused != replies::DONE {
-        return refused;
+    let reply = stack::pass::refusal(state.special, state.marks, state.mask, lent.a, lent.b, lent.at);
+    if reply != Reply::Done {
+        return Ran { reply, done: 0 };
     }
     if GRANT_MOST < grant {
-        return replies::GRANT_TOO_LARGE;
+        return Ran {
+            reply: Reply::GrantTooLarge,
+            done: 0,
+        };
     }
     let len = windows.b.len() as u64;
     if !part.is_ruled(len) {
-        return replies::TASKS_RULE;
+        return Ran {
+            reply: Reply::TasksRule,
+            done: 0,
+        };
     }
     let whole = Whole {
         base: at.b,
@@ -97,22 +91,15 @@ pub fn run(
         b: model::number::wrapping_add(at.b, part.start),
     };
     let b = &mut *windows.b;
-    run_own(
-        state,
-        windows.a,
-        &mut b[start..end],
-        own_at,
-        whole,
-        grant,
-        done,
-    )
+    run_own(state, windows.a, &mut b[start..end], own_at, whole, grant)
 }
 
-/// Whether a number says that an octabyte, or the tetra at PC, is in neither window.
-fn is_lost(number: u64) -> bool
-    ensures { result ≡ lost number }
+/// Whether a reply says that an octabyte, or the tetra at PC, is in neither window.
+#[tactic(auto, unfolding(crate::specs::RunIn::lost, model::specs::Numbers::number_of))]
+fn is_lost(reply: Reply) -> bool
+    ensures { result ≡ lost (number_of reply) }
 {
-    number == replies::MISSING || number == replies::NOT_FETCHED
+    matches!(reply, Reply::Missing | Reply::NotFetched)
 }
 
 /// The run on A and the part, `b`; 32 in the place of 6 or 24 where the instruction asked for what is foreign.
@@ -123,36 +110,27 @@ fn run_own(
     at: Bases,
     whole: Whole,
     grant: u64,
-    done: &mut u64,
-) -> u64
+) -> Ran
     requires { (admissible (state_lent state.old) ≡ true)
         × (unruled_by (shapes_of (lent at a.old b.old)) ≡ 0)
         × OwnOnly whole (lent at a.old b.old) }
     ensures same { SameState state.old state.new }
     ensures ran { RunNumbered
         (told whole (run_of (lent at a.old b.old) (state_lent state.old) grant))
-        result done.new
+        (number_of result.reply) result.done
         (state_lent state.new) (lent at a.new b.new) }
 {
     stack::pass::counted(state.general, state.special);
-    let number = instruction::run::run(
-        state.general,
-        state.special,
-        state.pc,
-        state.halt,
-        state.marks,
-        state.mask,
-        a,
-        b,
-        at,
-        grant,
-        done,
-    );
-    if !is_lost(number) {
-        return number;
+    let mut own = WindowsMut { a, b, at };
+    let ran = instruction::run::run(state, &mut own, grant);
+    if !is_lost(ran.reply) {
+        return ran;
     }
-    if ask::asks_foreign(state, WindowsRef { a, b, at }, whole) {
-        return replies::FOREIGN;
+    if ask::asks_foreign(state, own.read(), whole) {
+        return Ran {
+            reply: Reply::Foreign,
+            done: ran.done,
+        };
     }
-    number
+    ran
 }

@@ -4,6 +4,7 @@ ghost use Rattle.std.specs.Prelude.{◌≡◌, true, List, ℕ, ◌+◌, ◌≤�
 ghost use Rattle.model.specs.Fill.{tab};
 ghost use Rattle.model.specs.Memory.{Windows};
 ghost use Rattle.model.specs.Lent.{windows_lent, SameWindows};
+ghost use Rattle.model.specs.Numbers.{number_of};
 ghost use Rattle.model.specs.Run.{grant_most};
 ghost use Rattle.image.specs.Image.{is_image};
 ghost use Rattle.task_model.specs.Schedule.{Given, refusal_by, any_runs, Desk, turn_of, turns_from, rounds};
@@ -12,21 +13,17 @@ ghost use Rattle.task_run.specs.RunIn.{own};
 ghost use Rattle.tasks.specs.Desks.{image_turn, tasks_turn, Turned, At, Shown, Ready, Played};
 
 use super::judge;
+use instruction::run::Ran;
+use model::replies::number_of;
 use model::{StateMut, WindowsMut};
 use task_run::Part;
 
-/// One turn of a task on its image: up to `grant` instructions. How many were done is written.
-fn image_turn(
-    image: &mut [u8],
-    windows: &mut WindowsMut<'_>,
-    part: Part,
-    grant: u64,
-    done: &mut u64,
-) -> u64
+/// One turn of a task on its image: up to `grant` instructions.
+fn image_turn(image: &mut [u8], windows: &mut WindowsMut<'_>, part: Part, grant: u64) -> Ran
     requires { is_image image.old ≡ true }
     ensures same { SameWindows windows.old windows.new }
     ensures turned { Turned (image_turn (windows_lent windows.old) image.old (own part) grant)
-        result done.new image.new (windows_lent windows.new) }
+        (number_of result.reply) result.done image.new (windows_lent windows.new) }
 {
     let mut general = [0; 256];
     let mut special = [0; 32];
@@ -39,9 +36,9 @@ fn image_turn(
         marks: rest.marks,
         mask: rest.mask,
     };
-    let number = task_run::run(&mut state, windows, part, grant, done);
+    let ran = task_run::run(&mut state, windows, part, grant);
     image::store_state(image, &general, &special, rest);
-    number
+    ran
 }
 
 /// The turn of task k, where something is left and k has not stopped; what is left after it.
@@ -72,11 +69,10 @@ fn turn(
     let end = start + each;
     let own = judge::part_at(parts, k);
     let grant = q.min(left);
-    let mut done: u64 = 0;
-    let number = image_turn(&mut images[start..end], windows, own, grant, &mut done);
-    refusals[k] = number;
-    counts[k] += done;
-    left - done
+    let ran = image_turn(&mut images[start..end], windows, own, grant);
+    refusals[k] = number_of(ran.reply);
+    counts[k] += ran.done;
+    left - ran.done
 }
 
 /// One round: the turn of each task, in order of number; what is left after it.

@@ -12,7 +12,7 @@ returns-then-is_none c = λ a.
 
 pub returns-then-not-claims : goal.returns-then-not-claims
 returns-then-not-claims c = λ a.
-    fetched_asks _ _ c.requires.1 (state_lent c.args.state.now) a c.requires.2 _ c.read_octa-found.ensures.1 (some_holder _ _ c.is_none.ensures c.if-is_none.false) _ _ c.read_octa-found.ensures.0 c.tetra_at-tetra.ensures
+    fetched_asks _ _ c.requires.1 (state_lent c.args.state.now) a c.requires.2 _ c.read_octa-found.ensures.1 (some_holder _ _ c.is_none.ensures c.if-is_none.false) _ _ c.read_octa-found.ensures.0 c.tetra_at.ensures
     _ c.from-i.ensures
     (state_lent c.args.state.now) (plain_claim _ _ _ (denied _ _ c.claims.ensures (ap not c.if-not-claims.true))) _ (c.arm_asks.ensures _ _ _ _)
 
@@ -23,7 +23,7 @@ arm_asks-requires-2 c =
 pub returns : goal.returns
 returns c = λ a.
     let s = state_lent c.args.state.now in
-    fetched_asks _ _ c.requires.1 s a c.requires.2 _ c.read_octa-found.ensures.1 (some_holder _ _ c.is_none.ensures c.if-is_none.false) _ _ c.read_octa-found.ensures.0 c.tetra_at-tetra.ensures
+    fetched_asks _ _ c.requires.1 s a c.requires.2 _ c.read_octa-found.ensures.1 (some_holder _ _ c.is_none.ensures c.if-is_none.false) _ _ c.read_octa-found.ensures.0 c.tetra_at.ensures
     _ c.from-i.ensures
     (made c.claim_local.new.general c.claim_local.new.special s.pc s.halt s.marks s.mask)
     (marginal_claim _ _ _ _ (granted _ _ c.claims.ensures (ap not c.if-not-claims.false)) (c.claim_local.ensures s))
