@@ -34,7 +34,7 @@ fn locals_after(rl: u64, x: u64, value: u64) -> u64
     ensures { result ≡ locals_after rl (pair x value) }
 {
     if x == RL {
-        return machine::number::least(value, rl);
+        return value.min(rl);
     }
     rl
 }

@@ -1,13 +1,14 @@
 // What refuses a call of several tasks whole.
 ghost use Rattle.std.specs.Prelude.{◌≡◌, ◌&&◌, List, ℕ, ◌+◌, ◌*◌, ◌≤◌, ltb, length};
 ghost use Rattle.model.specs.Memory.{shapes_of};
+ghost use Rattle.model.specs.Numbers.{number_of};
 ghost use Rattle.model.specs.Lent.{windows_read};
 ghost use Rattle.task_model.specs.Tasks.{owns};
 ghost use Rattle.task_model.specs.Call.{tasks_in, part_at, each_below, part_ruled, overlaps, part_clear, tasks_ruled, all_admissible, call_refusal};
 ghost use Rattle.task_run.specs.RunIn.{own};
 ghost use Rattle.tasks.specs.Images.{each_length, states_in};
 
-use model::{GRANT_MOST, IMAGE_LEN, OLD_IMAGE_LEN, WindowsRef, replies};
+use model::{GRANT_MOST, IMAGE_LEN, OLD_IMAGE_LEN, Reply, WindowsRef};
 use task_run::Part;
 
 /// The most instructions a turn.
@@ -134,22 +135,22 @@ pub(crate) fn call_refusal(
     windows: WindowsRef<'_>,
     q: u64,
     grant: u64,
-) -> u64
-    ensures { result ≡ call_refusal (shapes_of (windows_read windows.entry))
+) -> Reply
+    ensures { number_of result ≡ call_refusal (shapes_of (windows_read windows.entry))
         (states_in (tasks_in parts.now) images.now) parts.now q grant }
 {
-    let number = machine::memory::windows_refusal(windows.a, windows.b, windows.at);
-    if number != replies::DONE {
-        return number;
+    let refused = machine::memory::windows_refusal(windows.a, windows.b, windows.at);
+    if refused != Reply::Done {
+        return refused;
     }
     if GRANT_MOST < grant {
-        return replies::GRANT_TOO_LARGE;
+        return Reply::GrantTooLarge;
     }
     if !is_ruled(parts, windows.b.len() as u64, q) {
-        return replies::TASKS_RULE;
+        return Reply::TasksRule;
     }
     if !are_admissible(images, parts.len() / 2) {
-        return replies::NOT_ADMISSIBLE;
+        return Reply::NotAdmissible;
     }
-    replies::DONE
+    Reply::Done
 }

@@ -3,10 +3,11 @@
 #![tactic(auto)]
 
 ghost use Rattle.std.specs.Prelude.{ℕ, ◌<◌, get_or};
+ghost use Rattle.model.specs.Numbers.{number_of};
 ghost use Rattle.model.specs.Lent.{windows_lent, SameWindows};
 ghost use Rattle.tasks.specs.Images.{TasksRan};
 
-use model::{WindowsMut, replies};
+use model::{Reply, WindowsMut};
 
 mod judge;
 mod schedule;
@@ -31,9 +32,9 @@ pub fn run(
     parts: &[u64],
     counts: &mut [u64; 8],
     refusals: &mut [u64; 8],
-) -> u64
+) -> Reply
     ensures same { SameWindows windows.old windows.new }
-    ensures ran { TasksRan images.old (windows_lent windows.old) parts.now q grant result
+    ensures ran { TasksRan images.old (windows_lent windows.old) parts.now q grant (number_of result)
         images.new (windows_lent windows.new) counts.new refusals.new }
 {
     *counts = [0; 8];
@@ -41,10 +42,10 @@ pub fn run(
     let lent = windows.read();
     known(lent.a);
     known(lent.b);
-    let number = judge::call_refusal(images, parts, lent, q, grant);
-    if number != replies::DONE {
-        return number;
+    let refused = judge::call_refusal(images, parts, lent, q, grant);
+    if refused != Reply::Done {
+        return refused;
     }
     schedule::rounds(images, parts, windows, q, grant, counts, refusals);
-    replies::DONE
+    Reply::Done
 }

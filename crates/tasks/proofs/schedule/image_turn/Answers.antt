@@ -7,9 +7,9 @@ use Rattle.tasks.proofs.schedule.image_turn.Goals as goal
 pub returns-clause-turned : goal.returns-clause-turned
 returns-clause-turned c =
     let l = c.args.image.now in
-    let t = c.run-number.new.state in
-    let same = c.run-number.ensures.same_state in
+    let t = c.run-ran.new.state in
+    let same = c.run-ran.ensures.same_state in
     let general = c.general-3-1.given.1 (sym same.0) in
     let special = c.special-3-1.given.1 (sym same.1) in
-    turned l _ _ _ _ (of_image l c.requires _ _ _ c.load_state-rest.ensures) _ _ _ _ c.run-number.ensures.ran _
+    turned l _ _ _ _ (of_image l c.requires _ _ _ c.load_state-rest.ensures) _ _ _ _ c.run-ran.ensures.ran _
     (c.store_state.ensures ∙ ap (stored_in l) (λ i. made (general i) (special i) t.pc.now t.halt.now (sym same.4 i) (sym same.5 i)))

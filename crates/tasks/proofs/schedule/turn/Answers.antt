@@ -27,23 +27,23 @@ slice_bounds-image_turn-end c =
     let room = room_for _ c.args.images.now _ (c.each_len-each.ensures _ refl) c.requires.1.fit c.args.k c.requires.0 in
     search rules
 
-pub image_turn-number-requires : goal.image_turn-number-requires
-image_turn-number-requires c =
+pub image_turn-ran-requires : goal.image_turn-ran-requires
+image_turn-ran-requires c =
     image_lent _ c.args.images.now _ (c.each_len-each.ensures _ refl) c.requires.1.fit c.args.k c.requires.0
 
 pub overflow_add-counts : goal.overflow_add-counts
 overflow_add-counts c =
-    omega (arith, c.requires.1.small c.args.k, turned_most _ _ _ _ _ _ _ _ c.image_turn-number.ensures.turned, c.min-grant.ensures)
+    omega (arith, c.requires.1.small c.args.k, turned_most _ _ _ _ _ _ _ _ c.image_turn-ran.ensures.turned, c.min-grant.ensures)
 
 pub overflow_sub-result : goal.overflow_sub-result
 overflow_sub-result c =
-    omega (arith, turned_most _ _ _ _ _ _ _ _ c.image_turn-number.ensures.turned, c.min-grant.ensures)
+    omega (arith, turned_most _ _ _ _ _ _ _ _ c.image_turn-ran.ensures.turned, c.min-grant.ensures)
 
 pub returns-clause-played : goal.returns-clause-played
 returns-clause-played c =
     let k = c.args.k in
     let e = c.each_len-each.result in
-    let long : length c.image_turn-number.new.image ≡ k * e + e - k * e
+    let long : length c.image_turn-ran.new.image ≡ k * e + e - k * e
     = omega (arith, c.images-1.given, c.image_turn-arg-1.given.2) in
-    turn_given _ _ _ _ _ _ _ c.requires.1 _ c.requires.0 c.if-left-eq0.false c.if-refusals-k-ne0.false _ (c.each_len-each.ensures _ refl) _
-    c.part_at-own.ensures _ c.min-grant.ensures _ _ c.image_turn-number.new.image _ long c.image_turn-number.ensures.turned
+    rw c.number_of.ensures (turn_given _ _ _ _ _ _ _ c.requires.1 _ c.requires.0 c.if-left-eq0.false c.if-refusals-k-ne0.false _ (c.each_len-each.ensures _ refl) _
+    c.part_at-own.ensures _ c.min-grant.ensures _ _ c.image_turn-ran.new.image _ long c.image_turn-ran.ensures.turned)
