@@ -13,9 +13,8 @@ ghost use Rattle.sets.specs.Answer.{number_in, place_in};
 ghost use Rattle.tasks.specs.Images.{TasksRan};
 ghost use Rattle.mmix.specs.Entries.{lent_at, version, Initialized, InitializedAt, Stepped, SteppedState, RanImage, RanState, Raised, RaisedState, SetImage, ContextAt, FieldTold};
 
-use image::Rest;
 use model::replies::number_of;
-use model::{Bases, Reach, Reply, State, StateMut, WindowsMut, replies};
+use model::{Bases, Instruction, Reach, Reply, State, StateMut, WindowsMut, replies};
 use sets::Failed;
 
 mod step_image;
@@ -87,13 +86,9 @@ pub fn mmix_step(
     }
     let mut general = [0u64; 256];
     let mut special = [0u64; 32];
-    let rest = image::few::load_beside(&*image, &mut special);
-    let few = step_image::touches_few(&special, op, x);
+    let mut rest = image::few::load_beside(&*image, &mut special);
+    let few = step_image::touches_few(&special, &Instruction { op, x, y, z });
     image::few::load_touched(&*image, few, x, y, z, &mut general);
-    let mut pc = rest.pc;
-    let mut halt = rest.halt;
-    let marks = rest.marks;
-    let mask = rest.mask;
     let reply = mmix_step_parts(
         base_a,
         base_b,
@@ -103,10 +98,10 @@ pub fn mmix_step(
         z,
         &mut general,
         &mut special,
-        &mut pc,
-        &mut halt,
-        marks,
-        mask,
+        &mut rest.pc,
+        &mut rest.halt,
+        rest.marks,
+        rest.mask,
         a,
         b,
     );
@@ -116,12 +111,7 @@ pub fn mmix_step(
         x,
         &general,
         &special,
-        Rest {
-            pc,
-            halt,
-            marks,
-            mask,
-        },
+        rest,
     );
     reply
 }
@@ -141,19 +131,13 @@ pub fn step(
     x: u8,
     y: u8,
     z: u8,
-    state: State,
+    mut state: State,
     a: &mut [u8],
     b: &mut [u8],
 ) -> Answer
     ensures { SteppedState (lent_at base_a base_b a.old b.old) state op x y z result.reply
         result.state (lent_at base_a base_b a.new b.new) }
 {
-    let mut general = state.general;
-    let mut special = state.special;
-    let mut pc = state.pc;
-    let mut halt = state.halt;
-    let marks = state.marks;
-    let mask = state.mask;
     let reply = mmix_step_parts(
         base_a,
         base_b,
@@ -161,27 +145,16 @@ pub fn step(
         x,
         y,
         z,
-        &mut general,
-        &mut special,
-        &mut pc,
-        &mut halt,
-        marks,
-        mask,
+        &mut state.general,
+        &mut state.special,
+        &mut state.pc,
+        &mut state.halt,
+        state.marks,
+        state.mask,
         a,
         b,
     );
-    let next = State {
-        general: general,
-        special: special,
-        pc: pc,
-        halt: halt,
-        marks: marks,
-        mask: mask,
-    };
-    Answer {
-        reply: reply,
-        state: next,
-    }
+    Answer { reply, state }
 }
 
 /// One step on a lent state, changed in place.
@@ -223,21 +196,17 @@ pub fn mmix_run(
     }
     let mut general = [0u64; 256];
     let mut special = [0u64; 32];
-    let rest = image::load_state(&*image, &mut general, &mut special);
-    let mut pc = rest.pc;
-    let mut halt = rest.halt;
-    let marks = rest.marks;
-    let mask = rest.mask;
+    let mut rest = image::load_state(&*image, &mut general, &mut special);
     let reply = mmix_run_parts(
         base_a,
         base_b,
         grant,
         &mut general,
         &mut special,
-        &mut pc,
-        &mut halt,
-        marks,
-        mask,
+        &mut rest.pc,
+        &mut rest.halt,
+        rest.marks,
+        rest.mask,
         a,
         b,
         done,
@@ -246,12 +215,7 @@ pub fn mmix_run(
         &mut *image,
         &general,
         &special,
-        Rest {
-            pc,
-            halt,
-            marks,
-            mask,
-        },
+        rest,
     );
     reply
 }
@@ -278,7 +242,8 @@ pub fn mmix_tasks(
         b: base_b,
     };
     let mut windows = WindowsMut { a, b, at };
-    tasks::run(&mut windows, q, grant, images, parts, counts, refusals)
+    let reply = tasks::run(&mut windows, q, grant, images, parts, counts, refusals);
+    number_of(reply)
 }
 
 /// One exception on an image: of the general registers $255 alone is decoded and encoded.
@@ -299,12 +264,8 @@ pub fn mmix_exceptions(
     }
     let mut general = [0u64; 256];
     let mut special = [0u64; 32];
-    let rest = image::few::load_beside(&*image, &mut special);
+    let mut rest = image::few::load_beside(&*image, &mut special);
     image::few::load_touched(&*image, true, LAST, LAST, LAST, &mut general);
-    let mut pc = rest.pc;
-    let mut halt = rest.halt;
-    let marks = rest.marks;
-    let mask = rest.mask;
     let reply = mmix_exceptions_parts(
         flags,
         op,
@@ -315,10 +276,10 @@ pub fn mmix_exceptions(
         z_val,
         &mut general,
         &mut special,
-        &mut pc,
-        &mut halt,
-        marks,
-        mask,
+        &mut rest.pc,
+        &mut rest.halt,
+        rest.marks,
+        rest.mask,
     );
     image::few::store_touched(
         &mut *image,
@@ -326,12 +287,7 @@ pub fn mmix_exceptions(
         LAST,
         &general,
         &special,
-        Rest {
-            pc,
-            halt,
-            marks,
-            mask,
-        },
+        rest,
     );
     reply
 }
@@ -376,7 +332,9 @@ pub fn mmix_put_set(image: &mut [u8], pairs: &[u8], place: &mut u64) -> u64
     told(set, place)
 }
 
-/// One step in place on the parts of a state, for a host that steps millions of times.
+/// One step in place on the parts of a state, for a host that steps millions of times. In line in the function that C calls: else its fourteen parameters are
+/// moved twice, and a SWYM takes 190 processor instructions in place of 153.
+#[inline(always)]
 pub fn mmix_step_parts(
     base_a: u64,
     base_b: u64,
@@ -398,13 +356,21 @@ pub fn mmix_step_parts(
         (made general.new special.new pc.new halt.new marks mask)
         (lent_at base_a base_b a.new b.new) }
 {
+    let mut state = StateMut {
+        general,
+        special,
+        pc,
+        halt,
+        marks,
+        mask,
+    };
     let at = Bases {
         a: base_a,
         b: base_b,
     };
-    instruction::step::step(
-        general, special, pc, halt, marks, mask, a, b, at, op, x, y, z,
-    )
+    let mut windows = WindowsMut { a, b, at };
+    let reply = instruction::step::step(&mut state, &mut windows, &Instruction { op, x, y, z });
+    number_of(reply)
 }
 
 /// A run in place on the parts of a state, for a host that runs programs: state and windows are judged once a call.
@@ -427,13 +393,22 @@ pub fn mmix_run_parts(
         (made general.new special.new pc.new halt.new marks mask)
         (lent_at base_a base_b a.new b.new) }
 {
+    let mut state = StateMut {
+        general,
+        special,
+        pc,
+        halt,
+        marks,
+        mask,
+    };
     let at = Bases {
         a: base_a,
         b: base_b,
     };
-    instruction::run::run(
-        general, special, pc, halt, marks, mask, a, b, at, grant, done,
-    )
+    let mut windows = WindowsMut { a, b, at };
+    let ran = instruction::run::run(&mut state, &mut windows, grant);
+    *done = ran.done;
+    number_of(ran.reply)
 }
 
 /// One exception in place on the parts of a state.
@@ -456,9 +431,16 @@ pub fn mmix_exceptions_parts(
         (made general.old special.old pc.old halt.old marks mask) flags op x y z y_val z_val result
         (made general.new special.new pc.new halt.new marks mask) }
 {
-    let raised = exceptions::raise_exceptions(
-        general, special, pc, halt, marks, mask, flags, op, x, y, z, y_val, z_val,
-    );
+    let mut state = StateMut {
+        general,
+        special,
+        pc,
+        halt,
+        marks,
+        mask,
+    };
+    let instruction = Instruction { op, x, y, z };
+    let raised = exceptions::raise_exceptions(&mut state, flags, &instruction, y_val, z_val);
     number_of(raised)
 }
 
