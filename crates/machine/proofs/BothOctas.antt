@@ -1,5 +1,5 @@
 -- Octabytes of two windows: the one that holds each, runs that are stored, octabytes that pass. One window: Octas.
-use Rattle.model.proofs.Prelude.{suc, zero, ℕ, ◌%◌, ◌*◌, ◌+◌, ◌-◌, ◌<◌, ◌^◌, ◌≤◌, Bool, false, true, List, [], ◌++◌, ◌∷◌, ◌≢◌, ap, refl, sym, ◌∙◌, ◌≡◌, add-one}
+use Rattle.model.proofs.Prelude.{suc, zero, ℕ, ◌%◌, ◌*◌, ◌+◌, ◌-◌, ◌<◌, ◌^◌, ◌≤◌, Bool, false, true, List, [], ◌++◌, ◌∷◌, ap, refl, sym, ◌∙◌, ◌≡◌, add-one}
 use Rattle.model.proofs.Prelude.{arith, get_or, length, over, tab, both, has, holder, inside, octa_at, offset, one, put_octa, Shape, shape_of, Shapes, shapes_of}
 use Rattle.model.proofs.Prelude.{Window, Windows, write_octa, octa, lent, look, puts, worst, refusing, judged_inside, both_lawful, has_octa, one_lawful}
 use Rattle.model.proofs.Prelude.{puts_more, puts_shape, length_tab, worst_of, further}

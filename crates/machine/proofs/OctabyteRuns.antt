@@ -2,38 +2,25 @@
 use Rattle.model.proofs.Prelude.{suc, zero, ℕ, ◌*◌, ◌+◌, ◌<◌, ◌≤◌, append_assoc, append-nil, List, [], ◌++◌, ◌∷◌, ap, refl, subst, sym, ◌∙◌, ◌≡◌, add-one}
 use Rattle.model.proofs.Prelude.{arith, get_or, length, length-append, length-set, set, take, length-take-le, take-suc, take-suc-set, le-leb, bytes_of}
 use Rattle.std.specs.Int.{from_be_bytes, to_be_bytes, w64}
-use borrow.Rule.Slice.PartMut.{put_mid}
-use Rattle.std.proofs.lemmas.List.{drop_more}
-use Rattle.machine.proofs.RegisterRanges.{over_part}
-use Rattle.model.proofs.Prelude.{◌-◌, drop, over_written, part, value_of, written, eight, written_append, written_nil}
+use Rattle.std.proofs.Common.{rules}
+use Rattle.model.proofs.Prelude.{part, value_of, written, eight, written_append, written_nil}
 use Rattle.machine.specs.Octabytes.{flat, octas, loaded_octas, stored_octas}
 
 -- ---- one octabyte
-
-take_part : (n : ℕ) (l : List ℕ) (o : ℕ) → o + n ≤ length l → take n (drop o l) ≡ part l o n
-unfolding part
-take_part zero l o h = refl
-take_part (suc n) l o h =
-    rw (drop_more l o 0 (omega arith), add-one) (ap (λ (r : List ℕ). get_or l o 0 ∷ r) (take_part n l (suc o) (omega arith)))
 
 -- a number from its bytes, as the library has it
 bytes_eight : (a b c d e f g h : ℕ) → from_be_bytes w64 (a ∷ b ∷ c ∷ d ∷ e ∷ f ∷ g ∷ h ∷ []) ≡ value_of 0 (a ∷ b ∷ c ∷ d ∷ e ∷ f ∷ g ∷ h ∷ [])
 unfolding value_of
 bytes_eight a b c d e f g h = omega arith
 
-pub octa_loaded : (l ys : List ℕ) (o r : ℕ) → o + 8 ≤ length l → ys ≡ take (o + 8 - o) (drop o l) → r ≡ from_be_bytes w64 ys → r ≡ value_of 0 (part l o 8)
+pub octa_loaded : (l : List ℕ) (o : ℕ) → from_be_bytes w64 (get_or l o 0 ∷ get_or l (o + 1) 0 ∷ get_or l (o + 2) 0 ∷ get_or l (o + 3) 0
+    ∷ get_or l (o + 4) 0 ∷ get_or l (o + 5) 0 ∷ get_or l (o + 6) 0 ∷ get_or l (o + 7) 0 ∷ []) ≡ value_of 0 (part l o 8)
 unfolding part
-octa_loaded l ys o r h e f =
-    let n : o + 8 - o ≡ 8 = omega arith in
-    let p : ys ≡ part l o 8 = e ∙ rw n (take_part 8 l o h) in
-    f ∙ ap (from_be_bytes w64) p ∙ bytes_eight _ _ _ _ _ _ _ _
+octa_loaded l o = bytes_eight _ _ _ _ _ _ _ _ ∙ ap (value_of 0) (search rules)
 
-pub octa_stored : (l ys : List ℕ) (o v : ℕ) → o + 8 ≤ length l → ys ≡ to_be_bytes w64 v → put_mid o (o + 8 - o) l ys ≡ written l o (bytes_of v)
-octa_stored l ys o v h e =
-    let n : length ys ≡ 8 = ap length e in
-    over_part (λ (k : ℕ). get_or ys (k - o) 0) o (o + 8) l ys (omega arith) h (omega arith) (λ i m. ap (λ (k : ℕ). get_or ys k 0) (omega arith))
-    ∙ over_written l o ys 8 n h
-    ∙ ap (written l o) (e ∙ (unfold bytes_of in refl))
+pub bytes_are : (v : ℕ) → to_be_bytes w64 v ≡ bytes_of v
+unfolding bytes_of
+bytes_are v = refl
 
 -- ---- read
 

@@ -94,7 +94,7 @@ pub(crate) fn load_range(
         ≡ over (λ (k : ℕ). read_by one (lent_one base window.now) (addr + 8 * (k - from))) from to general.old }
 {
     let at = distance(base, addr) as usize;
-    octabytes::load_all(window, at, &mut general[from as usize..to as usize]);
+    octabytes::load_each(window, at, &mut general[from as usize..to as usize]);
 }
 
 /// They go to the octabytes from `addr` up, which the window holds.
@@ -111,7 +111,7 @@ pub(crate) fn store_range(
         ≡ written_run_by one (lent_one base window.old) addr (to - from) (λ (i : ℕ). get_or general.now (from + i) 0) }
 {
     let at = distance(base, addr) as usize;
-    octabytes::store_all(window, at, &general[from as usize..to as usize]);
+    octabytes::store_each(window, at, &general[from as usize..to as usize]);
 }
 
 /// They go there where the window has room for them all, and else nothing changes; whether it has.
