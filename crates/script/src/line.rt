@@ -6,9 +6,6 @@ ghost use Rattle.script.specs.Reading.{marks, IsNumberAt};
 
 use model::Instruction;
 
-/// The longest number.
-const DIGITS_MOST: usize = 16;
-
 /// A register's number and what it is set to.
 #[derive(Clone, Copy)]
 pub struct Setting {
@@ -107,7 +104,7 @@ fn number(line: &[u8]) -> Option<(u64, &[u8])>
     ensures { IsNumberAt line.now result }
 {
     let (digits, rest) = line.split_at(digits_len(line));
-    if digits.is_empty() || digits.len() > DIGITS_MOST {
+    if digits.is_empty() {
         return None;
     }
     if digits.len() > 1 && digits[0] == b'0' {

@@ -5,6 +5,9 @@ ghost use Rattle.text.specs.Pieces.{line_length};
 
 const NEWLINE: u8 = b'\n';
 
+/// The digits of the longest number.
+const DIGITS_MOST: usize = 16;
+
 /// The hexadecimal digit, lower case, that a byte is.
 #[tactic(auto, unfolding(crate::specs::Digits::digit_of, model::specs::Fill::within))]
 pub fn digit(b: u8) -> Option<u8>
@@ -17,11 +20,14 @@ pub fn digit(b: u8) -> Option<u8>
     }
 }
 
-/// The number that hexadecimal digits are, lower case; none where a byte is no digit.
+/// The number that hexadecimal digits are, lower case; none of more than 16, or where a byte is no digit.
 pub fn number(digits: &[u8]) -> Option<u64>
-    requires { length digits.now ≤ 16 }
-    ensures { SomeIff result (All (λ b. digit_of b < 16) digits.now) (value_of digits.now) }
+    ensures { SomeIff result ((length digits.now ≤ 16) × All (λ b. digit_of b < 16) digits.now)
+        (value_of digits.now) }
 {
+    if digits.len() > DIGITS_MOST {
+        return None;
+    }
     let mut number = 0;
     for &b in digits {
         let low = digit(b)?;

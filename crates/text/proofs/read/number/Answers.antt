@@ -12,12 +12,12 @@ loop-b-init c = (refl, λ k h. absurd (omega arith))
 pub overflow_mul-number : goal.overflow_mul-number
 overflow_mul-number c =
     let l = c.loop-b in
-    omega (arith, l.invariant.0, value_fits c.args.digits.now l.b-index c.loop-b-test.true c.requires l.invariant.1 c.in_ok-low.ensures.0)
+    omega (arith, l.invariant.0, value_fits c.args.digits.now l.b-index c.loop-b-test.true c.if-digits-gt-DIGITS_MOST.false l.invariant.1 c.in_ok-low.ensures.0)
 
 pub overflow_add-number : goal.overflow_add-number
 overflow_add-number c =
     let l = c.loop-b in
-    omega (arith, l.invariant.0, c.from.ensures, c.in_ok-low.ensures.1, value_fits c.args.digits.now l.b-index c.loop-b-test.true c.requires l.invariant.1 c.in_ok-low.ensures.0)
+    omega (arith, l.invariant.0, c.from.ensures, c.in_ok-low.ensures.1, value_fits c.args.digits.now l.b-index c.loop-b-test.true c.if-digits-gt-DIGITS_MOST.false l.invariant.1 c.in_ok-low.ensures.0)
 
 pub loop-b-preserved : goal.loop-b-preserved
 loop-b-preserved c =
@@ -30,6 +30,6 @@ pub returns : goal.returns
 returns c =
     let l = c.loop-b in
     let s = c.args.digits.now in (
-      All-from_get_or (λ (b : ℕ). digit_of b < 16) s 0 (λ i h. l.invariant.1 i (omega arith)),
+      (c.if-digits-gt-DIGITS_MOST.false, All-from_get_or (λ (b : ℕ). digit_of b < 16) s 0 (λ i h. l.invariant.1 i (omega arith))),
       l.invariant.0 ∙ ap value_of (take_all l.b-index s c.loop-b-test.false),
     )
