@@ -25,6 +25,7 @@ pub fn renew(held: &mut [u8], shown: usize, widths: Widths) -> usize
 fn widens(room: usize, n: usize, w: usize, d: usize) -> bool
     ensures { result ≡ widens room n w d }
 {
+    // One test after another: joined by `&&`, each would be two cases of those after it.
     if w > LENGTH_DIGITS {
         return false;
     }
@@ -59,6 +60,7 @@ fn move_up(held: &mut [u8], len: usize, at: usize, n: usize)
     requires { (at ≤ len) × (len + n ≤ length held.old) }
     ensures { held.new ≡ written held.old (at + n) (drop at (take len held.old)) }
 {
+    // The library has no `copy_within`.
     for i in (at..len).rev() {
         held[i + n] = held[i];
     }

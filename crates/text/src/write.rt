@@ -20,6 +20,7 @@ fn put(out: &mut [u8], at: usize, byte: u8) -> usize
     requires { at + 1 < 2 ^ 64 }
     ensures { Wrote out.old at (byte ∷ []) out.new result }
 {
+    // No `get_mut`: the proof loses what a write through it leaves where the branches join.
     if at < out.len() {
         out[at] = byte;
     }
