@@ -7,12 +7,10 @@ ghost use Rattle.script.specs.Script.{input_length, output_length};
 ghost use Rattle.bench.specs.Answer.{Joins, ReadWithin, Roomy, Answers};
 
 use script::script::{INPUT_LEN, OUTPUT_LEN};
-use std::io::{Eprint, Print, Read, Write};
+use std::io;
+use std::io::{Print, Read};
 use std::process::ExitCode;
-use std::{io, str};
-
-/// The longest text of an error that is told.
-const ERROR_MOST: usize = 128;
+use text::report::failure;
 
 fn input_buffer() -> [u8; INPUT_LEN]
     ensures { input_length ≡ length result }
@@ -26,57 +24,28 @@ fn output_buffer() -> [u8; OUTPUT_LEN]
     [0; OUTPUT_LEN]
 }
 
-/// What reading came to: how many bytes, or a read that failed.
-#[derive(Clone, Copy)]
-enum Input {
-    Read(usize),
-    Failed,
-}
-
-/// What failed is told on standard error, and why, without the number that errno has.
-fn fail<R: Eprint>(rt: &R, what: &str, error: io::Error) {
-    let mut text = [0u8; ERROR_MOST];
-    let mut rest = &mut text[..];
-    let _ = write!(rest, "{error}");
-    let n = ERROR_MOST.saturating_sub(rest.len());
-    let why = str::from_utf8(&text[..n]).unwrap_or("");
-    let words = match why.split_once(" (os error ") {
-        Some((words, _)) => words,
-        None => why,
-    };
-    let _ = eprintln!(rt; "{what}: {words}");
-}
-
 /// One read, into what follows the first `done` bytes of `buf`; how many there are then.
-fn read_more<I: Read, R: Eprint>(reader: &mut I, rt: &R, buf: &mut [u8], done: usize) -> Input
+fn read_more<I: Read>(reader: &mut I, buf: &mut [u8], done: usize) -> io::Result<usize>
     requires { done ≤ length buf.old }
     ensures { Joins buf.old done buf.new result }
 {
-    match reader.read(&mut buf[done..]) {
-        Ok(n) => Input::Read(done + n),
-        Err(error) => {
-            fail(rt, "standard input", error);
-            Input::Failed
-        }
-    }
+    let n = reader.read(&mut buf[done..])?;
+    Ok(done + n)
 }
 
-/// Reads until `buf` is full or the input ends.
-fn read_all<I: Read, R: Eprint>(reader: &mut I, rt: &R, buf: &mut [u8]) -> Input
+/// Reads until `buf` is full or the input ends; how many bytes that are.
+fn read_all<I: Read>(reader: &mut I, buf: &mut [u8]) -> io::Result<usize>
     ensures { ReadWithin result buf.new }
 {
-    let mut done: usize = 0;
+    let mut done = 0;
     while done < buf.len() {
-        let more = read_more(reader, rt, buf, done);
-        let Input::Read(next) = more else {
-            return Input::Failed;
-        };
+        let next = read_more(reader, buf, done)?;
         if next == done {
-            return Input::Read(done);
+            break;
         }
         done = next;
     }
-    Input::Read(done)
+    Ok(done)
 }
 
 /// What is printed of a script whose first bytes, as many as `input` holds, were read into it: `got` of them.
@@ -87,29 +56,16 @@ fn answer(input: &[u8], got: usize, output: &mut [u8]) -> usize
     script::script::run(&input[..got], output)
 }
 
-/// A text is written; false where that fails, which is told.
-fn print<R: Print + Eprint>(rt: &R, text: &[u8]) -> bool {
-    match rt.write_all(text) {
-        Ok(()) => true,
-        Err(error) => {
-            fail(rt, "standard output", error);
-            false
-        }
-    }
-}
-
 fn main(rt: HostRuntime) -> ExitCode {
     let mut input = input_buffer();
-    let read = read_all(&mut rt.stdin(), &rt, &mut input);
-    match read {
-        Input::Read(got) => {
-            let mut output = output_buffer();
-            let n = answer(&input, got, &mut output);
-            if print(&rt, &output[..n]) {
-                return ExitCode::SUCCESS;
-            }
-            ExitCode::FAILURE
-        }
-        Input::Failed => ExitCode::FAILURE,
+    let got = match read_all(&mut rt.stdin(), &mut input) {
+        Ok(got) => got,
+        Err(error) => return failure(&rt, "standard input", error),
+    };
+    let mut output = output_buffer();
+    let n = answer(&input, got, &mut output);
+    match rt.write_all(&output[..n]) {
+        Ok(()) => ExitCode::SUCCESS,
+        Err(error) => failure(&rt, "standard output", error),
     }
 }

@@ -3,7 +3,6 @@ use Rattle.model.proofs.Prelude.{ℕ, ◌*◌, ◌+◌, ◌<◌, ◌^◌, ◌≤
 use Rattle.model.proofs.Prelude.{leb, get_or, length, length-append, eqb-true, image_length, old_image_length, and_right, flag}
 use Rattle.point_lines.proofs.Prelude.{codes, digit_of}
 use Rattle.point_lines.specs.Line.{mark, fits_byte, fits, head, bases, middle, close, marks, point_form, octas_a, octas_b, is_form, length_digits, old_length_digits, state_digits, old_state_digits, octas_max, old_octas_max, is_new, is_old, is_short, is_short_old, is_point, widths, widths_of, mixed_form, MixedBad}
-use Rattle.point_lines.specs.declared.line.Widths.{Widths}
 use Rattle.point_lines.proofs.Forms.{of_length, length_form, fits_at, length_head, length_bases}
 use Rattle.model.specs.Fill as fill
 
@@ -33,7 +32,7 @@ module _ (l : List ℕ) where
         unfolding widths_of
         as_none d = rw (a, b, c, d)
 
-        none_point : is_short_old l ≡ false → is_point l ≡ false
+        pub none_point : is_short_old l ≡ false → is_point l ≡ false
         unfolding is_point
         none_point d = rw (a, b, c, d)
 
@@ -58,7 +57,7 @@ module _ (l : List ℕ) where
   unfolding is_point
   point_short_old e = rw (e, or_true (is_short l), or_true (is_old l)) (or_true (is_new l))
 
-differ : true ≡ false → ⊥
+pub differ : true ≡ false → ⊥
 differ e = let z : ◌≡◌ {A = ℕ} 0 1 = cc in omega arith
 
 -- ---- what a line of a form has
@@ -95,13 +94,6 @@ module _ (l : List ℕ) where
 
   pub formed : is_point l ≡ true → Formed l
   formed e = ⊎_elim (λ f. f) (λ n. absurd (differ (sym e ∙ n.1))) either_form
-
-  -- a line is a point's where its lengths have digits
-  pub point_some : (x : Widths) → x ≡ widths_of l → 0 < x.lengths → is_point l ≡ true
-  point_some x e h = ⊎_elim (λ f. f.is_point') (λ n. absurd (omega (arith, ap (λ (y : Widths). y.lengths) (e ∙ n.0)))) either_form
-
-  pub point_none : (x : Widths) → x ≡ widths_of l → x.lengths ≤ 0 → is_point l ≡ false
-  point_none x e h = ⊎_elim (λ f. absurd (omega (arith, f.some, ap (λ (y : Widths). y.lengths) (e ∙ f.widths_are)))) (λ n. n.1) either_form
 
 -- ---- one form at most
 

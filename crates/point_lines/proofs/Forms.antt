@@ -1,101 +1,90 @@
 -- Laws of a line held against a form: a byte further, a part further, how long a line of a form is and one of its bytes; and of the numbers in it.
-use Rattle.model.proofs.Prelude.{suc, zero, ℕ, ◌*◌, ◌+◌, ◌-◌, ◌<◌, ◌^◌, ◌≤◌, Bool, cond, false, true, ◌&&◌, append-nil, List, [], ◌++◌, ◌∷◌, ap, refl, sym, ◌∙◌}
-use Rattle.model.proofs.Prelude.{◌≡◌, add-one, arith, leb, drop, drop_of_length-le, get_or, length, length-append, length-replicate, pow-add, pow_mono, drop-cons}
-use Rattle.model.proofs.Prelude.{le-leb, lt-leb, and_left, and_right}
-use Rattle.point_lines.proofs.Prelude.{codes, digit_of, number_of, digit_most}
+use Rattle.model.proofs.Prelude.{suc, zero, ℕ, ◌*◌, ◌+◌, ◌<◌, ◌≤◌, Bool, false, true, ◌&&◌, append-nil, List, [], ◌++◌, ◌∷◌, ap, refl, sym, ◌∙◌}
+use Rattle.model.proofs.Prelude.{◌≡◌, add-one, arith, leb, drop, drop_of_length-le, get_or, length, length-append, length-replicate, drop-cons}
+use Rattle.model.proofs.Prelude.{le-leb, lt-leb, lt-ltb, eqb, ne_eqb, ltb, ltb-true, map, take, drop-drop, get_or-drop, flag, ⊎_elim, ◌⊎◌, inl, inr, and_left, and_right}
+use Rattle.point_lines.proofs.Prelude.{codes, digit_of, number_of}
 use Rattle.point_lines.specs.Line.{mark, fits_byte, fits, head, bases, middle, close, marks, point_form, digits_at, hex_at, octas_a, octas_b, is_form}
-use Rattle.point_lines.specs.Met.{met}
-use Rattle.point_lines.specs.declared.line.Met.{Met}
-
--- ---- one byte further
+use Rattle.std.specs.List.{All, list_all}
+use Rattle.std.proofs.lemmas.List.Sums.{AllPass-from_list_all, list_all-from_AllPass}
+use Rattle.std.specs.Prelude.{Option, None, Some}
+use Rattle.std.specs.Borrow.{Bor}
+use Rattle.text.specs.Digits.{value_of}
+use Rattle.point_lines.specs.Met.{IsPast, IsFormEnd}
 
 and_none : (t : Bool) → (t && false) ≡ false
 and_none true = refl
 and_none false = refl
 
-cond_none : (t : Bool) → cond {A = Bool} t false false ≡ false
-cond_none true = refl
-cond_none false = refl
+-- ---- a part further: after i bytes of the part f, `rest` is left of the line l
 
-fits_here : (c : ℕ) (p l : List ℕ) (o : ℕ) → o < length l → fits (c ∷ p) (drop o l) ≡ (fits_byte c (get_or l o 0) && fits p (drop (o + 1) l))
+pub record Along (f l : List ℕ) (i : ℕ) (rest : List ℕ) : Type 0 where
+  pub fits_is : (p : List ℕ) → fits (f ++ p) l ≡ fits (drop i f ++ p) rest
+  pub rest_is : rest ≡ drop i l
+
+pub along_start : (f l : List ℕ) → Along f l 0 l
+along_start f l = record { fits_is = λ p. refl; rest_is = refl }
+
+module _ (f l : List ℕ) (i : ℕ) (rest : List ℕ) (h : i < length f) (a : Along f l i rest) where
+  next : drop i f ≡ get_or f i 0 ∷ drop (i + 1) f
+  next = rw (add-one, drop-cons f i 0)
+
+  pub along_on : (b : ℕ) (t : List ℕ) → rest ≡ b ∷ t → fits_byte (get_or f i 0) b ≡ true → Along f l (i + 1) t
+  unfolding fits
+  along_on b t e g = record {
+    fits_is = λ p. a.fits_is p ∙ rw (next, e, g);
+    rest_is = ap (drop 1) (sym e ∙ a.rest_is) ∙ drop-drop 1 i l;
+  }
+
+  pub along_other : (b : ℕ) (t : List ℕ) → rest ≡ b ∷ t → fits_byte (get_or f i 0) b ≡ false → (p : List ℕ) → fits (f ++ p) l ≡ false
+  unfolding fits
+  along_other b t e g p = a.fits_is p ∙ rw (next, e, g)
+
+  pub along_missing : length rest ≡ 0 → (p : List ℕ) → fits (f ++ p) l ≡ false
+  unfolding fits
+  along_missing e p = let g : rest ≡ [] = drop_of_length-le rest {i = 0} (omega arith) in a.fits_is p ∙ rw (next, g)
+
+pub along_end : (f l : List ℕ) (i : ℕ) (rest : List ℕ) → length f ≤ i → i ≤ length f → Along f l i rest
+    → ((p : List ℕ) → fits (f ++ p) l ≡ fits p rest) × (rest ≡ drop (length f) l)
+along_end f l i rest h k a =
+    let e : i ≡ length f = omega arith in
+    (λ p. a.fits_is p ∙ ap (λ (q : List ℕ). fits (q ++ p) rest) (drop_of_length-le f h), a.rest_is ∙ ap (λ (j : ℕ). drop j l) e)
+
+-- ---- n digits further
+
+abbrev pub all_digits : List ℕ → Bool
+all_digits l = list_all (λ (b : ℕ). ltb (digit_of b) 16) l
+
+pub digits_further : (n : ℕ) (l : List ℕ) → n ≤ length l → (p : List ℕ) → fits (marks n ++ p) l ≡ (all_digits (take n l) && fits p (drop n l))
+unfolding fits fits_byte
+digits_further zero l h p = refl
+digits_further (suc n) [] h p = absurd (omega arith)
+digits_further (suc n) (b ∷ l) h p = go (ltb (digit_of b) 16) (digits_further n l (omega arith) p)
+  where
+    go : (t : Bool) → fits (marks n ++ p) l ≡ (all_digits (take n l) && fits p (drop n l))
+        → (t && fits (marks n ++ p) l) ≡ ((t && all_digits (take n l)) && fits p (drop n l))
+    go true e = e
+    go false e = refl
+
+pub digits_missing : (n : ℕ) (l : List ℕ) → length l < n → (p : List ℕ) → fits (marks n ++ p) l ≡ false
 unfolding fits
-fits_here c p l o h = rw (drop-cons l o 0 h, add-one o)
+digits_missing zero l h p = absurd (omega arith)
+digits_missing (suc n) [] h p = refl
+digits_missing (suc n) (b ∷ l) h p = ap (λ (t : Bool). fits_byte mark b && t) (digits_missing n l (omega arith) p) ∙ and_none (fits_byte mark b)
 
-fits_out : (c : ℕ) (p l : List ℕ) (o : ℕ) → length l ≤ o → fits (c ∷ p) (drop o l) ≡ false
-unfolding fits
-fits_out c p l o h = rw (drop_of_length-le l h)
+pub digits_good : (n : ℕ) (l : List ℕ) → n ≤ length l → all_digits (take n l) ≡ true → (p : List ℕ) → fits (marks n ++ p) l ≡ fits p (drop n l)
+digits_good n l h e p = digits_further n l h p ∙ rw e
 
-abbrev pub Further : List ℕ → List ℕ → Met → Met → Type 0
-Further c l m r = (p : List ℕ) → met p l r ≡ met (c ++ p) l m
+pub digits_other : (n : ℕ) (l : List ℕ) → n ≤ length l → all_digits (take n l) ≡ false → (p : List ℕ) → fits (marks n ++ p) l ≡ false
+digits_other n l h e p = digits_further n l h p ∙ rw e
 
-module _ (c : ℕ) (l : List ℕ) (m : Met) where
-  pub met_on : m.at < length l → fits_byte c (get_or l m.at 0) ≡ true → Further (c ∷ []) l m (record { good = m.good; at = m.at + 1 })
-  unfolding met
-  met_on h e p = rw (fits_here c p l m.at h, e)
+pub all_below : (l : List ℕ) → all_digits l ≡ true → All (λ (b : ℕ). digit_of b < 16) l
+all_below l e = λ k d h. ltb-true _ _ (AllPass-from_list_all (λ (b : ℕ). ltb (digit_of b) 16) l e k d h)
 
-  pub met_other : m.at < length l → fits_byte c (get_or l m.at 0) ≡ false → Further (c ∷ []) l m (record { good = false; at = m.at })
-  unfolding met
-  met_other h e p = rw (fits_here c p l m.at h, e, cond_none m.good)
+pub below_all : (l : List ℕ) → All (λ (b : ℕ). digit_of b < 16) l → all_digits l ≡ true
+below_all l a = list_all-from_AllPass (λ (b : ℕ). ltb (digit_of b) 16) l (λ k d h. lt-ltb _ _ (a k d h))
 
-  pub met_missing : length l ≤ m.at → Further (c ∷ []) l m (record { good = false; at = m.at })
-  unfolding met
-  met_missing h p = rw (fits_out c p l m.at h, cond_none m.good)
-
--- where the form ends
-module _ (l : List ℕ) (m : Met) where
-  pub met_longer : m.at < length l → false ≡ met [] l m
-  unfolding met fits
-  met_longer h = rw (drop-cons l m.at 0 h, cond_none m.good)
-
-  pub met_whole : length l ≤ m.at → m.good ≡ met [] l m
-  unfolding met fits
-  met_whole h = rw (drop_of_length-le l h) (same m.good)
-    where
-      same : (t : Bool) → t ≡ cond {A = Bool} t true false
-      same true = refl
-      same false = refl
-
-met_start : (l p : List ℕ) → met p l (record { good = true; at = 0 }) ≡ fits p l
-unfolding met
-met_start l p = refl
-
--- ---- a part further, byte by byte: `s` is what stood before the part, `m` what its first i bytes gave
-
-abbrev pub Along : List ℕ → List ℕ → ℕ → Met → Met → Type 0
-Along c l i s m = (p : List ℕ) → met (drop i c ++ p) l m ≡ met (c ++ p) l s
-
-module _ (c l : List ℕ) (i : ℕ) (s m : Met) (a : Along c l i s m) where
-  pub along_on : (r : Met) → i < length c → Further (get_or c i 0 ∷ []) l m r → Along c l (i + 1) s r
-  along_on r h f p =
-      f (drop (i + 1) c ++ p)
-      ∙ ap (λ (q : List ℕ). met (q ++ p) l m) (sym (drop-cons c i 0 h ∙ ap (λ (k : ℕ). get_or c i 0 ∷ drop k c) (sym (add-one i))))
-      ∙ a p
-
-  pub along_end : length c ≤ i → Further c l s m
-  along_end h p = ap (λ (q : List ℕ). met (q ++ p) l m) (sym (drop_of_length-le c h)) ∙ a p
-
--- the same of n digits
-abbrev pub AlongDigits : ℕ → List ℕ → ℕ → Met → Met → Type 0
-AlongDigits n l i s m = (p : List ℕ) → met (marks (n - i) ++ p) l m ≡ met (marks n ++ p) l s
-
-module _ (n : ℕ) (l : List ℕ) (i : ℕ) (s m : Met) (a : AlongDigits n l i s m) where
-  pub digits_on : (r : Met) → i < n → Further (mark ∷ []) l m r → AlongDigits n l (i + 1) s r
-  digits_on r h f p =
-      let e : suc (n - (i + 1)) ≡ n - i = omega arith in
-      f (marks (n - (i + 1)) ++ p) ∙ ap (λ (k : ℕ). met (marks k ++ p) l m) e ∙ a p
-
-  pub digits_end : n ≤ i → Further (marks n) l s m
-  digits_end h p =
-      let e : 0 ≡ n - i = omega arith in
-      ap (λ (k : ℕ). met (marks k ++ p) l m) e ∙ a p
-
--- the nine parts of a point's line, one after another
-pub form_met_law : (w d m : ℕ) (l : List ℕ) (m₁ m₂ m₃ m₄ m₅ m₆ m₇ m₈ m₉ : Met) → Further head l (record { good = true; at = 0 }) m₁
-    → Further (marks w) l m₁ m₂ → Further (codes " ") l m₂ m₃ → Further (marks w) l m₃ m₄ → Further bases l m₄ m₅ → Further (marks d) l m₅ m₆
-    → Further middle l m₆ m₇ → Further (marks (16 * m)) l m₇ m₈ → Further close l m₈ m₉ → met [] l m₉ ≡ fits (point_form w d m) l
-unfolding point_form
-form_met_law w d m l m₁ m₂ m₃ m₄ m₅ m₆ m₇ m₈ m₉ f₁ f₂ f₃ f₄ f₅ f₆ f₇ f₈ f₉ =
-    f₉ [] ∙ ap (λ (q : List ℕ). met q l m₈) (append-nil close) ∙ f₈ close ∙ f₇ _ ∙ f₆ _ ∙ f₅ _ ∙ f₄ _ ∙ f₃ _ ∙ f₂ _ ∙ f₁ _ ∙ met_start l _
+pub not_all : (l : List ℕ) → (All (λ (b : ℕ). digit_of b < 16) l → ⊥) → all_digits l ≡ false
+not_all l h = ⊎_elim (λ e. absurd (h (all_below l e))) (λ e. e) (flag (all_digits l))
 
 -- ---- how long a line of a form is
 
@@ -158,49 +147,67 @@ module _ (w d m : ℕ) where
 
 -- ---- numbers
 
-digits_suc : (h : ℕ) (l : List ℕ) (o n : ℕ) → number_of h (digits_at l o (suc n)) ≡ number_of h (digits_at l o n) * 16 + digit_of (get_or l (o + n) 0)
-unfolding number_of digits_at
-digits_suc h l o zero = ap (λ (k : ℕ). h * 16 + digit_of (get_or l k 0)) (omega arith)
-digits_suc h l o (suc n) =
-    digits_suc (h * 16 + digit_of (get_or l o 0)) l (suc o) n
-    ∙ ap (λ (k : ℕ). number_of (h * 16 + digit_of (get_or l o 0)) (digits_at l (suc o) n) * 16 + digit_of (get_or l k 0)) (omega arith)
+digits_map : (l : List ℕ) (o n : ℕ) → o + n ≤ length l → digits_at l o n ≡ map digit_of (take n (drop o l))
+unfolding digits_at
+digits_map l o zero h = refl
+digits_map l o (suc n) h = let k : o < length l = omega arith in rw (drop-cons l o 0, digits_map l (suc o) n (omega arith))
 
--- one digit more
-pub hex_more : (l : List ℕ) (o n : ℕ) → hex_at l o n * 16 + digit_of (get_or l (o + n) 0) ≡ hex_at l o (n + 1)
+pub value_hex : (n : ℕ) (l : List ℕ) → n ≤ length l → value_of (take n l) ≡ hex_at l 0 n
 unfolding hex_at
-hex_more l o n = sym (ap (λ (k : ℕ). number_of 0 (digits_at l o k)) (add-one n) ∙ digits_suc 0 l o n)
+value_hex n l h = ap (number_of 0) (sym (digits_map l 0 n (omega arith)))
 
-pub hex_none : (l : List ℕ) (o : ℕ) → 0 ≡ hex_at l o 0
-unfolding hex_at digits_at number_of
-hex_none l o = refl
+digits_shift : (l : List ℕ) (o p n : ℕ) → digits_at (drop o l) p n ≡ digits_at l (o + p) n
+unfolding digits_at
+digits_shift l o p zero = refl
+digits_shift l o p (suc n) = let e : o + suc p ≡ suc (o + p) = omega arith in rw (get_or-drop o l p 0, digits_shift l o (suc p) n, e)
 
--- what is no digit counts 16, so n digits are below 32^n
-hex_bound : (l : List ℕ) (o n : ℕ) → hex_at l o n < 2 ^ (5 * n)
-hex_bound l o zero = omega (arith, hex_none l o)
-hex_bound l o (suc n) =
-    let e : 2 ^ (5 * suc n) ≡ 2 ^ (5 * n) * 32 = ap (λ (k : ℕ). 2 ^ k) (omega arith) ∙ pow-add 2 (5 * n) 5 in
-    let f : hex_at l o n * 16 + digit_of (get_or l (o + n) 0) ≡ hex_at l o (suc n) = hex_more l o n ∙ ap (hex_at l o) (add-one n) in
-    omega (arith, hex_bound l o n, digit_most (get_or l (o + n) 0))
-
-pub hex_small : (l : List ℕ) (o n : ℕ) → n ≤ 8 → hex_at l o n < 2 ^ 40
-hex_small l o n h =
-    let e : 2 ^ (5 * n) ≤ 2 ^ 40 = pow_mono {j = 40} (omega arith) in
-    omega (arith, hex_bound l o n)
+pub hex_shift : (l : List ℕ) (o n : ℕ) → hex_at (drop o l) 0 n ≡ hex_at l o n
+unfolding hex_at
+hex_shift l o n = let e : o + 0 ≡ o = omega arith in ap (number_of 0) (digits_shift l o 0 n ∙ ap (λ (k : ℕ). digits_at l k n) e)
 
 -- ---- a point's line
 
 module _ (w d k : ℕ) (l : List ℕ) where
-  pub first_large : k < octas_a w l → false ≡ is_form w d k l
+  pub no_fit : fits (point_form w d (octas_a w l + octas_b w l)) l ≡ false → is_form w d k l ≡ false
   unfolding is_form
-  first_large h = rw (lt-leb (octas_a w l) k h)
+  no_fit e = rw e (ap (λ (t : Bool). leb (octas_a w l) k && t) (and_none (leb (octas_b w l) k)) ∙ and_none (leb (octas_a w l) k))
 
-  pub second_large : octas_a w l ≤ k → k < octas_b w l → false ≡ is_form w d k l
-  unfolding is_form
-  second_large g h = rw (le-leb (octas_a w l) k g, lt-leb (octas_b w l) k h)
+  -- where these are the lengths
+  module _ (a b : ℕ) (e : octas_a w l ≡ a) (f : octas_b w l ≡ b) where
+    pub too_large : (k < a) ⊎ ((a ≤ k) × (k < b)) → is_form w d k l ≡ false
+    unfolding is_form
+    too_large (inl h) = rw (e, lt-leb a k h)
+    too_large (inr h) = rw (e, f, le-leb a k h.0, lt-leb b k h.1)
 
-  pub neither_large : octas_a w l ≤ k → octas_b w l ≤ k → fits (point_form w d (octas_a w l + octas_b w l)) l ≡ is_form w d k l
-  unfolding is_form
-  neither_large g h = rw (le-leb (octas_a w l) k g, le-leb (octas_b w l) k h)
+    pub no_fit_at : fits (point_form w d (a + b)) l ≡ false → is_form w d k l ≡ false
+    no_fit_at g = no_fit (rw (e, f) g)
+
+    pub fit_at : a ≤ k → b ≤ k → is_form w d k l ≡ fits (point_form w d (a + b)) l
+    unfolding is_form
+    fit_at g h = rw (e, f, le-leb a k g, le-leb b k h)
+
+-- where the form ends
+pub fits_end : (l : List ℕ) → eqb (length l) 0 ≡ fits [] l
+unfolding fits
+fits_end [] = refl
+fits_end (b ∷ l) = ne_eqb (length (b ∷ l)) 0 (λ e. omega arith)
+
+pub form_ends : (w d k : ℕ) (l q s : List ℕ) (r : Option (Bor (List ℕ))) → is_form w d k l ≡ fits q s → IsPast q s r → IsFormEnd w d k l r
+form_ends w d k l q s None e h = e ∙ ap (λ (p : List ℕ). fits p s) (sym (append-nil q)) ∙ h []
+form_ends w d k l q s (Some r) e h = e ∙ ap (λ (p : List ℕ). fits p s) (sym (append-nil q)) ∙ h.0 []
+
+-- the windows' octabytes, as `form_end` has them
+module _ (w : ℕ) (l r : List ℕ) (e : r ≡ drop 23 l) where
+  pub first_octas : (a : ℕ) → a ≡ hex_at r 0 w → octas_a w l ≡ a
+  unfolding octas_a
+  first_octas a f = sym (f ∙ ap (λ (k : List ℕ). hex_at k 0 w) e ∙ hex_shift l 23 w)
+
+  pub second_octas : (s t : List ℕ) (b : ℕ) → s ≡ drop w r → t ≡ drop 1 s → b ≡ hex_at t 0 w → octas_b w l ≡ b
+  unfolding octas_b
+  second_octas s t b f g h =
+      let i : t ≡ drop (24 + w) l =
+      g ∙ ap (drop 1) (f ∙ ap (drop w) e ∙ drop-drop w 23 l) ∙ drop-drop 1 (23 + w) l ∙ ap (λ (k : ℕ). drop k l) (omega arith) in
+      sym (h ∙ ap (λ (k : List ℕ). hex_at k 0 w) i ∙ hex_shift l (24 + w) w)
 
 -- how long a line of a form is by its own lengths
 pub of_length : (w d k : ℕ) (l : List ℕ) → is_form w d k l ≡ true → length l ≡ 88 + 2 * w + d + 16 * (octas_a w l + octas_b w l)

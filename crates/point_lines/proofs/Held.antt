@@ -1,8 +1,8 @@
 -- Laws of the line that is held: bytes that join it one by one, and what its front then is.
-use Rattle.model.proofs.Prelude.{min, suc, zero, ℕ, ◌+◌, ◌-◌, ◌<◌, ◌≤◌, List, [], ◌++◌, ◌∷◌, ap, sym, ◌∙◌, ◌≡◌, dec_lt, suc-add, zero-add, add-one, arith, get_or}
-use Rattle.model.proofs.Prelude.{length, set, take, length-take-le, set_out, take_all, take-suc, le-leb, lt-leb, written, written_append, length_written}
+use Rattle.model.proofs.Prelude.{min, suc, zero, ℕ, ◌+◌, ◌-◌, ◌<◌, ◌≤◌, List, [], ◌++◌, ◌∷◌, ap, refl, sym, ◌∙◌, ◌≡◌, dec_le, suc-add, zero-add, add-one, arith, get_or}
+use Rattle.model.proofs.Prelude.{length, take, length-take-le, take_all, take-suc, le-leb, lt-leb, written, written_append}
 use Rattle.model.proofs.Prelude.{written_nil}
-use Rattle.point_lines.proofs.Prelude.{bad_text, written_one}
+use Rattle.point_lines.proofs.Prelude.{bad_text}
 use Rattle.point_lines.specs.Stream.{bad_most, bad_in}
 use Rattle.text.proofs.Writes.{take_written as take_front}
 
@@ -12,41 +12,24 @@ written_next l t o i h =
     let n : o + i ≡ o + length (take i t) = omega (arith, length-take-le i t (omega arith)) in
     written_append l o (take i t) (get_or t i 0 ∷ []) (o + i) n ∙ ap (written l o) (sym (ap (λ (k : ℕ). take k t) (add-one i) ∙ take-suc t i 0 h))
 
--- what is held after i of the bytes that come
-pub record Kept (more first : List ℕ) (count : ℕ) (held : List ℕ) (n i : ℕ) : Type 0 where
-  pub bytes_are : held ≡ written first count (take i more)
-  pub count_is : n ≡ count + min i (length first - count)
+-- bytes put in as far as there is room
+written_cut : (l : List ℕ) (o : ℕ) (t : List ℕ) (n : ℕ) → length l ≤ o + n → written l o (take n t) ≡ written l o t
+unfolding written
+written_cut l o [] zero h = refl
+written_cut l o [] (suc n) h = refl
+written_cut [] o (v ∷ t) zero h = written_nil [] o
+written_cut [] o (v ∷ t) (suc n) h = refl
+written_cut (x ∷ l) zero (v ∷ t) zero h = absurd (omega arith)
+written_cut (x ∷ l) zero (v ∷ t) (suc n) h = ap (λ (r : List ℕ). v ∷ r) (written_cut l zero t n (omega arith))
+written_cut (x ∷ l) (suc o) (v ∷ t) zero h = written_nil (x ∷ l) (suc o) ∙ ap (λ (r : List ℕ). x ∷ r) (sym (written_nil l o) ∙ written_cut l o (v ∷ t) zero (omega arith))
+written_cut (x ∷ l) (suc o) (v ∷ t) (suc n) h = ap (λ (r : List ℕ). x ∷ r) (written_cut l o (v ∷ t) (suc n) (omega arith))
 
-length_kept : (more first : List ℕ) (count : ℕ) (held : List ℕ) (n i : ℕ) → Kept more first count held n i → length held ≡ length first
-length_kept more first count held n i k = ap length k.bytes_are ∙ length_written first count (take i more)
-
-pub kept_none : (more first : List ℕ) (count : ℕ) → Kept more first count first count 0
-kept_none more first count = record { bytes_are = sym (written_nil first count); count_is = omega arith }
-
-pub kept_more : (more first : List ℕ) (count : ℕ) (held : List ℕ) (n i : ℕ) → Kept more first count held n i → i < length more
-    → (left : List ℕ) (r : ℕ) → left ≡ set held n (get_or more i 0) → r ≡ n + min 1 (length held - n) → Kept more first count left r (i + 1)
-kept_more more first count held n i k h left r e f = record {
-  bytes_are = e ∙ same ∙ ap (λ (l : List ℕ). written l (count + i) (get_or more i 0 ∷ [])) k.bytes_are ∙ written_next first more count i h;
-  count_is = omega (arith, k.count_is, size);
-}
+pub written_room : (l : List ℕ) (o : ℕ) (t : List ℕ) (n : ℕ) → n ≡ min (length t) (length l - o) → written l o (take n t) ≡ written l o t
+written_room l o t n e = go (dec_le (length t) (length l - o))
   where
-    size : length held ≡ length first
-    size = length_kept more first count held n i k
-
-    go : Dec (n < length held) → set held n (get_or more i 0) ≡ set held (count + i) (get_or more i 0)
-    go (yes p) = ap (λ (j : ℕ). set held j (get_or more i 0)) (omega (arith, k.count_is, size))
-    go (no p) =
-        let q : length held ≤ n = omega arith in
-        let s : length held ≤ count + i = omega (arith, k.count_is, size) in
-        set_out held n (get_or more i 0) q ∙ sym (set_out held (count + i) (get_or more i 0) s)
-
-    same : set held n (get_or more i 0) ≡ written held (count + i) (get_or more i 0 ∷ [])
-    same = go (dec_lt n (length held)) ∙ sym (written_one held (count + i) (get_or more i 0))
-
-pub kept_all : (more first : List ℕ) (count : ℕ) (held : List ℕ) (n i : ℕ) → Kept more first count held n i → i ≡ length more
-    → (held ≡ written first count more) × (n ≡ count + min (length more) (length first - count))
-kept_all more first count held n i k e =
-    (k.bytes_are ∙ ap (written first count) (take_all i more (omega arith)), k.count_is ∙ ap (λ (j : ℕ). count + min j (length first - count)) e)
+    go : Dec (length t ≤ length l - o) → written l o (take n t) ≡ written l o t
+    go (yes h) = ap (written l o) (take_all n t (omega arith))
+    go (no h) = written_cut l o t n (omega arith)
 
 -- ---- the text that says that a line is bad
 

@@ -1,8 +1,7 @@
 -- Laws of digits 0 put into the line that is held: bytes moved up from the last one on, digits put in their place, and what stands there then.
 use Rattle.model.proofs.Prelude.{suc, zero, ℕ, ◌+◌, ◌-◌, ◌<◌, ◌≤◌, List, [], ◌++◌, ◌∷◌, ap, refl, sym, ◌∙◌, ◌≡◌, suc-add, arith, drop, drop_of_length-le, get_or}
-use Rattle.model.proofs.Prelude.{length, length-append, length-drop, length-replicate, replicate-append-replicate, set, take, drop-cons, drop-drop, get_or-take}
-use Rattle.model.proofs.Prelude.{length-take-le, take-take, written, written_append, written_below, written_nil}
-use Rattle.point_lines.proofs.Prelude.{written_one}
+use Rattle.model.proofs.Prelude.{length, length-append, length-drop, length-replicate, set, take, drop-cons, drop-drop, get_or-take}
+use Rattle.model.proofs.Prelude.{length-take-le, take-take, written, written_below, written_nil}
 use Rattle.text.specs.Writing.{Wrote}
 use Rattle.point_lines.specs.Line.{zeros, padded}
 use Rattle.point_lines.proofs.Held.{take_written}
@@ -39,15 +38,6 @@ moved_next l held len n zero g k h e = absurd (omega arith)
 moved_next l held len n (suc i) g k h e =
     let j : suc i - 1 ≡ i = omega arith in
     rw j (moved_more l held len n i (omega arith) h e)
-
--- ---- digits 0
-
-pub zeros_more : (l held : List ℕ) (at i : ℕ) → held ≡ written l at (zeros i) → set held (at + i) 0x30 ≡ written l at (zeros (i + 1))
-zeros_more l held at i e =
-    sym (written_one held (at + i) 0x30)
-    ∙ ap (λ (k : List ℕ). written k (at + i) (0x30 ∷ [])) e
-    ∙ written_append l at (zeros i) (0x30 ∷ []) (at + i) (omega (arith, length-replicate {A = ℕ} i 0x30))
-    ∙ ap (written l at) (replicate-append-replicate {A = ℕ} i 1 0x30)
 
 -- ---- both
 

@@ -47,7 +47,7 @@ is_good held count chunk =
 
 -- a good line: so many bytes of the chunk are done with, so many held are the line and its newline, and these are its widths
 abbrev pub good_turn : ℕ → ℕ → Widths → Turn
-good_turn used shown f = Good used shown f.lengths f.state
+good_turn used shown f = Good used shown f
 
 -- it does not end within the chunk, and there is room for its end
 unfoldable pub is_open : List ℕ → ℕ → List ℕ → Bool
@@ -81,9 +81,9 @@ pub record LineFits (w d n room : ℕ) : Type 0 where
 unfoldable pub Tells : ℕ → List ℕ → ℕ → List ℕ → List ℕ → List ℕ → Turn → Type 0
 Tells n held count chunk left rest (More more) =
     (printed_from n (take count held ++ (chunk ++ rest)) ≡ printed_from n (take more left ++ rest)) × (more ≤ length left) × Unended (take more left)
-Tells n held count chunk left rest (Good used shown w d) =
-    (printed_from n (take count held ++ (chunk ++ rest)) ≡ widened w d (take shown left) ++ printed_from (suc n) (drop used chunk ++ rest))
-    × (shown ≤ length left) × (0 < used) × (used ≤ length chunk) × LineFits w d shown (length left)
+Tells n held count chunk left rest (Good used shown f) =
+    (printed_from n (take count held ++ (chunk ++ rest)) ≡ widened f.lengths f.state (take shown left) ++ printed_from (suc n) (drop used chunk ++ rest))
+    × (shown ≤ length left) × (0 < used) × (used ≤ length chunk) × LineFits f.lengths f.state shown (length left)
 Tells n held count chunk left rest Bad = printed_from n (take count held ++ (chunk ++ rest)) ≡ bad_text n
 
 -- THEOREM: however reading splits a text, turns print what is printed of it: what is shown, and then what is printed of the rest

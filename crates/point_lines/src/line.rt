@@ -1,7 +1,9 @@
 // A line held against the forms of a point's line, in which '#' stands for a digit and any other byte for itself.
-ghost use Rattle.std.specs.Prelude.{◌≡◌, List, [], ◌∷◌, ◌++◌, ℕ, ◌≤◌, ◌<◌, ◌^◌, replicate};
-ghost use Rattle.point_lines.specs.Line.{mark, fits_byte, hex_at, is_form, widths_of};
-ghost use Rattle.point_lines.specs.Met.{met};
+ghost use Rattle.std.specs.Prelude.{◌≡◌, true, SomeIff, ltb, ◌≤◌, ◌<◌, ◌^◌};
+ghost use Rattle.std.specs.List.{list_all};
+ghost use Rattle.text.specs.Digits.{digit_of};
+ghost use Rattle.point_lines.specs.Line.{fits_byte, is_form, is_point, marks, widths_of};
+ghost use Rattle.point_lines.specs.Met.{IsPast, IsNumberPast, IsFormEnd};
 
 use machine::window::WINDOW_MAX;
 use model::{IMAGE_LEN, OLD_IMAGE_LEN};
@@ -31,152 +33,126 @@ pub const SECOND_AT: usize = 24;
 
 pub const STATE_AT: usize = 75;
 
-/// How many digits each length of a line has, and its state. None of either: the line is no point's.
+/// How many digits each length of a line has, and its state.
 #[derive(Clone, Copy)]
 pub struct Widths {
     pub lengths: usize,
     pub state: usize,
 }
 
-/// The widths of a line, its newline left out, by its form: that which is written, or an older one.
-pub fn widths_of(line: &[u8]) -> Widths
-    ensures { result ≡ widths_of line.now }
+/// The widths of a point's line, its newline left out, by its form: that which is written, or an older one.
+pub fn widths_of(line: &[u8]) -> Option<Widths>
+    ensures { SomeIff result (is_point line.now ≡ true) (widths_of line.now) }
 {
-    if is_form(line, LENGTH_DIGITS, STATE_DIGITS, OCTAS_MAX) {
-        return Widths {
-            lengths: LENGTH_DIGITS,
-            state: STATE_DIGITS,
-        };
+    let written = Widths {
+        lengths: LENGTH_DIGITS,
+        state: STATE_DIGITS,
+    };
+    if is_form(line, written, OCTAS_MAX) {
+        return Some(written);
     }
-    if is_form(line, LENGTH_DIGITS, OLD_STATE_DIGITS, OCTAS_MAX) {
-        return Widths {
-            lengths: LENGTH_DIGITS,
-            state: OLD_STATE_DIGITS,
-        };
+    let old = Widths {
+        lengths: LENGTH_DIGITS,
+        state: OLD_STATE_DIGITS,
+    };
+    if is_form(line, old, OCTAS_MAX) {
+        return Some(old);
     }
-    if is_form(line, OLD_LENGTH_DIGITS, STATE_DIGITS, OLD_OCTAS_MAX) {
-        return Widths {
-            lengths: OLD_LENGTH_DIGITS,
-            state: STATE_DIGITS,
-        };
+    let short = Widths {
+        lengths: OLD_LENGTH_DIGITS,
+        state: STATE_DIGITS,
+    };
+    if is_form(line, short, OLD_OCTAS_MAX) {
+        return Some(short);
     }
-    if is_form(line, OLD_LENGTH_DIGITS, OLD_STATE_DIGITS, OLD_OCTAS_MAX) {
-        return Widths {
-            lengths: OLD_LENGTH_DIGITS,
-            state: OLD_STATE_DIGITS,
-        };
+    let short_old = Widths {
+        lengths: OLD_LENGTH_DIGITS,
+        state: OLD_STATE_DIGITS,
+    };
+    if is_form(line, short_old, OLD_OCTAS_MAX) {
+        return Some(short_old);
     }
-    Widths {
-        lengths: 0,
-        state: 0,
+    None
+}
+
+// Whether a line is of the form with these widths, and neither window has more than `octas_max` octabytes.
+fn is_form(line: &[u8], widths: Widths, octas_max: u64) -> bool
+    requires { (widths.lengths ≤ 8) × (octas_max < 2 ^ 56) }
+    ensures { result ≡ is_form widths.lengths widths.state octas_max line.now }
+{
+    match form_end(line, widths, octas_max) {
+        Some(rest) => rest.is_empty(),
+        None => false,
     }
 }
 
-// Whether it is one with lengths of w digits, up to k octabytes each, and a state of d digits.
-fn is_form(line: &[u8], w: usize, d: usize, k: u64) -> bool
-    requires { (w ≤ 8) × (k < 2 ^ 56) }
-    ensures { result ≡ is_form w d k line.now }
+// What follows such a form at the front of a line.
+fn form_end(line: &[u8], widths: Widths, octas_max: u64) -> Option<&[u8]>
+    requires { (widths.lengths ≤ 8) × (octas_max < 2 ^ 56) }
+    ensures { IsFormEnd widths.lengths widths.state octas_max line.now result }
 {
-    let a = hex(line, FIRST_AT, w);
-    if k < a {
-        return false;
-    }
-    let b = hex(line, SECOND_AT + w, w);
-    if k < b {
-        return false;
+    let rest = past(line, b"(point (name #) (octas ")?;
+    let (a, rest) = past_number(rest, widths.lengths)?;
+    let rest = past(rest, b" ")?;
+    let (b, rest) = past_number(rest, widths.lengths)?;
+    if a > octas_max || b > octas_max {
+        return None;
     }
     let windows = 16 * (a + b) as usize;
-    let mut m = Met { good: true, at: 0 };
-    m = m.past(b"(point (name #) (octas ", line);
-    m = m.past_digits(w, line);
-    m = m.past(b" ", line);
-    m = m.past_digits(w, line);
-    m = m.past(b") (bases ################ ################) (state ", line);
-    m = m.past_digits(d, line);
-    m = m.past(b") (windows ", line);
-    m = m.past_digits(windows, line);
-    m = m.past(b"))", line);
-    m.ended(line)
+    let rest = past(rest, b") (bases ################ ################) (state ")?;
+    let rest = past_digits(rest, widths.state)?;
+    let rest = past(rest, b") (windows ")?;
+    let rest = past_digits(rest, windows)?;
+    past(rest, b"))")
 }
 
-// A line held against the front of a form.
-#[derive(Clone, Copy)]
-struct Met {
-    // The line has met all of it.
-    good: bool,
-    // Where in the line the rest starts.
-    at: usize,
+// What follows a part of a form at the front of a line.
+fn past<'l>(line: &'l [u8], form: &[u8]) -> Option<&'l [u8]>
+    ensures { IsPast form.now line.now result }
+{
+    let mut rest = line;
+    for &c in form {
+        let (&b, after) = rest.split_first()?;
+        if !fits_byte(c, b) {
+            return None;
+        }
+        rest = after;
+    }
+    Some(rest)
 }
 
-impl Met {
-    // A part of the form further.
-    fn past(self, form: &[u8], line: &[u8]) -> Met
-        ensures { (p : List ℕ) → met p line.now result ≡ met (form.now ++ p) line.now self }
-    {
-        let mut m = self;
-        for i in 0..form.len() {
-            m = m.past_byte(form[i], line);
-        }
-        m
-    }
+// What follows n digits.
+fn past_digits(line: &[u8], n: usize) -> Option<&[u8]>
+    ensures { IsPast (marks n) line.now result }
+{
+    let (digits, rest) = line.split_at_checked(n)?;
+    if are_digits(digits) { Some(rest) } else { None }
+}
 
-    // n digits further.
-    fn past_digits(self, n: usize, line: &[u8]) -> Met
-        ensures { (p : List ℕ) → met p line.now result ≡ met (replicate n mark ++ p) line.now self }
-    {
-        let mut m = self;
-        for i in 0..n {
-            m = m.past_byte(b'#', line);
-        }
-        m
-    }
+#[tactic(auto, using(text::proofs::Digits::digit_some))]
+fn are_digits(bytes: &[u8]) -> bool
+    ensures { result ≡ list_all (λ b. ltb (digit_of b) 16) bytes.now }
+{
+    bytes.iter().all(|&b| text::read::digit(b).is_some())
+}
 
-    // One byte of the form further.
-    fn past_byte(mut self, c: u8, line: &[u8]) -> Met
-        ensures { (p : List ℕ) → met p line.now result ≡ met (c ∷ p) line.now self }
-    {
-        let at = self.at;
-        if at < line.len() {
-            if fits_byte(c, line[at]) {
-                self.at = at + 1;
-                return self;
-            }
-        }
-        self.good = false;
-        self
-    }
-
-    // The line ends where the form does.
-    fn ended(self, line: &[u8]) -> bool
-        ensures { result ≡ met [] line.now self }
-    {
-        let good = self.good;
-        let at = self.at;
-        if at < line.len() {
-            return false;
-        }
-        good
-    }
+// The number that n digits are, and what follows them.
+fn past_number(line: &[u8], n: usize) -> Option<(u64, &[u8])>
+    requires { n ≤ 8 }
+    ensures { IsNumberPast n line.now result }
+{
+    let (digits, rest) = line.split_at_checked(n)?;
+    Some((text::read::number(digits)?, rest))
 }
 
 // Whether a byte is what a byte of a form says.
+#[tactic(auto, using(text::proofs::Digits::digit_some), unfolding(crate::specs::Line::fits_byte))]
 fn fits_byte(c: u8, b: u8) -> bool
     ensures { result ≡ fits_byte c b }
 {
     if c == b'#' {
-        return text::read::digit(b) < 16;
+        text::read::digit(b).is_some()
+    } else {
+        b == c
     }
-    b == c
-}
-
-// The number that n digits are.
-fn hex(line: &[u8], at: usize, n: usize) -> u64
-    requires { (at < 2 ^ 32) × (n ≤ 8) }
-    ensures { result ≡ hex_at line.now at n }
-{
-    let mut v: u64 = 0;
-    for i in 0..n {
-        v = v * 16 + text::read::digit_at(line, at + i);
-    }
-    v
 }

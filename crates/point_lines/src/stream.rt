@@ -1,9 +1,11 @@
 // A stream of lines: a chunk at a time, the line that has not yet ended held.
-ghost use Rattle.std.specs.Prelude.{◌≡◌, ◌+◌, ◌-◌, ◌≤◌, min, length, take, drop, set};
+ghost use Rattle.std.specs.Prelude.{◌≡◌, ◌+◌, ◌-◌, ◌≤◌, min, length, take, drop};
 ghost use Rattle.model.specs.Octa.{written};
 ghost use Rattle.point_lines.specs.Stream.{chunk_turn, held_after, bad_in};
 
-const NEWLINE: u8 = 10;
+use super::line::Widths;
+
+const NEWLINE: u8 = b'\n';
 
 /// Room for the longest line and its newline.
 pub const HELD_LEN: usize = super::line::LONGEST_LINE + 1;
@@ -16,9 +18,15 @@ const BAD_MOST: usize = 27;
 pub enum Turn {
     /// It has no end yet, and there is room for one: so many bytes are held.
     More(usize),
-    /// It ends, and is a point's: so many bytes of the chunk are done with, so many of those held, its newline too, are the line, and so many digits
-    /// each of its lengths and its state have.
-    Good(usize, usize, usize, usize),
+    /// It ends, and is a point's.
+    Good {
+        /// So many bytes of the chunk are done with.
+        used: usize,
+        /// So many of those held are the line, its newline too.
+        shown: usize,
+        /// And so many digits its lengths and its state have.
+        widths: Widths,
+    },
     /// It is no point's: it ends so, or there is no room for its end.
     Bad,
 }
@@ -37,12 +45,15 @@ pub fn advance(chunk: &[u8], held: &mut [u8], count: usize) -> Turn
     if end == chunk.len() {
         return Turn::More(next);
     }
-    let w = super::line::widths_of(&held[..next]);
-    if w.lengths == 0 {
+    let Some(widths) = super::line::widths_of(&held[..next]) else {
         return Turn::Bad;
-    }
+    };
     held[next] = NEWLINE;
-    Turn::Good(end + 1, next + 1, w.lengths, w.state)
+    Turn::Good {
+        used: end + 1,
+        shown: next + 1,
+        widths,
+    }
 }
 
 /// The text that says that line n is bad, at the start of `out`, and how long it is; none where there is no room for the longest such text. What is behind it stays.
@@ -61,21 +72,9 @@ fn keep(more: &[u8], held: &mut [u8], count: usize) -> usize
     ensures { (held.new ≡ written held.old count more.now)
         × (result ≡ count + min (length more.now) (length held.old - count)) }
 {
-    let mut n = count;
-    for i in 0..more.len() {
-        n = hold(held, n, more[i]);
+    let n = more.len().min(held.len().saturating_sub(count));
+    if n > 0 {
+        held[count..count + n].copy_from_slice(&more[..n]);
     }
-    n
-}
-
-// A byte joins those held, where there is room for it.
-fn hold(held: &mut [u8], n: usize, b: u8) -> usize
-    ensures { (held.new ≡ set held.old n b)
-        × (result ≡ n + min 1 (length held.old - n)) }
-{
-    if n < held.len() {
-        held[n] = b;
-        return n + 1;
-    }
-    n
+    count + n
 }

@@ -15,10 +15,12 @@ use Rattle.point_lines.proofs.Held.{bad_here}
 use Rattle.point_lines.proofs.Padded.{renewed_here, widens_here}
 use Rattle.point_lines.proofs.Turns.{length_after}
 use Rattle.point_lines.proofs.Splits.{any_split, line_by_line}
-use Rattle.point_lines_program.specs.Chunk.{chunk_at, owed, at_start, Starts, Standing, Next, Over, Shows, Ends, Fed, Refills, read_by, Turns, Finishes}
+use Rattle.point_lines_program.specs.Chunk.{chunk_at, owed, at_start, Starts, Standing, Next, Over, Shows, Ends, Fed, Refills, read_by, Turns, Finished}
 use Rattle.point_lines_program.specs.declared.Place.{Place}
+use Rattle.std.specs.Prelude.{Result, Ok, Err, IfOk, MatchResult}
+use Rattle.point_lines.specs.declared.line.Widths.{Widths}
 use Rattle.point_lines_program.specs.declared.After.{After}
-use Rattle.point_lines_program.specs.declared.After.TheVariants.{On, Last, Failed}
+use Rattle.point_lines_program.specs.declared.After.TheVariants.{On, Last}
 
 abbrev pub place : ℕ → ℕ → ℕ → ℕ → Place
 place at end count number = record { at = at; end = end; count = count; number = number }
@@ -85,23 +87,23 @@ module _ (input held : List ℕ) (p : Place) (s : Standing input held p) where
       number_is = omega arith;
     }
 
-    module _ (used shown w d : ℕ) (h : t ≡ Good used shown w d) where
+    module _ (used shown : ℕ) (f' : Widths) (h : t ≡ Good used shown f') where
       pub used_within : p.at + used ≤ p.end
       unfolding Tells
       used_within =
-          let m : 0 < used = (told (Good used shown w d) h []).2 in
-          let k : used ≤ length (chunk_at input p) = (told (Good used shown w d) h []).3 in
+          let m : 0 < used = (told (Good used shown f') h []).2 in
+          let k : used ≤ length (chunk_at input p) = (told (Good used shown f') h []).3 in
           omega (arith, length_chunk, s.in_order)
 
-      pub shows_good : (final : List ℕ) (text : ℕ) → length final ≡ length left → take text final ≡ renewed_in left shown w d → text ≤ length left
+      pub shows_good : (final : List ℕ) (text : ℕ) → length final ≡ length left → take text final ≡ renewed_in left shown f'.lengths f'.state → text ≤ length left
           → Shows input held p final (On text (place (p.at + used) p.end 0 (p.number + 1)))
       unfolding Shows Tells owed line_length
       shows_good final text n e k =
-          let x : LineFits w d shown (length left) = (told (Good used shown w d) h []).4 in
-          let anew : widened w d (take shown left) ≡ take text final = sym (e ∙ renewed_here left shown w d (widens_here (length left) shown w d x.few_lengths x.few_state x.state_ends x.anew_fits)) in
+          let x : LineFits f'.lengths f'.state shown (length left) = (told (Good used shown f') h []).4 in
+          let anew : widened f'.lengths f'.state (take shown left) ≡ take text final = sym (e ∙ renewed_here left shown f'.lengths f'.state (widens_here (length left) shown f'.lengths f'.state x.few_lengths x.few_state x.state_ends x.anew_fits)) in
           record {
             text_is = λ rest.
-                (told (Good used shown w d) h rest).0
+                (told (Good used shown f') h rest).0
                 ∙ ap (λ (l : List ℕ). l ++ printed_from (suc p.number) (drop used (chunk_at input p) ++ rest)) anew
                 ∙ ap (λ (l : List ℕ). take text final ++ printed_from (suc p.number) (l ++ rest)) (further used)
                 ∙ ap (λ (j : ℕ). take text final ++ printed_from j (chunk_at input (place (p.at + used) p.end 0 (p.number + 1)) ++ rest)) (sym (add-one p.number));
@@ -134,7 +136,7 @@ owed_end input held p e =
     ∙ ap (printed_from p.number) (append-nil (take p.count held))
 
 module _ (held : List ℕ) (p : Place) (a : p.at ≡ p.end) where
-  pub ends_well : p.count ≡ 0 → Ends held p held (Last 0 p)
+  pub ends_well : p.count ≡ 0 → Ends held p held 0
   unfolding Ends Over
   ends_well e = λ input s. record {
     text_is = owed_end input held p a ∙ ap (λ (k : ℕ). printed_from p.number (take k held)) e ∙ line_by_line.ended p.number;
@@ -144,7 +146,7 @@ module _ (held : List ℕ) (p : Place) (a : p.at ≡ p.end) where
   }
 
   pub ends_bad : (p.count ≡ 0 → ⊥) → longest_line < length held → (left : List ℕ) (text : ℕ) → length left ≡ length held
-      → take text left ≡ bad_in (length held) p.number → text ≤ length held → Ends held p left (Last text p)
+      → take text left ≡ bad_in (length held) p.number → text ≤ length held → Ends held p left text
   unfolding Ends Over
   ends_bad f l left text n e k =
       let room : 27 ≤ length held = omega arith in
@@ -179,11 +181,9 @@ module _ (k : ℕ) (input held : List ℕ) (p : Place) (s : Standing input held 
     refl,
   )
 
-  pub fed_end : k ≡ 0 → (left : List ℕ) (r : After) → Ends held p left r → Fed k input held p left r
+  pub fed_end : k ≡ 0 → (left : List ℕ) (text : ℕ) → Ends held p left text → Fed k input held p left (Last text p)
   unfolding Fed Ends
-  fed_end f left (On text q) x = absurd x
-  fed_end f left (Last text q) x = (x input s, f)
-  fed_end f left Failed x = absurd x
+  fed_end f left text x = (x input s, f)
 
 module _ (k : ℕ) (input held : List ℕ) (p : Place) (e : p.at ≡ p.end) (after : List ℕ) where
   pub refills : (left : List ℕ) (r : After) → Fed k after held p left r → Refills input held p after left r
@@ -200,7 +200,6 @@ module _ (k : ℕ) (input held : List ℕ) (p : Place) (e : p.at ≡ p.end) (aft
     over = x.0.over;
     place_is = x.0.place_is;
   }
-  refills left Failed x = absurd x
 
 -- ---- a turn
 
@@ -209,13 +208,22 @@ module _ (input held : List ℕ) (p : Place) where
   unfolding Shows Turns
   turns_shown h left (On text q) x = rw (lt-ltb p.at p.end h) x
   turns_shown h left (Last text q) x = x.1
-  turns_shown h left Failed x = absurd x
 
   pub turns_read : p.end ≤ p.at → (after left : List ℕ) (r : After) → Refills input held p after left r → Turns input held p after left r
   unfolding Refills Turns
   turns_read h after left (On text q) x = rw (le-ltb p.at p.end h) x
   turns_read h after left (Last text q) x = x
-  turns_read h after left Failed x = tt
+
+-- of a call that may fail
+pub turns_read_ok : {E : Type 0} (input held : List ℕ) (p : Place) → p.end ≤ p.at → (after left : List ℕ) (r : Result After E)
+    → IfOk r (Refills input held p after left) → IfOk r (Turns input held p after left)
+turns_read_ok input held p h after left (Ok a) x = turns_read input held p h after left a x
+turns_read_ok input held p h after left (Err e) x = tt
+
+-- what holds where a call has not failed, once its error has another type
+pub through : {E : Type 0} (D : Type 0) (P : After → Type 0) (r : Result After E) (a : After) → MatchResult r (λ (x : After). ◌≡◌ {A = Result After D} (Ok a) (Ok x)) (λ (e : E). ⊥) → IfOk r P → P a
+through D P (Ok x) a h p = let q : x ≡ a = cc in rw q at p
+through D P (Err e) a h p = absurd h
 
 -- ---- all of them
 
@@ -244,8 +252,8 @@ module _ (input held : List ℕ) (p : Place) (m : Reached input held p) (after l
         ∙ sym (append_assoc m.shown (take text left) (owed after left q rest));
   }
 
-  pub finishes_last : (r : After) (text : ℕ) (q : Place) → Turns input held p after left r → r ≡ Last text q → Finishes left (Last text q)
-  unfolding Turns Finishes
+  pub finishes_last : (r : After) (text : ℕ) (q : Place) → Turns input held p after left r → r ≡ Last text q → Finished left text q
+  unfolding Turns
   finishes_last r text q x e =
       let y = subst (λ (z : After). Turns input held p after left z) e x in
       record {
@@ -255,7 +263,3 @@ module _ (input held : List ℕ) (p : Place) (m : Reached input held p) (after l
         within = y.within;
         over = y.over;
       }
-
-pub last_within : (left : List ℕ) (r : After) (text : ℕ) (q : Place) → Finishes left r → r ≡ Last text q → text ≤ length left
-unfolding Finishes
-last_within left r text q x e = (subst (λ (y : After). Finishes left y) e x).within

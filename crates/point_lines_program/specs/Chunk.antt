@@ -6,7 +6,7 @@ use Rattle.point_lines.specs.Line.{longest_line}
 use Rattle.point_lines.specs.Stream.{printed, printed_from, Unended}
 use Rattle.point_lines_program.specs.declared.Place.{Place}
 use Rattle.point_lines_program.specs.declared.After.{After}
-use Rattle.point_lines_program.specs.declared.After.TheVariants.{On, Last, Failed}
+use Rattle.point_lines_program.specs.declared.After.TheVariants.{On, Last}
 
 -- "a 64 KiB input buffer"
 abbrev pub input_length : ℕ
@@ -70,25 +70,20 @@ pub record End (input held : List ℕ) (p : Place) (left : List ℕ) (text : ℕ
 unfoldable pub Shows : List ℕ → List ℕ → Place → List ℕ → After → Type 0
 Shows input held p left (On text q) = Next input held p [] input left text q
 Shows input held p left (Last text q) = ((rest : List ℕ) → owed input held p rest ≡ take text left) × End input held p left text q
-Shows input held p left Failed = ⊥
 
 -- where the input has ended, and what is held is the begin of a line
-unfoldable pub Ends : List ℕ → Place → List ℕ → After → Type 0
-Ends held p left (On text q) = ⊥
-Ends held p left (Last text q) = (input : List ℕ) → Standing input held p → End input held p left text q
-Ends held p left Failed = ⊥
+unfoldable pub Ends : List ℕ → Place → List ℕ → ℕ → Type 0
+Ends held p left text = (input : List ℕ) → Standing input held p → End input held p left text p
 
 -- a read has put k bytes into the input buffer, and all of them are the next chunk; the input has ended only where there are none
 unfoldable pub Fed : ℕ → List ℕ → List ℕ → Place → List ℕ → After → Type 0
 Fed k input held p left (On text q) = Next input held p (chunk_at input q) input left text q × (q.at ≡ 0) × (q.end ≡ k)
 Fed k input held p left (Last text q) = End input held p left text q × (k ≡ 0)
-Fed k input held p left Failed = ⊥
 
 -- a read into the input buffer, of which nothing was left
 unfoldable pub Refills : List ℕ → List ℕ → Place → List ℕ → List ℕ → After → Type 0
 Refills input held p after left (On text q) = Next input held p (chunk_at after q) after left text q
 Refills input held p after left (Last text q) = End input held p left text q
-Refills input held p after left Failed = Unit {0}
 
 -- ---- a turn, and all of them
 
@@ -99,7 +94,6 @@ read_by p after q = cond (ltb p.at p.end) [] (chunk_at after q)
 unfoldable pub Turns : List ℕ → List ℕ → Place → List ℕ → List ℕ → After → Type 0
 Turns input held p after left (On text q) = Next input held p (read_by p after q) after left text q
 Turns input held p after left (Last text q) = End input held p left text q
-Turns input held p after left Failed = Unit {0}
 
 -- of the text that is read, what was handed over before and then the last text is all that is printed; and nothing of it is left, or its line is bad
 pub record Finished (left : List ℕ) (text : ℕ) (q : Place) : Type 0 where
@@ -109,7 +103,5 @@ pub record Finished (left : List ℕ) (text : ℕ) (q : Place) : Type 0 where
   pub within : text ≤ length left
   pub over : Over left text q
 
-unfoldable pub Finishes : List ℕ → After → Type 0
-Finishes left (On text q) = ⊥
-Finishes left (Last text q) = Finished left text q
-Finishes left Failed = Unit {0}
+abbrev pub Finishes : List ℕ → ℕ × Place → Type 0
+Finishes left r = Finished left r.0 r.1

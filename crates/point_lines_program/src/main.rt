@@ -2,20 +2,18 @@
 //! point's is told by `(bad N)`, and ends it. A read or a write that fails is told on standard error.
 #![tactic(auto)]
 
-ghost use Rattle.std.specs.Prelude.{◌≡◌, ◌+◌, ◌≤◌, ◌<◌, ◌^◌, length};
+ghost use Rattle.std.specs.Prelude.{◌≡◌, ◌+◌, ◌≤◌, ◌<◌, ◌^◌, IfOk, length};
 ghost use Rattle.point_lines.specs.Line.{longest_line};
 ghost use Rattle.point_lines_program.specs.Chunk.{input_length, held_length, turns_most, at_start, Standing, Shows, Ends, Fed, Refills, Turns, Finishes};
 
 use point_lines::stream::{HELD_LEN, Turn};
-use std::io::{Eprint, Print, Read, Write};
+use std::io;
+use std::io::{Eprint, Print, Read};
 use std::process::ExitCode;
-use std::{io, str};
+use text::report::failure;
 
 /// Bytes of the input that are read at once.
 const INPUT_LEN: usize = 65536;
-
-/// The longest text of an error that is told.
-const ERROR_MOST: usize = 128;
 
 /// Where the program stands: the bytes of the input buffer from `at` to `end` are not looked at yet, and `count` bytes are held of line `number`.
 #[derive(Clone, Copy)]
@@ -33,8 +31,14 @@ enum After {
     On(usize, Place),
     /// Nothing: this is the last text, at the place from which the turn was made.
     Last(usize, Place),
-    /// There is no text: a read or a write has failed, and was told.
-    Failed,
+}
+
+/// What keeps the program from its end.
+#[derive(Drop)]
+enum Failure {
+    Read(io::Error),
+    Write(io::Error),
+    TooLong,
 }
 
 fn input_buffer() -> [u8; INPUT_LEN]
@@ -73,47 +77,51 @@ fn show_one(input: &[u8], held: &mut [u8], place: Place) -> After
     requires { Standing input.now held.old place × (place.number + 1 < 2 ^ 64) }
     ensures { Shows input.now held.old place held.new result }
 {
-    let at = place.at;
-    let end = place.end;
-    let n = place.number;
-    let turn = point_lines::stream::advance(&input[at..end], held, place.count);
-    match turn {
-        Turn::More(more) => {
+    let Place {
+        at,
+        end,
+        number,
+        ..
+    } = place;
+    match point_lines::stream::advance(&input[at..end], held, place.count) {
+        Turn::More(count) => {
             let next = Place {
                 at: end,
-                end: end,
-                count: more,
-                number: n,
+                count,
+                ..place
             };
             After::On(0, next)
         }
-        Turn::Good(used, shown, w, d) => {
-            let text = point_lines::anew::renew(held, shown, w, d);
+        Turn::Good {
+            used,
+            shown,
+            widths,
+        } => {
+            let text = point_lines::anew::renew(held, shown, widths);
             let next = Place {
                 at: at + used,
-                end: end,
+                end,
                 count: 0,
-                number: n + 1,
+                number: number + 1,
             };
             After::On(text, next)
         }
         Turn::Bad => {
-            let text = point_lines::stream::put_bad(held, n);
+            let text = point_lines::stream::put_bad(held, number);
             After::Last(text, place)
         }
     }
 }
 
-/// The input has ended: a line that has begun has no newline.
-fn at_end(held: &mut [u8], place: Place) -> After
+/// The input has ended: a line that has begun has no newline. The last text.
+fn at_end(held: &mut [u8], place: Place) -> usize
     requires { (longest_line < length held.old) × (place.at ≡ place.end) }
     ensures { Ends held.old place held.new result }
 {
     if place.count == 0 {
-        return After::Last(0, place);
+        return 0;
     }
-    let text = point_lines::stream::put_bad(held, place.number);
-    After::Last(text, place)
+    point_lines::stream::put_bad(held, place.number)
 }
 
 /// A read has put k bytes into the buffer, of which nothing was left; none where the input has ended.
@@ -122,124 +130,89 @@ fn fed(k: usize, input: &[u8], held: &mut [u8], place: Place) -> After
     ensures { Fed k input.now held.old place held.new result }
 {
     if k == 0 {
-        return at_end(held, place);
+        return After::Last(at_end(held, place), place);
     }
     let next = Place {
         at: 0,
         end: k,
-        count: place.count,
-        number: place.number,
+        ..place
     };
     After::On(0, next)
 }
 
-/// What failed is told on standard error, and why, without the number that errno has.
-fn fail<R: Eprint>(rt: &R, what: &str, error: io::Error) {
-    let mut text = [0u8; ERROR_MOST];
-    let mut rest = &mut text[..];
-    let _ = write!(rest, "{error}");
-    let n = ERROR_MOST.saturating_sub(rest.len());
-    let why = str::from_utf8(&text[..n]).unwrap_or("");
-    let words = match why.split_once(" (os error ") {
-        Some((words, _)) => words,
-        None => why,
-    };
-    let _ = eprintln!(rt; "{what}: {words}");
-}
-
 /// The input is read once, over a buffer of which nothing is left.
-fn refill<I: Read, R: Eprint>(
+fn refill<I: Read>(
     reader: &mut I,
-    rt: &R,
     input: &mut [u8],
     held: &mut [u8],
     place: Place,
-) -> After
+) -> io::Result<After>
     requires { Standing input.old held.old place × (place.at ≡ place.end) }
-    ensures { Refills input.old held.old place input.new held.new result }
+    ensures { IfOk result (Refills input.old held.old place input.new held.new) }
 {
-    match reader.read(input) {
-        Ok(k) => fed(k, input, held, place),
-        Err(error) => {
-            fail(rt, "standard input", error);
-            After::Failed
-        }
-    }
+    let k = reader.read(input)?;
+    Ok(fed(k, input, held, place))
 }
 
 /// A turn: within the input buffer, or a read where nothing of it is left.
-fn turn<I: Read, R: Eprint>(
+fn turn<I: Read>(
     reader: &mut I,
-    rt: &R,
     input: &mut [u8],
     held: &mut [u8],
     place: Place,
-) -> After
+) -> io::Result<After>
     requires { Standing input.old held.old place × (place.number + 1 < 2 ^ 64) }
-    ensures { Turns input.old held.old place input.new held.new result }
+    ensures { IfOk result (Turns input.old held.old place input.new held.new) }
 {
     if place.at < place.end {
-        return show_one(input, held, place);
+        return Ok(show_one(input, held, place));
     }
-    refill(reader, rt, input, held, place)
+    refill(reader, input, held, place)
 }
 
-/// A text is written; false where that fails, which is told.
-fn print<R: Print + Eprint>(rt: &R, text: &[u8]) -> bool {
-    match rt.write_all(text) {
-        Ok(()) => true,
-        Err(error) => {
-            fail(rt, "standard output", error);
-            false
-        }
-    }
-}
-
-/// Turns from the first on, each text but the last printed.
-fn run<I: Read, R: Print + Eprint>(
+/// Turns from the first on, each text but the last printed; the last one, and where the program stands then.
+fn run<I: Read, R: Print>(
     reader: &mut I,
     rt: &R,
     input: &mut [u8],
     held: &mut [u8],
-) -> After
+) -> Result<(usize, Place), Failure>
     requires { (length input.old ≡ input_length) × (longest_line < length held.old) }
-    ensures { Finishes held.new result }
+    ensures { IfOk result (Finishes held.new) }
 {
-    let mut left = turns_most();
     let mut place = start();
-    while left > 0 {
-        left -= 1;
-        let after = turn(reader, rt, input, held, place);
-        match after {
+    for _ in 0..turns_most() {
+        match turn(reader, input, held, place).map_err(Failure::Read)? {
             After::On(text, next) => {
-                if !print(rt, &held[..text]) {
-                    return After::Failed;
-                }
+                rt.write_all(&held[..text]).map_err(Failure::Write)?;
                 place = next;
             }
-            After::Last(text, end) => {
-                return After::Last(text, end);
-            }
-            After::Failed => {
-                return After::Failed;
-            }
+            After::Last(text, end) => return Ok((text, end)),
         }
     }
-    let _ = eprintln!(rt; "standard input: too long");
-    After::Failed
+    Err(Failure::TooLong)
+}
+
+/// What failed is told on standard error.
+fn tell<R: Eprint>(rt: &R, what: Failure) -> ExitCode {
+    match what {
+        Failure::Read(error) => failure(rt, "standard input", error),
+        Failure::Write(error) => failure(rt, "standard output", error),
+        Failure::TooLong => {
+            let _ = eprintln!(rt; "standard input: too long");
+            ExitCode::FAILURE
+        }
+    }
 }
 
 fn main(rt: HostRuntime) -> ExitCode {
     let mut input = input_buffer();
     let mut held = held_buffer();
-    let after = run(&mut rt.stdin(), &rt, &mut input, &mut held);
-    match after {
-        After::Last(text, _) => {
-            if print(&rt, &held[..text]) {
-                return ExitCode::SUCCESS;
-            }
-            ExitCode::FAILURE
-        }
-        _ => ExitCode::FAILURE,
+    match run(&mut rt.stdin(), &rt, &mut input, &mut held) {
+        Ok((text, _)) => match rt.write_all(&held[..text]) {
+            Ok(()) => ExitCode::SUCCESS,
+            Err(error) => tell(&rt, Failure::Write(error)),
+        },
+        Err(what) => tell(&rt, what),
     }
 }

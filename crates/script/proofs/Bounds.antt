@@ -1,27 +1,23 @@
 -- How long the text that a script prints can be: 12 bytes for each of the script and 27 more. A step's line prints 189 at most and has 17, its newline counted.
 use Rattle.model.proofs.Prelude.{suc, ℕ, ◌*◌, ◌+◌, ◌<◌, ◌≤◌, Bool, cond, false, true, ◌&&◌, List, [], ◌++◌, ◌∷◌, refl, ◌≡◌, arith, eqb, leb, ltb, drop, get_or}
 use Rattle.model.proofs.Prelude.{length, length-append, length-drop, leb-true, ltb-true, start, Windows, Outcome, r_g, r_l, r_o, sp, step_of, and_left, on}
-use Rattle.script.proofs.Prelude.{none, Option, some, State, codes, digit_of, number_of, at_first, pieces, bad_line, bad_text, hex_mark, filled_most}
+use Rattle.script.proofs.Prelude.{None, Option, Some, State, codes, number_of, at_first, pieces, bad_line, bad_text, hex_mark, filled_most}
 use Rattle.script.proofs.Prelude.{length_filled, piece_most}
+use Rattle.script.proofs.Digits.{length_digits}
 use Rattle.script.specs.Line.{register_line, special_line, step_line, digits_at, is_number, starts_with, before, matched, register_form, special_form, step_form, or_else, line_of}
 use Rattle.script.specs.Script.{done_line, refused_line, step_text, form_turn, carried, windows, script_most, printed, output_length, Bounded}
 use Rattle.script.specs.declared.line.Form.{Form}
-use Rattle.script.specs.declared.line.Form.TheVariants.{Register, Special, Step, Bad}
-use Rattle.script.specs.declared.line.Instruction.{Instruction}
+use Rattle.script.specs.declared.line.Form.TheVariants.{Register, Special, Step}
+use Rattle.model.specs.declared.Instruction.{Instruction}
 
 -- ---- a line is no shorter than its pattern
 
 Long : List ℕ → List ℕ → Option (List ℕ) → Type 0
-Long p l m = (vs : List ℕ) → m ≡ some vs → length p ≤ length l
+Long p l m = (vs : List ℕ) → m ≡ Some vs → length p ≤ length l
 
-long_none : (p l : List ℕ) → Long p l none
+long_none : (p l : List ℕ) → Long p l None
 unfolding Long
 long_none p l vs e = let z : ◌≡◌ {A = ℕ} 0 1 = cc in absurd (omega arith)
-
-length_digits_law : (l : List ℕ) → length (digits_at l) ≤ length l
-unfolding digits_at
-length_digits_law [] = omega arith
-length_digits_law (b ∷ l) = let h = length_digits_law l in on (λ (ds : List ℕ). length ds ≤ suc (length l)) (ltb (digit_of b) 16) (λ e. omega arith) (λ e. omega arith)
 
 some_digits : (ds : List ℕ) → is_number ds ≡ true → 0 < length ds
 unfolding is_number
@@ -30,8 +26,8 @@ some_digits ds e = ltb-true 0 (length ds) (and_left (ltb 0 (length ds)) _ e)
 -- by a number and by a byte
 long_before : (c : ℕ) (p l : List ℕ) (k v : ℕ) (m : Option (List ℕ)) → 0 < k → k ≤ length l → Long p (drop k l) m → Long (c ∷ p) l (before v m)
 unfolding Long
-long_before c p l k v none h f r vs e = long_none (c ∷ p) l vs e
-long_before c p l k v (some us) h f r vs e = omega (arith, r us refl, length-drop k l)
+long_before c p l k v None h f r vs e = long_none (c ∷ p) l vs e
+long_before c p l k v (Some us) h f r vs e = omega (arith, r us refl, length-drop k l)
 
 long_byte : (c : ℕ) (p l : List ℕ) (m : Option (List ℕ)) → starts_with c l ≡ true → Long p (drop 1 l) m → Long (c ∷ p) l m
 unfolding Long
@@ -46,11 +42,11 @@ matches_long (c ∷ p) l =
     let byte = matches_long p (drop 1 l) in
     on (Long (c ∷ p) l) (eqb c hex_mark)
     (λ h. on (Long (c ∷ p) l) (is_number (digits_at l))
-    (λ d. long_before c p l (length (digits_at l)) (number_of 0 (digits_at l)) _ (some_digits (digits_at l) d) (length_digits_law l) number)
+    (λ d. long_before c p l (length (digits_at l)) (number_of 0 (digits_at l)) _ (some_digits (digits_at l) d) (length_digits l) number)
     (λ d. long_none (c ∷ p) l))
     (λ h. on (Long (c ∷ p) l) (starts_with c l) (λ d. long_byte c p l _ d byte) (λ d. long_none (c ∷ p) l))
 
-pub matched_long : (p l vs : List ℕ) → matched p l ≡ some vs → length p ≤ length l
+pub matched_long : (p l vs : List ℕ) → matched p l ≡ Some vs → length p ≤ length l
 unfolding Long
 matched_long p l = matches_long p l
 
@@ -68,22 +64,22 @@ unfolding bad_text filled_most piece_most bad_line codes
 bad_most_law n = length_filled bad_line (n ∷ [])
 
 -- a line that says a step is as long as the shortest
-Enough : List ℕ → Form → Type 0
-Enough l (Register a) = Unit {0}
-Enough l (Special a) = Unit {0}
-Enough l (Step i) = 16 ≤ length l
-Enough l Bad = Unit {0}
+Enough : List ℕ → Option Form → Type 0
+Enough l (Some (Register a)) = Unit {0}
+Enough l (Some (Special a)) = Unit {0}
+Enough l (Some (Step i)) = 16 ≤ length l
+Enough l None = Unit {0}
 
-or_else_law : (P : Form → Type 0) (m : Option (List ℕ)) (f : List ℕ → Form) (e : Form) → ((vs : List ℕ) → m ≡ some vs → P (f vs)) → P e → P (or_else m f e)
-or_else_law P none f e h k = k
-or_else_law P (some vs) f e h k = h vs refl
+or_else_law : (P : Option Form → Type 0) (m : Option (List ℕ)) (f : List ℕ → Option Form) (e : Option Form) → ((vs : List ℕ) → m ≡ Some vs → P (f vs)) → P e → P (or_else m f e)
+or_else_law P None f e h k = k
+or_else_law P (Some vs) f e h k = h vs refl
 
 enough : (l : List ℕ) → Enough l (line_of l)
 unfolding line_of register_form special_form step_form Enough step_line codes
 enough l =
     or_else_law (Enough l) (matched register_line l) register_form _ (λ vs e. on (Enough l) (ltb (get_or vs 0 0) 256) (λ t. tt) (λ t. tt))
     (or_else_law (Enough l) (matched special_line l) special_form _ (λ vs e. on (Enough l) (ltb (get_or vs 0 0) 32) (λ t. tt) (λ t. tt))
-    (or_else_law (Enough l) (matched step_line l) step_form Bad (λ vs e. on (Enough l) (ltb (get_or vs 0 0) 256 && (ltb (get_or vs 1 0) 256 && (ltb (get_or vs 2 0) 256 && ltb (get_or vs 3 0) 256)))
+    (or_else_law (Enough l) (matched step_line l) step_form None (λ vs e. on (Enough l) (ltb (get_or vs 0 0) 256 && (ltb (get_or vs 1 0) 256 && (ltb (get_or vs 2 0) 256 && ltb (get_or vs 3 0) 256)))
     (λ t. matched_long step_line l vs e) (λ t. tt))
     tt))
 
@@ -92,19 +88,19 @@ module _ (n : ℕ) (s : State) (w : Windows) (l : List ℕ) where
   abbrev stepped : Instruction → Outcome State Windows
   stepped i = step_of w s i.op i.x i.y i.z
 
-  most_if_on : (f : Form) → Enough l f → (form_turn n s w f).goes_on ≡ true → length (form_turn n s w f).text ≤ 12 * suc (length l)
+  most_if_on : (f : Option Form) → Enough l f → (form_turn n s w f).goes_on ≡ true → length (form_turn n s w f).text ≤ 12 * suc (length l)
   unfolding form_turn Enough
-  most_if_on (Register a) h e = omega arith
-  most_if_on (Special a) h e = omega arith
-  most_if_on (Step i) h e = omega (arith, text_most i (stepped i).reply (stepped i).state)
-  most_if_on Bad h e = absurd (let z : ◌≡◌ {A = ℕ} 0 1 = cc in omega arith)
+  most_if_on (Some (Register a)) h e = omega arith
+  most_if_on (Some (Special a)) h e = omega arith
+  most_if_on (Some (Step i)) h e = omega (arith, text_most i (stepped i).reply (stepped i).state)
+  most_if_on None h e = absurd (let z : ◌≡◌ {A = ℕ} 0 1 = cc in omega arith)
 
-  most : (f : Form) → Enough l f → length (form_turn n s w f).text ≤ 12 * suc (length l) + 27
+  most : (f : Option Form) → Enough l f → length (form_turn n s w f).text ≤ 12 * suc (length l) + 27
   unfolding form_turn Enough
-  most (Register a) h = omega arith
-  most (Special a) h = omega arith
-  most (Step i) h = omega (arith, text_most i (stepped i).reply (stepped i).state)
-  most Bad h = omega (arith, bad_most_law n)
+  most (Some (Register a)) h = omega arith
+  most (Some (Special a)) h = omega arith
+  most (Some (Step i)) h = omega (arith, text_most i (stepped i).reply (stepped i).state)
+  most None h = omega (arith, bad_most_law n)
 
 -- ---- what the lines print
 

@@ -1,17 +1,20 @@
 -- Laws of a script carried through: what a line's turn prints, and what is left after it.
 use Rattle.model.proofs.Prelude.{suc, ℕ, ◌+◌, ◌-◌, ◌<◌, ◌≤◌, Bool, cond, false, true, append-nil, List, [], ◌++◌, ◌∷◌, ap, refl, sym, ◌∙◌, ◌≡◌, add-one, arith}
 use Rattle.model.proofs.Prelude.{eqb, drop, drop_of_length-le, length, length-drop, take, drop-drop, set_out, eq-eqb, le-leb, lt-leb, ne_eqb, start, Windows}
-use Rattle.model.proofs.Prelude.{written, made, fresh, r_g, r_l, r_o, set_register, sp, with_special, step_of}
+use Rattle.model.proofs.Prelude.{written, made, fresh, r_g, r_l, r_o, set_register, sp, with_special, step_of, Outcome}
 use Rattle.script.proofs.Prelude.{State, line_length, pieces, bad_text, filled, Wrote, length_line, pieces_last, pieces_line, pieces_some, Leads}
 use Rattle.script.proofs.Prelude.{leads_last, leads_on, wrote_as, wrote_nothing}
 use Rattle.instruction.specs.StepAnswer.{Numbered}
 use Rattle.script.specs.Line.{line_of}
 use Rattle.script.specs.Script.{done_line, refused_line, step_text, form_turn, carried, windows, script_most, printed}
-use Rattle.script.specs.Writing.{TurnWritten}
+use Rattle.script.specs.Writing.{TurnWritten, end_of, goes_on}
+use Rattle.std.specs.Prelude.{Option, None, Some}
+use Rattle.std.specs.declared.ops.ControlFlow.{ControlFlow}
+use Rattle.std.specs.declared.ops.ControlFlow.TheVariants.{Continue, Break}
 use Rattle.script.specs.declared.line.Form.{Form}
-use Rattle.script.specs.declared.line.Form.TheVariants.{Register, Special, Step, Bad}
+use Rattle.script.specs.declared.line.Form.TheVariants.{Register, Special, Step}
 use Rattle.script.specs.declared.line.Setting.{Setting}
-use Rattle.script.specs.declared.line.Instruction.{Instruction}
+use Rattle.model.specs.declared.Instruction.{Instruction}
 
 -- ---- what a line prints
 
@@ -31,37 +34,44 @@ pub special_out : (s : State) (k v : ℕ) → length s.special ≤ k → s ≡ w
 unfolding with_special
 special_out s k v h = λ i. record { general = s.general; special = sym (set_out s.special k v h) i; pc = s.pc; halt = s.halt; marks = s.marks; mask = s.mask }
 
-module _ (n : ℕ) (s : State) (w : Windows) (f : Form) (b : List ℕ) (at : ℕ) where
-  pub leaves_register : (a : Setting) → f ≡ Register a → (t : State) → t ≡ set_register s a.index a.value → TurnWritten (form_turn n s w f) b at b at true t w
+module _ (n : ℕ) (s : State) (w : Windows) (b : List ℕ) (at : ℕ) where
+  pub leaves_register : (a : Setting) (t : State) → t ≡ set_register s a.index a.value
+      → TurnWritten (form_turn n s w (Some (Register a))) b at b (Continue at) t w
   unfolding form_turn
-  leaves_register a e t h = rw e (record { text_is = wrote_nothing b at; goes_on_is = refl; state_is = h; windows_are = refl })
+  leaves_register a t h = record { text_is = wrote_nothing b at; goes_on_is = refl; state_is = h; windows_are = refl }
 
-  pub leaves_special : (a : Setting) → f ≡ Special a → (t : State) → t ≡ with_special s a.index a.value → TurnWritten (form_turn n s w f) b at b at true t w
+  pub leaves_special : (a : Setting) (t : State) → t ≡ with_special s a.index a.value
+      → TurnWritten (form_turn n s w (Some (Special a))) b at b (Continue at) t w
   unfolding form_turn
-  leaves_special a e t h = rw e (record { text_is = wrote_nothing b at; goes_on_is = refl; state_is = h; windows_are = refl })
+  leaves_special a t h = record { text_is = wrote_nothing b at; goes_on_is = refl; state_is = h; windows_are = refl }
 
-  pub leaves_bad : f ≡ Bad → (c : List ℕ) (end : ℕ) → Wrote b at (bad_text n) c end → TurnWritten (form_turn n s w f) b at c end false s w
+  pub leaves_bad : (c : List ℕ) (end : ℕ) → Wrote b at (bad_text n) c end → TurnWritten (form_turn n s w None) b at c (Break end) s w
   unfolding form_turn
-  leaves_bad e c end h = rw e (record { text_is = h; goes_on_is = refl; state_is = refl; windows_are = refl })
+  leaves_bad c end h = record { text_is = h; goes_on_is = refl; state_is = refl; windows_are = refl }
 
-  pub leaves_same : (g : Form) → f ≡ g → (c : List ℕ) (end : ℕ) (going : Bool) (t : State) (v : Windows)
-      → TurnWritten (form_turn n s w g) b at c end going t v → TurnWritten (form_turn n s w f) b at c end going t v
-  leaves_same g e c end going t v h = rw e h
+-- a step's text is written, and the script goes on where it is done
+module _ (n : ℕ) (s : State) (w : Windows) (i : Instruction) (b : List ℕ) (at number : ℕ) (t : State) (v : Windows)
+    (g : Numbered (step_of w s i.op i.x i.y i.z) number t v) (c : List ℕ) (end : ℕ) (p : Wrote b at (step_text i number t) c end) where
+  o : Outcome State Windows
+  o = step_of w s i.op i.x i.y i.z
 
-pub leaves_step : (n : ℕ) (s : State) (w : Windows) (i : Instruction) (b : List ℕ) (at number : ℕ) (t : State) (v : Windows)
-    → Numbered (step_of w s i.op i.x i.y i.z) number t v
-    → (c : List ℕ) (end : ℕ) → Wrote b at (step_text i number t) c end → TurnWritten (form_turn n s w (Step i)) b at c end (eqb number 0) t v
-unfolding form_turn
-leaves_step n s w i b at number t v g c end p =
-    let o = step_of w s i.op i.x i.y i.z in
-    let r : number ≡ o.reply = g.reply_is in
-    record {
-      text_is = wrote_as b at (step_text i number t) (step_text i o.reply o.state) c end
-          (ap (λ (k : ℕ). step_text i k t) r ∙ ap (step_text i o.reply) g.state_is) p;
-      goes_on_is = ap (λ (k : ℕ). eqb k 0) r;
-      state_is = g.state_is;
-      windows_are = g.window_is;
-    }
+  leaves_step : (r : ControlFlow ℕ ℕ) → end_of r ≡ end → goes_on r ≡ eqb number 0 → TurnWritten (form_turn n s w (Some (Step i))) b at c r t v
+  unfolding form_turn o
+  leaves_step r e h =
+      let k : number ≡ o.reply = g.reply_is in
+      record {
+        text_is = rw e (wrote_as b at (step_text i number t) (step_text i o.reply o.state) c end
+            (ap (λ (m : ℕ). step_text i m t) k ∙ ap (step_text i o.reply) g.state_is) p);
+        goes_on_is = h ∙ ap (λ (m : ℕ). eqb m 0) k;
+        state_is = g.state_is;
+        windows_are = g.window_is;
+      }
+
+  pub leaves_done : number ≡ 0 → TurnWritten (form_turn n s w (Some (Step i))) b at c (Continue end) t v
+  leaves_done z = leaves_step (Continue end) refl (sym (eq-eqb number 0 z))
+
+  pub leaves_refused : (number ≡ 0 → ⊥) → TurnWritten (form_turn n s w (Some (Step i))) b at c (Break end) t v
+  leaves_refused z = leaves_step (Break end) refl (sym (ne_eqb number 0 z))
 
 -- ---- what is left of a script
 
@@ -89,7 +99,7 @@ module _ (n : ℕ) (s : State) (w : Windows) where
       rw (pieces_last (drop at l) k, ne_eqb (length (drop at l)) 0 z)
 
   -- a line
-  carried_line : (l : List ℕ) (at end : ℕ) (f : Form) → at < length l → end ≡ at + line_length (drop at l) → (end ≡ length l → ⊥)
+  carried_line : (l : List ℕ) (at end : ℕ) (f : Option Form) → at < length l → end ≡ at + line_length (drop at l) → (end ≡ length l → ⊥)
       → f ≡ line_of (take (end - at) (drop at l))
       → carried n s w (pieces (drop at l))
       ≡ (form_turn n s w f).text
@@ -102,20 +112,20 @@ module _ (n : ℕ) (s : State) (w : Windows) where
       (carried_more (take (line_length (drop at l)) (drop at l)) (pieces (drop (suc (line_length (drop at l))) (drop at l))) (pieces_some _))
 
 -- how the loop over lines goes on, and how it ends
-module _ (l b t : List ℕ) (n : ℕ) (s : State) (w : Windows) (c : List ℕ) (next at end : ℕ) (f : Form) (d : List ℕ) (m : ℕ) (going : Bool) (u : State) (v : Windows)
+module _ (l b t : List ℕ) (n : ℕ) (s : State) (w : Windows) (c : List ℕ) (next at end : ℕ) (f : Option Form) (d : List ℕ) (r : ControlFlow ℕ ℕ) (u : State) (v : Windows)
     (h : at < length l) (e : end ≡ at + line_length (drop at l)) (z : end ≡ length l → ⊥) (g : f ≡ line_of (take (end - at) (drop at l)))
-    (p : Leads c next (carried n s w (pieces (drop at l))) b 0 t) (q : TurnWritten (form_turn n s w f) c next d m going u v) where
-  left : (k : Bool) → going ≡ k
+    (p : Leads c next (carried n s w (pieces (drop at l))) b 0 t) (q : TurnWritten (form_turn n s w f) c next d r u v) where
+  left : (k : Bool) → goes_on r ≡ k
       → carried n s w (pieces (drop at l))
       ≡ (form_turn n s w f).text
       ++ cond k (carried (n + 1) (form_turn n s w f).state (form_turn n s w f).windows (pieces (drop (end + 1) l))) []
-  left k r = rw (← r, q.goes_on_is) (carried_line n s w l at end f h e z g)
+  left k e' = rw (← e', q.goes_on_is) (carried_line n s w l at end f h e z g)
 
-  pub line_onward : going ≡ true → Leads d m (carried (n + 1) u v (pieces (drop (end + 1) l))) b 0 t
-  line_onward r = rw (q.state_is, q.windows_are) (leads_on b 0 t c next _ (form_turn n s w f).text _ d m p (left true r) q.text_is)
+  pub line_onward : goes_on r ≡ true → Leads d (end_of r) (carried (n + 1) u v (pieces (drop (end + 1) l))) b 0 t
+  line_onward k = rw (q.state_is, q.windows_are) (leads_on b 0 t c next _ (form_turn n s w f).text _ d (end_of r) p (left true k) q.text_is)
 
-  pub line_stop : going ≡ false → Wrote b 0 t d m
-  line_stop r = leads_last b 0 t c next _ (form_turn n s w f).text d m p (left false r ∙ append-nil (form_turn n s w f).text) q.text_is
+  pub line_stop : goes_on r ≡ false → Wrote b 0 t d (end_of r)
+  line_stop k = leads_last b 0 t c next _ (form_turn n s w f).text d (end_of r) p (left false k ∙ append-nil (form_turn n s w f).text) q.text_is
 
 -- ---- the whole
 

@@ -1,9 +1,11 @@
--- Laws of the digits at the front of a line, also by index as `line.rt` walks them, of their number, and what makes digits a number. One digit
+-- Laws of the digits at the front of a line, of their number, and what makes digits a number. One digit
 -- is in crate text, how a number is written in Numbers.
-use Rattle.model.proofs.Prelude.{ℕ, ◌*◌, ◌+◌, ◌<◌, ◌≤◌, Bool, false, not, true, ◌&&◌, ◌||◌, List, map, [], ◌++◌, ◌∷◌, ⊎_elim, ap, refl, ◌∙◌, ◌≡◌, dec_lt}
-use Rattle.model.proofs.Prelude.{ℕ_discrete, add-zero, add-one, arith, eqb, leb, ltb, drop, drop_of_length-le, get_or, length, drop-cons, eq-eqb, eqb-false}
-use Rattle.model.proofs.Prelude.{le-leb, le-ltb, leb-true, lt-ltb, ltb-true, ne_eqb, not-true, All, and_left, and_right, on, flag}
-use Rattle.script.proofs.Prelude.{digit_of, number_of, glyph, digit_glyph, digit_past, Digits, glyph_digit, number_above}
+use Rattle.model.proofs.Prelude.{ℕ, ◌+◌, ◌<◌, ◌≤◌, Bool, false, not, true, ◌&&◌, ◌||◌, List, map, [], ◌++◌, ◌∷◌, ⊎_elim, ap, refl, sym, ◌∙◌, ◌≡◌, dec_lt}
+use Rattle.model.proofs.Prelude.{suc, zero, cond, take, ltb-false, within, ◌⊎◌, inl, inr, ℕ_discrete, arith, eqb, leb, ltb, drop, get_or, length, eq-eqb, eqb-false}
+use Rattle.model.proofs.Prelude.{le-leb, lt-leb, le-ltb, leb-true, lt-ltb, ltb-true, ne_eqb, not-true, All, and_left, and_right, on, flag}
+use Rattle.script.proofs.Prelude.{digit_of, glyph, digit_glyph, Digits, glyph_digit}
+use Rattle.std.specs.Prelude.{All as AllOf, Option, None, Some, SomeIff, is_none, position, unwrap_or}
+use Rattle.std.proofs.lemmas.List.Recursion.{is_position_or_len}
 use Rattle.script.specs.Line.{digits_at, is_number}
 
 -- ---- the digits at the front
@@ -25,39 +27,59 @@ unfolding digits_at All
 digits_below [] = tt
 digits_below (b ∷ l) = on Digits (ltb (digit_of b) 16) (λ h. (ltb-true _ _ h, digits_below l)) (λ h. tt)
 
--- by index, as the code has them
-pub digit_inside : (l : List ℕ) (at : ℕ) → digit_of (get_or l at 0) < 16 → at < length l
-digit_inside l at h = go (dec_lt at (length l))
+pub digit_none : (b : ℕ) (r : Option ℕ) → SomeIff r (digit_of b < 16) (digit_of b) → is_none r ≡ leb 16 (digit_of b)
+digit_none b None h = sym (le-leb 16 (digit_of b) (omega arith))
+digit_none b (Some d) h = sym (lt-leb 16 (digit_of b) h.0)
+
+pub length_digits : (l : List ℕ) → length (digits_at l) ≤ length l
+unfolding digits_at
+length_digits [] = omega arith
+length_digits (b ∷ l) = let h = length_digits l in on (λ (ds : List ℕ). length ds ≤ suc (length l)) (ltb (digit_of b) 16) (λ e. omega arith) (λ e. omega arith)
+
+-- they end at the first byte that is none
+pub digits_position : (l : List ℕ) → unwrap_or (position (λ (b : ℕ). leb 16 (digit_of b)) l) (length l) ≡ length (digits_at l)
+unfolding digits_at
+digits_position l =
+    let n : ℕ = length (digits_at l) in
+    rw (← (is_position_or_len (λ (m : List ℕ). length (digits_at m)) (λ (b : ℕ). leb 16 (digit_of b)) refl step l))
+    (found n (length_digits l))
   where
-    go : Dec (at < length l) → at < length l
-    go (yes i) = i
-    go (no i) = absurd (omega (arith, digit_past l at (omega arith)))
+    found : (k : ℕ) → k ≤ length l → unwrap_or (cond (ltb k (length l)) (Some k) None) (length l) ≡ k
+    found k h = on (λ (r : Option ℕ). unwrap_or r (length l) ≡ k) (ltb k (length l)) (λ e. refl) (λ e. omega (arith, ltb-false k (length l) e))
 
-pub digits_none : (l : List ℕ) (at : ℕ) → 16 ≤ digit_of (get_or l at 0) → digits_at (drop at l) ≡ []
-digits_none l at h = go (dec_lt at (length l))
+    step : (b : ℕ) (m : List ℕ) → length (digits_at (b ∷ m)) ≡ cond (leb 16 (digit_of b)) 0 (1 + length (digits_at m))
+    step b m = go (dec_lt (digit_of b) 16)
+      where
+        go : Dec (digit_of b < 16) → length (cond (ltb (digit_of b) 16) (digit_of b ∷ digits_at m) []) ≡ cond (leb 16 (digit_of b)) 0 (1 + length (digits_at m))
+        go (yes h) = rw (lt-ltb (digit_of b) 16 h, lt-leb 16 (digit_of b) h) (omega arith)
+        go (no h) = rw (le-ltb (digit_of b) 16 (omega arith), le-leb 16 (digit_of b) (omega arith))
+
+-- the bytes that they are
+pub front_digits : (l : List ℕ) → map digit_of (take (length (digits_at l)) l) ≡ digits_at l
+unfolding digits_at
+front_digits [] = refl
+front_digits (b ∷ l) = on (λ (ds : List ℕ). map digit_of (take (length ds) (b ∷ l)) ≡ ds) (ltb (digit_of b) 16) (λ h. rw (front_digits l)) (λ h. refl)
+
+all_cons : (P : ℕ → Type 0) (b : ℕ) (l : List ℕ) → P b → AllOf P l → AllOf P (b ∷ l)
+all_cons P b l h a zero d i = h
+all_cons P b l h a (suc k) d i = a k d (omega arith)
+
+pub front_below : (l : List ℕ) → AllOf (λ (b : ℕ). digit_of b < 16) (take (length (digits_at l)) l)
+unfolding digits_at
+front_below [] = λ k d h. absurd (omega arith)
+front_below (b ∷ l) =
+    let P : ℕ → Type 0 = λ (c : ℕ). digit_of c < 16 in
+    on (λ (ds : List ℕ). AllOf P (take (length ds) (b ∷ l))) (ltb (digit_of b) 16) (λ e. all_cons P b _ (ltb-true _ _ e) (front_below l)) (λ e. λ k d h. absurd (omega arith))
+
+-- the first
+first_digit : (l : List ℕ) → 0 < length (digits_at l) → get_or (digits_at l) 0 0 ≡ digit_of (get_or l 0 0)
+unfolding digits_at
+first_digit [] h = absurd (omega arith)
+first_digit (b ∷ l) h = go (dec_lt (digit_of b) 16)
   where
-    go : Dec (at < length l) → digits_at (drop at l) ≡ []
-    go (yes i) = rw (drop-cons l at 0) (digits_stop (get_or l at 0) _ h)
-    go (no i) = let o : length l ≤ at = omega arith in rw (drop_of_length-le l) digits_nil
-
-pub digits_more : (l : List ℕ) (at : ℕ) → digit_of (get_or l at 0) < 16 → digits_at (drop at l) ≡ digit_of (get_or l at 0) ∷ digits_at (drop (at + 1) l)
-digits_more l at h = let i : at < length l = digit_inside l at h in rw (add-one, drop-cons l at 0) (digits_cons (get_or l at 0) _ h)
-
-pub end_none : (l : List ℕ) (at : ℕ) → 16 ≤ digit_of (get_or l at 0) → at + length (digits_at (drop at l)) ≡ at
-end_none l at h = rw (digits_none l at h) (add-zero at)
-
-pub end_more : (l : List ℕ) (at : ℕ) → digit_of (get_or l at 0) < 16 → at + 1 + length (digits_at (drop (at + 1) l)) ≡ at + length (digits_at (drop at l))
-end_more l at h = rw (digits_more l at h) (omega arith)
-
-pub digit_here : (l : List ℕ) (at : ℕ) → 0 < length (digits_at (drop at l)) → digit_of (get_or l at 0) < 16
-digit_here l at h = go (dec_lt (digit_of (get_or l at 0)) 16)
-  where
-    go : Dec (digit_of (get_or l at 0) < 16) → digit_of (get_or l at 0) < 16
-    go (yes d) = d
-    go (no d) = absurd (omega (arith, ap length (digits_none l at (omega arith))))
-
-pub first_digit : (l : List ℕ) (at : ℕ) → 0 < length (digits_at (drop at l)) → get_or (digits_at (drop at l)) 0 0 ≡ digit_of (get_or l at 0)
-first_digit l at h = rw (digits_more l at (digit_here l at h))
+    go : Dec (digit_of b < 16) → get_or (cond (ltb (digit_of b) 16) (digit_of b ∷ digits_at l) []) 0 0 ≡ digit_of b
+    go (yes d) = rw (lt-ltb _ 16 d)
+    go (no d) = absurd (omega (arith, rw (digits_stop b l (omega arith)) at h))
 
 -- the digits are the glyphs of a line's front
 pub glyphs_of : (l : List ℕ) → map glyph (digits_at l) ++ drop (length (digits_at l)) l ≡ l
@@ -74,17 +96,6 @@ digits_of_glyphs [] l h e = e
 digits_of_glyphs (d ∷ ds) l h e =
     let g : digit_of (glyph d) ≡ d = digit_glyph d h.0 in
     digits_cons (glyph d) _ (omega arith) ∙ rw (g, digits_of_glyphs ds l h.1 e)
-
--- ---- the number of digits
-
--- one digit further
-pub number_more : (h : ℕ) (l : List ℕ) (at : ℕ) → digit_of (get_or l at 0) < 16
-    → number_of (h * 16 + digit_of (get_or l at 0)) (digits_at (drop (at + 1) l)) ≡ number_of h (digits_at (drop at l))
-unfolding number_of
-number_more h l at d = rw (digits_more l at d)
-
-pub number_fits : (h : ℕ) (l : List ℕ) (at : ℕ) → digit_of (get_or l at 0) < 16 → h * 16 + digit_of (get_or l at 0) ≤ number_of h (digits_at (drop at l))
-number_fits h l at d = rw (← (number_more h l at d)) (number_above _ _)
 
 -- ---- what makes digits a number
 
@@ -118,3 +129,27 @@ is_number_law ds h = rw (lt-ltb 0 (length ds) h.some, le-leb (length ds) 16 h.fe
 
 pub no_number : (ds : List ℕ) → (Number ds → ⊥) → is_number ds ≡ false
 no_number ds h = ⊎_elim (λ e. absurd (h (number_facts ds e))) (λ e. e) (flag (is_number ds))
+
+-- of the digits at the front of a line
+no_zero : digit_of 48 ≡ 0
+unfolding digit_of within
+no_zero = refl
+
+module _ (l : List ℕ) where
+  abbrev pub n : ℕ
+  n = length (digits_at l)
+
+  pub size_refused : (n ≡ 0) ⊎ (16 < n) → is_number (digits_at l) ≡ false
+  size_refused (inl e) = no_number (digits_at l) (λ d. omega (arith, d.some))
+  size_refused (inr h) = no_number (digits_at l) (λ d. omega (arith, d.few))
+
+  pub zero_refused : 1 < n → get_or l 0 0 ≡ 48 → is_number (digits_at l) ≡ false
+  zero_refused h e = no_number (digits_at l) (λ d. omega (arith, d.lead (λ q. omega arith), first_digit l (omega arith), ap digit_of e, no_zero))
+
+  pub number_taken : 0 < n → n ≤ 16 → (1 < n → get_or l 0 0 ≡ 48 → ⊥) → is_number (digits_at l) ≡ true
+  unfolding glyph
+  number_taken h f z = is_number_law (digits_at l) (record { some = h; few = f; lead = λ q. go (z (omega arith)) (ℕ_discrete (digit_of (get_or l 0 0)) 0) })
+    where
+      go : (get_or l 0 0 ≡ 48 → ⊥) → Dec (digit_of (get_or l 0 0) ≡ 0) → 0 < get_or (digits_at l) 0 0
+      go g (no d) = omega (arith, first_digit l h)
+      go g (yes d) = absurd (g (sym (glyph_digit (get_or l 0 0) (omega arith)) ∙ ap glyph d))

@@ -1,28 +1,28 @@
 -- The theorem `Grammar`: the one text of a form is read as that form, and a line that is read as a form is its text.
 use Rattle.model.proofs.Prelude.{ℕ, Bool, cond, false, true, ◌&&◌, List, [], ◌∷◌, ap, refl, sym, ◌∙◌, ◌≡◌, arith, ltb, get_or, length, lt-ltb, ltb-true, All}
 use Rattle.model.proofs.Prelude.{and_left, and_right}
-use Rattle.script.proofs.Prelude.{none, Option, some, codes, filled}
+use Rattle.script.proofs.Prelude.{None, Option, Some, codes, filled}
 use Rattle.script.specs.Line.{register_line, special_line, step_line, matched, register_form, special_form, step_form, line_of, text_of, FormFits, Grammar}
 use Rattle.script.specs.declared.line.Form.{Form}
-use Rattle.script.specs.declared.line.Form.TheVariants.{Register, Special, Step, Bad}
+use Rattle.script.specs.declared.line.Form.TheVariants.{Register, Special, Step}
 use Rattle.script.proofs.Matching.{filled_matched, Filling, matched_filled}
 use Rattle.script.proofs.Forms.{register_clear, special_clear, step_clear, register_marks, special_marks, step_marks, line_register, line_special, line_step, line_bad}
 
 -- ---- a form's text is read
 
-special_first : (vs : List ℕ) → matched register_line (filled special_line vs) ≡ none
+special_first : (vs : List ℕ) → matched register_line (filled special_line vs) ≡ None
 unfolding register_line special_line codes filled matched
 special_first vs = refl
 
-step_first : (vs : List ℕ) → matched register_line (filled step_line vs) ≡ none
+step_first : (vs : List ℕ) → matched register_line (filled step_line vs) ≡ None
 unfolding register_line step_line codes filled matched
 step_first vs = refl
 
-step_second : (vs : List ℕ) → matched special_line (filled step_line vs) ≡ none
+step_second : (vs : List ℕ) → matched special_line (filled step_line vs) ≡ None
 unfolding special_line step_line codes filled matched
 step_second vs = refl
 
-text_read : (f : Form) → FormFits f → line_of (text_of f) ≡ f
+text_read : (f : Form) → FormFits f → line_of (text_of f) ≡ Some f
 unfolding FormFits text_of register_form special_form step_form All
 text_read (Register a) h =
     let vs : List ℕ = a.index ∷ a.value ∷ [] in
@@ -34,16 +34,18 @@ text_read (Step i) h =
     let vs : List ℕ = i.op ∷ i.x ∷ i.y ∷ i.z ∷ [] in
     line_step _ vs (step_first vs) (step_second vs) (filled_matched step_line vs step_clear (sym step_marks) (omega arith, (omega arith, (omega arith, (omega arith, tt)))))
     ∙ rw (lt-ltb i.op 256 h.0, lt-ltb i.x 256 h.1, lt-ltb i.y 256 h.2, lt-ltb i.z 256 h.3)
-text_read Bad h = absurd h
 
 -- ---- and nothing else
 
-abbrev Says : List ℕ → Form → Type 0
-Says l f = (f ≡ Bad → ⊥) → FormFits f × (text_of f ≡ l)
+abbrev Says : List ℕ → Option Form → Type 0
+Says l o = (f : Form) → o ≡ Some f → FormFits f × (text_of f ≡ l)
 
-says : (t : Bool) (f : Form) (l : List ℕ) → (t ≡ true → FormFits f × (text_of f ≡ l)) → Says l (cond t f Bad)
-says true f l h n = h refl
-says false f l h n = absurd (n refl)
+none_some : {f : Form} → ◌≡◌ {A = Option Form} None (Some f) → ⊥
+none_some e = let z : ◌≡◌ {A = ℕ} 0 1 = cc in omega arith
+
+says : (t : Bool) (g : Form) (l : List ℕ) → (t ≡ true → FormFits g × (text_of g ≡ l)) → Says l (cond t (Some g) None)
+says true g l h f e = let q : g ≡ f = cc in rw (← q) (h refl)
+says false g l h f e = absurd (none_some e)
 
 -- a list by its elements
 two : (vs : List ℕ) → length vs ≡ 2 → vs ≡ get_or vs 0 0 ∷ get_or vs 1 0 ∷ []
@@ -84,10 +86,10 @@ line_says l = go (matched register_line l) refl (matched special_line l) refl (m
   where
     go : (a : Option (List ℕ)) → matched register_line l ≡ a → (b : Option (List ℕ)) → matched special_line l ≡ b
         → (c : Option (List ℕ)) → matched step_line l ≡ c → Says l (line_of l)
-    go (some vs) e b f c g = rw (line_register l vs e) (register_says l vs (matched_filled register_line l vs register_clear e))
-    go none e (some vs) f c g = rw (line_special l vs e f) (special_says l vs (matched_filled special_line l vs special_clear f))
-    go none e none f (some vs) g = rw (line_step l vs e f g) (step_says l vs (matched_filled step_line l vs step_clear g))
-    go none e none f none g = λ n. absurd (n (line_bad l e f g))
+    go (Some vs) e b f c g = rw (line_register l vs e) (register_says l vs (matched_filled register_line l vs register_clear e))
+    go None e (Some vs) f c g = rw (line_special l vs e f) (special_says l vs (matched_filled special_line l vs special_clear f))
+    go None e None f (Some vs) g = rw (line_step l vs e f g) (step_says l vs (matched_filled step_line l vs step_clear g))
+    go None e None f None g = rw (line_bad l e f g) (λ f' q. absurd (none_some q))
 
 pub grammar : Grammar
 grammar = record { read = text_read; nothing_else = line_says }

@@ -2,7 +2,7 @@
 -- and what matches is the pattern filled in with the numbers.
 use Rattle.model.proofs.Prelude.{suc, ℕ, ◌+◌, ◌<◌, ◌^◌, Bool, cond, false, not, true, ◌&&◌, List, [], ◌++◌, ◌∷◌, ap, refl, sym, ◌∙◌, ◌≡◌, ℕ_discrete, arith}
 use Rattle.model.proofs.Prelude.{eqb, leb, drop, length, eq-eqb, eqb-false, eqb-true, leb-true, ne_eqb, not-true, All, and_left, and_right}
-use Rattle.script.proofs.Prelude.{none, Option, some, digit_of, number_of, decimal_mark, filled, hexadecimal, hex_mark}
+use Rattle.script.proofs.Prelude.{None, Option, Some, digit_of, number_of, decimal_mark, filled, hexadecimal, hex_mark}
 use Rattle.script.specs.Line.{digits_at, is_number, before, matched}
 use Rattle.script.specs.Reading.{marks}
 use Rattle.script.proofs.Digits.{digits_nil, digits_stop}
@@ -69,8 +69,8 @@ ended (c ∷ p) vs k e =
 
 -- ---- what is filled in matches
 
-matched_mark : (p : List ℕ) (v : ℕ) (vs : List ℕ) → digits_at (filled p vs) ≡ [] → v < 2 ^ 64 → matched p (filled p vs) ≡ some vs
-    → matched (hex_mark ∷ p) (filled (hex_mark ∷ p) (v ∷ vs)) ≡ some (v ∷ vs)
+matched_mark : (p : List ℕ) (v : ℕ) (vs : List ℕ) → digits_at (filled p vs) ≡ [] → v < 2 ^ 64 → matched p (filled p vs) ≡ Some vs
+    → matched (hex_mark ∷ p) (filled (hex_mark ∷ p) (v ∷ vs)) ≡ Some (v ∷ vs)
 unfolding matched filled
 matched_mark p v vs e l h =
     let r : Read v (hexadecimal v ++ filled p vs) (filled p vs) = written_read v (filled p vs) l e in
@@ -81,15 +81,15 @@ unfolding matched
 matched_byte c p l e = rw (ne_eqb c hex_mark e, eq-eqb c c refl)
 
 -- by the first byte; r is the law for the rest
-by_first : (c : ℕ) (p vs : List ℕ) → clear (c ∷ p) ≡ true → ((ws : List ℕ) → length ws ≡ marks p → Words ws → matched p (filled p ws) ≡ some ws)
-    → length vs ≡ marks (c ∷ p) → Words vs → Dec (c ≡ hex_mark) → matched (c ∷ p) (filled (c ∷ p) vs) ≡ some vs
+by_first : (c : ℕ) (p vs : List ℕ) → clear (c ∷ p) ≡ true → ((ws : List ℕ) → length ws ≡ marks p → Words ws → matched p (filled p ws) ≡ Some ws)
+    → length vs ≡ marks (c ∷ p) → Words vs → Dec (c ≡ hex_mark) → matched (c ∷ p) (filled (c ∷ p) vs) ≡ Some vs
 by_first c p vs k r n a (no e) = rw (filled_byte c p k e vs, matched_byte c p _ e) (r vs (n ∙ marks_byte c p e) a)
 by_first c p [] k r n a (yes e) = absurd (omega (arith, marks_mark c p e))
 by_first c p (v ∷ vs) k r n a (yes e) =
     unfold All in
     rw e (matched_mark p v vs (ended p vs (clear_rest c p k) (clear_mark c p k e)) a.0 (r vs (omega (arith, marks_mark c p e)) a.1))
 
-pub filled_matched : (p vs : List ℕ) → clear p ≡ true → length vs ≡ marks p → Words vs → matched p (filled p vs) ≡ some vs
+pub filled_matched : (p vs : List ℕ) → clear p ≡ true → length vs ≡ marks p → Words vs → matched p (filled p vs) ≡ Some vs
 filled_matched [] [] k n a = unfold matched filled in refl
 filled_matched [] (v ∷ vs) k n a = unfold marks in absurd (omega arith)
 filled_matched (c ∷ p) vs k n a = by_first c p vs k (λ (ws : List ℕ) i b. filled_matched p ws (clear_rest c p k) i b) n a (ℕ_discrete c hex_mark)
@@ -101,7 +101,7 @@ pub record Filling (p l vs : List ℕ) : Type 0 where
   pub count : length vs ≡ marks p
   pub words : Words vs
 
-none_some : {vs : List ℕ} → ◌≡◌ {A = Option (List ℕ)} none (some vs) → ⊥
+none_some : {vs : List ℕ} → ◌≡◌ {A = Option (List ℕ)} None (Some vs) → ⊥
 none_some h = let z : ◌≡◌ {A = ℕ} 0 1 = cc in omega arith
 
 -- a number met
@@ -109,29 +109,29 @@ record Marked (p l vs : List ℕ) : Type 0 where
   good : is_number (digits_at l) ≡ true
   others : List ℕ
   all : vs ≡ number_of 0 (digits_at l) ∷ others
-  tail : matched p (drop (length (digits_at l)) l) ≡ some others
+  tail : matched p (drop (length (digits_at l)) l) ≡ Some others
 
-marked : (p l vs : List ℕ) → matched (hex_mark ∷ p) l ≡ some vs → Marked p l vs
+marked : (p l vs : List ℕ) → matched (hex_mark ∷ p) l ≡ Some vs → Marked p l vs
 marked p l vs h = go (is_number (digits_at l)) refl (matched p (drop (length (digits_at l)) l)) refl (unfold matched in h)
   where
     go : (b : Bool) → is_number (digits_at l) ≡ b → (o : Option (List ℕ)) → matched p (drop (length (digits_at l)) l) ≡ o
-        → cond b (before (number_of 0 (digits_at l)) o) none ≡ some vs → Marked p l vs
-    go true e (some ws) f g = record { good = e; others = ws; all = cc; tail = f }
-    go true e none f g = absurd (none_some g)
+        → cond b (before (number_of 0 (digits_at l)) o) None ≡ Some vs → Marked p l vs
+    go true e (Some ws) f g = record { good = e; others = ws; all = cc; tail = f }
+    go true e None f g = absurd (none_some g)
     go false e o f g = absurd (none_some g)
 
 -- a byte met
 record Met (c : ℕ) (p l vs : List ℕ) : Type 0 where
   others : List ℕ
   all : l ≡ c ∷ others
-  tail : matched p others ≡ some vs
+  tail : matched p others ≡ Some vs
 
-met : (c : ℕ) (p l vs : List ℕ) → (c ≡ hex_mark → ⊥) → matched (c ∷ p) l ≡ some vs → Met c p l vs
+met : (c : ℕ) (p l vs : List ℕ) → (c ≡ hex_mark → ⊥) → matched (c ∷ p) l ≡ Some vs → Met c p l vs
 unfolding matched
 met c p [] vs e h = absurd (none_some (rw (ne_eqb c hex_mark e) at h))
 met c p (b ∷ l) vs e h = go (eqb b c) refl (rw (ne_eqb c hex_mark e) at h)
   where
-    go : (t : Bool) → eqb b c ≡ t → cond t (matched p l) none ≡ some vs → Met c p (b ∷ l) vs
+    go : (t : Bool) → eqb b c ≡ t → cond t (matched p l) None ≡ Some vs → Met c p (b ∷ l) vs
     go true f g = record { others = l; all = ap (λ (x : ℕ). x ∷ l) (eqb-true b c f); tail = g }
     go false f g = absurd (none_some g)
 
@@ -145,8 +145,8 @@ mark_filling c p l vs ws e q g f = rw q (record {
 })
 
 -- by the first byte; r is the law for the rest
-back_first : (c : ℕ) (p l vs : List ℕ) → clear (c ∷ p) ≡ true → ((m ws : List ℕ) → matched p m ≡ some ws → Filling p m ws)
-    → matched (c ∷ p) l ≡ some vs → Dec (c ≡ hex_mark) → Filling (c ∷ p) l vs
+back_first : (c : ℕ) (p l vs : List ℕ) → clear (c ∷ p) ≡ true → ((m ws : List ℕ) → matched p m ≡ Some ws → Filling p m ws)
+    → matched (c ∷ p) l ≡ Some vs → Dec (c ≡ hex_mark) → Filling (c ∷ p) l vs
 back_first c p l vs k r h (no e) =
     let m : Met c p l vs = met c p l vs e h in
     let f : Filling p m.others vs = r m.others vs m.tail in
@@ -155,7 +155,7 @@ back_first c p l vs k r h (yes e) =
     let m : Marked p l vs = marked p l vs (rw e at h) in
     mark_filling c p l vs m.others e m.all m.good (r _ m.others m.tail)
 
-pub matched_filled : (p l vs : List ℕ) → clear p ≡ true → matched p l ≡ some vs → Filling p l vs
+pub matched_filled : (p l vs : List ℕ) → clear p ≡ true → matched p l ≡ Some vs → Filling p l vs
 unfolding matched filled marks All
 matched_filled [] [] vs k h = let q : [] ≡ vs = cc in rw (← q) (record { text = refl; count = refl; words = tt })
 matched_filled [] (b ∷ l) vs k h = absurd (none_some h)

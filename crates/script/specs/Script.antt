@@ -1,6 +1,6 @@
 -- What a script prints. 01: "a refused step prints its line and ends; a bad line [..] prints `(bad N)`, N its line from 1, and ends.
 -- A longer script prints only `(bad 0)`."
-use Rattle.std.specs.Prelude.{ℕ, suc, ◌+◌, ◌*◌, ◌≤◌, ◌<◌, ◌≡◌, Bool, true, false, cond, List, [], ◌∷◌, ◌++◌, leb, eqb, length, replicate, take}
+use Rattle.std.specs.Prelude.{Option, None, Some, ℕ, suc, ◌+◌, ◌*◌, ◌≤◌, ◌<◌, ◌≡◌, Bool, true, false, cond, List, [], ◌∷◌, ◌++◌, leb, eqb, length, replicate, take}
 use Rattle.model.specs.Registers.{r_g, r_l, r_o, sp, stack_start, set_register, with_special}
 use Rattle.model.specs.Memory.{Windows}
 use Rattle.model.specs.Parts.{lent}
@@ -14,8 +14,8 @@ use Rattle.text.specs.Text.{filled, bad_text}
 use Rattle.text.specs.Pieces.{pieces}
 use Rattle.script.specs.Line.{line_of}
 use Rattle.script.specs.declared.line.Form.{Form}
-use Rattle.script.specs.declared.line.Form.TheVariants.{Register, Special, Step, Bad}
-use Rattle.script.specs.declared.line.Instruction.{Instruction}
+use Rattle.script.specs.declared.line.Form.TheVariants.{Register, Special, Step}
+use Rattle.model.specs.declared.Instruction.{Instruction}
 
 -- ---- what is printed
 
@@ -48,11 +48,11 @@ abbrev step_turn : Instruction → Outcome State Windows → Turn
 step_turn i o = turn (step_text i o.reply o.state) (eqb o.reply 0) o.state o.memory
 
 -- "`reg` is written as by `set_register`, `special` (up to 1f) directly"; n is the line's number
-unfoldable pub form_turn : ℕ → State → Windows → Form → Turn
-form_turn n s w (Register a) = turn [] true (set_register s a.index a.value) w
-form_turn n s w (Special a) = turn [] true (with_special s a.index a.value) w
-form_turn n s w (Step i) = step_turn i (step_of w s i.op i.x i.y i.z)
-form_turn n s w Bad = turn (bad_text n) false s w
+unfoldable pub form_turn : ℕ → State → Windows → Option Form → Turn
+form_turn n s w (Some (Register a)) = turn [] true (set_register s a.index a.value) w
+form_turn n s w (Some (Special a)) = turn [] true (with_special s a.index a.value) w
+form_turn n s w (Some (Step i)) = step_turn i (step_of w s i.op i.x i.y i.z)
+form_turn n s w None = turn (bad_text n) false s w
 
 -- ---- a whole script
 

@@ -1,6 +1,8 @@
 -- Laws of a text cut at its newlines: where a line ends, and the lines one by one.
-use Rattle.model.proofs.Prelude.{suc, zero, ℕ, ◌+◌, ◌<◌, ◌≤◌, Bool, false, true, List, [], ◌++◌, ◌∷◌, ap, refl, ◌≡◌, add-one, arith, eqb, drop}
-use Rattle.model.proofs.Prelude.{drop_of_length-le, get_or, length, length-drop, take, drop-cons, eq-eqb, eqb-true, ne_eqb, on}
+use Rattle.model.proofs.Prelude.{suc, zero, ℕ, ◌+◌, ◌<◌, ◌≤◌, Bool, cond, false, true, List, [], ◌++◌, ◌∷◌, ap, refl, ◌≡◌, arith, eqb, ltb, ltb-false, drop}
+use Rattle.model.proofs.Prelude.{drop_of_length-le, get_or, length, length-drop, take, eqb-true, on}
+use Rattle.std.specs.Prelude.{Option, position, unwrap_or}
+use Rattle.std.proofs.lemmas.List.Recursion.{is_position_or_len}
 use Rattle.text.specs.Pieces.{at_first, pieces, line_length}
 
 -- ---- where a line ends
@@ -13,18 +15,16 @@ length_line (b ∷ l) = let h = length_line l in on (λ (k : ℕ). k ≤ suc (le
 pub line_within : (l : List ℕ) (at end : ℕ) → at ≤ length l → end ≡ at + line_length (drop at l) → (at ≤ end) × (end ≤ length l)
 line_within l at end h e = (omega arith, omega (arith, length_line (drop at l), length-drop at l))
 
--- at a newline, past the end, and one byte further
-pub line_there : (l : List ℕ) (i : ℕ) → i < length l → get_or l i 0 ≡ 10 → line_length (drop i l) ≡ 0
+-- at the first newline, where the library finds one
+pub line_position : (l : List ℕ) → unwrap_or (position (λ (b : ℕ). eqb b 10) l) (length l) ≡ line_length l
 unfolding line_length
-line_there l i h e = rw (drop-cons l i 0 h, eq-eqb (get_or l i 0) 10 e)
+line_position l =
+    rw (← (is_position_or_len line_length (λ (b : ℕ). eqb b 10) refl (λ (b : ℕ) (m : List ℕ). ap (λ (k : ℕ). cond (eqb b 10) 0 k) (omega arith)) l))
+    (on (λ (r : Option ℕ). unwrap_or r (length l) ≡ line_length l) (ltb (line_length l) (length l)) (λ e. refl) (λ e. omega (arith, length_line l, ltb-false _ _ e)))
 
 pub line_past : (l : List ℕ) (i : ℕ) → length l ≤ i → line_length (drop i l) ≡ 0
 unfolding line_length
 line_past l i h = rw (drop_of_length-le l h)
-
-pub line_further : (l : List ℕ) (i : ℕ) → i < length l → (get_or l i 0 ≡ 10 → ⊥) → line_length (drop i l) ≡ suc (line_length (drop (i + 1) l))
-unfolding line_length
-line_further l i h f = rw (drop-cons l i 0 h, ne_eqb (get_or l i 0) 10 f, add-one)
 
 -- ---- the lines one by one
 

@@ -1,10 +1,14 @@
 -- Laws of text put into a buffer: one text after another, a number digit by digit, a pattern byte by byte. And how long each can be.
-use Rattle.model.proofs.Prelude.{suc, zero, ℕ, ◌%◌, ◌+◌, ◌-◌, ◌/◌, ◌<◌, ◌^◌, ◌≤◌, Bool, cond, false, true, List, [], ◌++◌, ◌∷◌, ap, refl, sym, ◌∙◌, ◌≡◌}
-use Rattle.model.proofs.Prelude.{add-one, arith, eqb, ltb, drop, drop_of_length-le, get_or, length, length-append, set, take, drop-cons, drop-drop, get_or-drop}
-use Rattle.model.proofs.Prelude.{set_out, eq-eqb, le-leb, le-ltb, lt-leb, lt-ltb, ne_eqb, written, on, written_append, written_nil}
+use Rattle.model.proofs.Prelude.{suc, zero, ℕ, ◌%◌, ◌+◌, ◌-◌, ◌/◌, ◌<◌, ◌^◌, ◌≤◌, Bool, cond, false, true, List, [], ◌++◌, ◌∷◌, ap, refl, sym, ◌∙◌, ◌≡◌, ◌⊎◌, inl, inr, mod-eq_of_lt}
+use Rattle.model.proofs.Prelude.{add-one, arith, eqb, ltb, drop, drop_of_length-le, get_or, get_or_eq_default, length, length-append, set, take, drop-cons}
+use Rattle.model.proofs.Prelude.{set_out, le-leb, le-ltb, lt-leb, lt-ltb, ne_eqb, written, on, written_append, written_nil}
 use Rattle.text.specs.Codes.{codes}
-use Rattle.text.specs.Text.{glyph, numeral, hex_mark, decimal_mark, filled, bad_line, bad_text}
-use Rattle.text.specs.Writing.{Wrote, piece, marks_of, pattern_most, put_at}
+use Rattle.std.specs.Prelude.{Option, Some, None, unwrap_or}
+use Rattle.std.specs.Option.{option_copied}
+use Rattle.std.specs.Slice.Iter.{iter_rest, iter_steps}
+use Rattle.std.proofs.Common.{Bor, Iter}
+use Rattle.text.specs.Text.{glyph, numeral, hexadecimal, decimal, hex_mark, decimal_mark, filled, bad_line, bad_text}
+use Rattle.text.specs.Writing.{Wrote, pattern_most, put_at}
 
 -- ---- a list written into
 
@@ -16,12 +20,12 @@ written_one (x ∷ xs) (suc o) v = ap (λ (r : List ℕ). x ∷ r) (written_one 
 
 -- ---- one text after another
 
-pub wrote_one : (b : List ℕ) (at v : ℕ) → Wrote b at (v ∷ []) (set b at v) (at + 1)
-wrote_one b at v = record { bytes_are = sym (written_one b at v); end_is = refl }
+pub wrote_byte : (b : List ℕ) (at v : ℕ) (c : List ℕ) → c ≡ set b at v → Wrote b at (v ∷ []) c (at + 1)
+wrote_byte b at v c e = record { bytes_are = e ∙ sym (written_one b at v); end_is = refl }
 
 -- where the buffer has no such place
-pub wrote_past : (b : List ℕ) (at v : ℕ) → length b ≤ at → Wrote b at (v ∷ []) b (at + 1)
-wrote_past b at v h = record { bytes_are = sym (written_one b at v ∙ set_out b at v h); end_is = refl }
+pub wrote_past : (b : List ℕ) (at v : ℕ) (c : List ℕ) → length b ≤ at → c ≡ b → Wrote b at (v ∷ []) c (at + 1)
+wrote_past b at v c h e = wrote_byte b at v c (e ∙ sym (set_out b at v h))
 
 pub wrote_nothing : (b : List ℕ) (at : ℕ) → Wrote b at [] b at
 wrote_nothing b at = record { bytes_are = sym (written_nil b at); end_is = omega arith }
@@ -84,17 +88,14 @@ length_numeral b (suc k) n =
     (λ e. omega (arith, length-append (numeral b k (n / b)) (glyph (n % b) ∷ []), length_numeral b k (n / b)))
 
 module _ (b : List ℕ) (at base more n : ℕ) (c : List ℕ) where
-  pub numeral_last : (m : ℕ) → more ≡ 0 → Wrote b at (glyph (n % base) ∷ []) c m → Wrote b at (numeral base more n) c m
+  pub numeral_last : (m : ℕ) → (more ≡ 0) ⊎ ((more ≡ 0 → ⊥) × (n < base)) → Wrote b at (glyph (n % base) ∷ []) c m → Wrote b at (numeral base more n) c m
   unfolding numeral
-  numeral_last m e p = rw e p
-
-  pub numeral_small : (m : ℕ) → (more ≡ 0 → ⊥) → n < base → Wrote b at (glyph n ∷ []) c m → Wrote b at (numeral base more n) c m
-  unfolding numeral
-  numeral_small m z h p = wrote_as b at (glyph n ∷ []) (numeral base more n) c m (small more z) p
+  numeral_last m h p = wrote_as b at _ (numeral base more n) c m (last more h) p
     where
-      small : (k : ℕ) → (k ≡ 0 → ⊥) → glyph n ∷ [] ≡ numeral base k n
-      small zero f = absurd (f refl)
-      small (suc k) f = rw (lt-ltb n base h)
+      last : (k : ℕ) → (k ≡ 0) ⊎ ((more ≡ 0 → ⊥) × (n < base)) → glyph (n % base) ∷ [] ≡ numeral base k n
+      last zero h = refl
+      last (suc k) (inl e) = absurd (omega arith)
+      last (suc k) (inr l) = rw (lt-ltb n base l.1, mod-eq_of_lt l.1)
 
   pub numeral_more : (m : ℕ) (d : List ℕ) (r : ℕ) → (more ≡ 0 → ⊥) → base ≤ n → Wrote b at (numeral base (more - 1) (n / base)) c m
       → Wrote c m (glyph (n % base) ∷ []) d r → Wrote b at (numeral base more n) d r
@@ -107,33 +108,33 @@ module _ (b : List ℕ) (at base more n : ℕ) (c : List ℕ) where
 
 -- ---- a pattern
 
-module _ (c : ℕ) where
-  module _ (h : c ≡ hex_mark) where
-    pub piece_hex : (n : ℕ) → numeral 16 15 n ≡ piece c n
-    unfolding piece
-    piece_hex n = rw (eq-eqb c hex_mark h)
+-- its next byte, with the next field
+module _ (p vs : List ℕ) (i : ℕ) (h : i < length p) where
+  pub filled_hex : get_or p i 0 ≡ hex_mark → filled (drop i p) vs ≡ hexadecimal (get_or vs 0 0) ++ filled (drop (i + 1) p) (drop 1 vs)
+  unfolding filled
+  filled_hex e = rw (drop-cons p i 0 h, e, add-one)
 
-    pub marks_hex : 1 ≡ marks_of c
-    unfolding marks_of
-    marks_hex = rw (eq-eqb c hex_mark h)
+  pub filled_decimal : get_or p i 0 ≡ decimal_mark → filled (drop i p) vs ≡ decimal (get_or vs 0 0) ++ filled (drop (i + 1) p) (drop 1 vs)
+  unfolding filled
+  filled_decimal e = rw (drop-cons p i 0 h, e, add-one)
 
-  module _ (g : c ≡ hex_mark → ⊥) (h : c ≡ decimal_mark) where
-    pub piece_decimal : (n : ℕ) → numeral 10 19 n ≡ piece c n
-    unfolding piece
-    piece_decimal n = rw (ne_eqb c hex_mark g, eq-eqb c decimal_mark h)
+  pub filled_plain : (get_or p i 0 ≡ hex_mark → ⊥) → (get_or p i 0 ≡ decimal_mark → ⊥)
+      → filled (drop i p) vs ≡ (get_or p i 0 ∷ []) ++ filled (drop (i + 1) p) vs
+  unfolding filled
+  filled_plain e f = rw (drop-cons p i 0 h, ne_eqb _ _ e, ne_eqb _ _ f, add-one)
 
-    pub marks_decimal : 1 ≡ marks_of c
-    unfolding marks_of
-    marks_decimal = rw (ne_eqb c hex_mark g, eq-eqb c decimal_mark h)
+pub filled_past : (p vs : List ℕ) (i : ℕ) → length p ≤ i → filled (drop i p) vs ≡ []
+unfolding filled
+filled_past p vs i h = rw (drop_of_length-le p h)
 
-  module _ (g : c ≡ hex_mark → ⊥) (h : c ≡ decimal_mark → ⊥) where
-    pub piece_plain : (n : ℕ) → c ∷ [] ≡ piece c n
-    unfolding piece
-    piece_plain n = rw (ne_eqb c hex_mark g, ne_eqb c decimal_mark h)
+-- the next field, as an iterator over the fields gives it
+pub field_is : (s t : Iter ℕ) (r : Option (Bor ℕ)) → iter_steps s r t → unwrap_or (option_copied r) 0 ≡ get_or (iter_rest s) 0 0
+field_is s t None h = sym (get_or_eq_default (iter_rest s) 0 (omega (arith, h.0)))
+field_is s t (Some x) h = rw h
 
-    pub marks_none : 0 ≡ marks_of c
-    unfolding marks_of
-    marks_none = rw (ne_eqb c hex_mark g, ne_eqb c decimal_mark h)
+pub fields_left : (s t : Iter ℕ) (r : Option (Bor ℕ)) → iter_steps s r t → iter_rest t ≡ drop 1 (iter_rest s)
+fields_left s t None h = rw (h.1, drop_of_length-le (iter_rest s) {i = 1} (omega (arith, h.0))) (drop_of_length-le (iter_rest s) {i = 0} (omega (arith, h.0)))
+fields_left s t (Some x) h = rw h
 
 -- how long what a byte of a pattern stands for can be, and a pattern filled in
 unfoldable pub piece_most : ℕ → ℕ
@@ -143,60 +144,20 @@ unfoldable pub filled_most : List ℕ → ℕ
 filled_most [] = 0
 filled_most (c ∷ p) = piece_most c + filled_most p
 
-length_piece : (c n : ℕ) → length (piece c n) ≤ piece_most c
-unfolding piece piece_most
-length_piece c n = go (eqb c hex_mark) (eqb c decimal_mark)
-  where
-    go : (s t : Bool) → length (cond s (numeral 16 15 n) (cond t (numeral 10 19 n) (c ∷ []))) ≤ cond s 16 (cond t 20 1)
-    go true t = length_numeral 16 15 n
-    go false true = length_numeral 10 19 n
-    go false false = omega arith
-
-pub marks_small : (c : ℕ) → marks_of c ≤ 1
-unfolding marks_of
-marks_small c = on (λ (k : ℕ). k ≤ 1) (eqb c hex_mark) (λ e. omega arith) (λ e. on (λ (k : ℕ). k ≤ 1) (eqb c decimal_mark) (λ f. omega arith) (λ f. omega arith))
-
-filled_cons : (c : ℕ) (p vs : List ℕ) → filled (c ∷ p) vs ≡ piece c (get_or vs 0 0) ++ filled p (drop (marks_of c) vs)
-unfolding filled piece marks_of
-filled_cons c p vs = go (eqb c hex_mark) (eqb c decimal_mark)
-  where
-    go : (s t : Bool) → cond s (numeral 16 15 (get_or vs 0 0) ++ filled p (drop 1 vs)) (cond t (numeral 10 19 (get_or vs 0 0) ++ filled p (drop 1 vs)) (c ∷ filled p vs))
-        ≡ cond s (numeral 16 15 (get_or vs 0 0)) (cond t (numeral 10 19 (get_or vs 0 0)) (c ∷ [])) ++ filled p (drop (cond s 1 (cond t 1 0)) vs)
-    go true t = refl
-    go false true = refl
-    go false false = refl
-
 pub length_filled : (p vs : List ℕ) → length (filled p vs) ≤ filled_most p
-unfolding filled filled_most
+unfolding filled filled_most piece_most
 length_filled [] vs = omega arith
-length_filled (c ∷ p) vs =
-    omega (
-      arith,
-      ap length (filled_cons c p vs),
-      length-append (piece c (get_or vs 0 0)) (filled p (drop (marks_of c) vs)),
-      length_piece c (get_or vs 0 0),
-      length_filled p (drop (marks_of c) vs),
-    )
-
-pub most_piece : (c n : ℕ) → length (piece c n) ≤ 20
-unfolding piece_most
-most_piece c n = go (eqb c hex_mark) (eqb c decimal_mark) (length_piece c n)
+length_filled (c ∷ p) vs = go (eqb c hex_mark) (eqb c decimal_mark) (length_filled p vs) (length_filled p (drop 1 vs))
   where
-    go : (s t : Bool) → length (piece c n) ≤ cond s 16 (cond t 20 1) → length (piece c n) ≤ 20
-    go true t h = omega arith
-    go false true h = omega arith
-    go false false h = omega arith
+    n : ℕ
+    n = get_or vs 0 0
 
--- the next byte of a pattern, with the next field
-pub filled_at : (p vs : List ℕ) (i k n m : ℕ) → i < length p → n ≡ get_or vs k 0 → m ≡ marks_of (get_or p i 0)
-    → filled (drop i p) (drop k vs) ≡ piece (get_or p i 0) n ++ filled (drop (i + 1) p) (drop (k + m) vs)
-filled_at p vs i k n m h e f =
-    let z : k + 0 ≡ k = omega arith in
-    rw (e, f, drop-cons p i 0 h, filled_cons, get_or-drop k vs 0 0, z, drop-drop, add-one)
-
-pub filled_past : (p vs : List ℕ) (i : ℕ) → length p ≤ i → filled (drop i p) vs ≡ []
-unfolding filled
-filled_past p vs i h = rw (drop_of_length-le p h)
+    go : (s t : Bool) → length (filled p vs) ≤ filled_most p → length (filled p (drop 1 vs)) ≤ filled_most p
+        → length (cond s (hexadecimal n ++ filled p (drop 1 vs)) (cond t (decimal n ++ filled p (drop 1 vs)) (c ∷ filled p vs)))
+        ≤ cond s 16 (cond t 20 1) + filled_most p
+    go true t h i = omega (arith, length-append (hexadecimal n) (filled p (drop 1 vs)), length_numeral 16 15 n)
+    go false true h i = omega (arith, length-append (decimal n) (filled p (drop 1 vs)), length_numeral 10 19 n)
+    go false false h i = omega arith
 
 -- ---- at a place, whatever place and pattern
 
@@ -205,13 +166,10 @@ module _ (at : ℕ) (p vs : List ℕ) where
   unfolding put_at
   put_here h k = rw (lt-ltb at (2 ^ 63) h, le-leb (length p) pattern_most k)
 
-  pub put_far : 2 ^ 63 ≤ at → [] ≡ put_at at p vs
+  pub put_none : (2 ^ 63 ≤ at) ⊎ ((at < 2 ^ 63) × (pattern_most < length p)) → [] ≡ put_at at p vs
   unfolding put_at
-  put_far h = rw (le-ltb at (2 ^ 63) h)
-
-  pub put_long : at < 2 ^ 63 → pattern_most < length p → [] ≡ put_at at p vs
-  unfolding put_at
-  put_long h k = rw (lt-ltb at (2 ^ 63) h, lt-leb (length p) pattern_most k)
+  put_none (inl h) = rw (le-ltb at (2 ^ 63) h)
+  put_none (inr h) = rw (lt-ltb at (2 ^ 63) h.0, lt-leb (length p) pattern_most h.1)
 
   pub wrote_here : (b c : List ℕ) (n : ℕ) → at < 2 ^ 63 → length p ≤ pattern_most → Wrote b at (put_at at p vs) c n → Wrote b at (filled p vs) c n
   wrote_here b c n h k q = wrote_as b at (put_at at p vs) (filled p vs) c n (sym (put_here h k)) q

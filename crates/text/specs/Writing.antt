@@ -1,20 +1,12 @@
 -- What the contracts of the writing functions cite: a text put into a buffer.
-use Rattle.std.specs.Prelude.{ℕ, ◌+◌, ◌^◌, ◌≡◌, cond, ◌&&◌, List, [], ◌∷◌, leb, ltb, eqb, length}
+use Rattle.std.specs.Prelude.{ℕ, ◌+◌, ◌^◌, ◌≡◌, cond, ◌&&◌, List, [], leb, ltb, length}
 use Rattle.model.specs.Octa.{written}
-use Rattle.text.specs.Text.{hexadecimal, decimal, hex_mark, decimal_mark, filled}
+use Rattle.text.specs.Text.{filled}
 
 -- the buffer b has become c with the text t from `at` on, as far as it goes, and `end` is where the text ends
 pub record Wrote (b : List ℕ) (at : ℕ) (t c : List ℕ) (end : ℕ) : Type 0 where
   pub bytes_are : c ≡ written b at t
   pub end_is : end ≡ at + length t
-
--- what a byte of a pattern stands for, where a mark stands for n
-unfoldable pub piece : ℕ → ℕ → List ℕ
-piece c n = cond (eqb c hex_mark) (hexadecimal n) (cond (eqb c decimal_mark) (decimal n) (c ∷ []))
-
--- how many numbers it uses
-unfoldable pub marks_of : ℕ → ℕ
-marks_of c = cond (eqb c hex_mark) 1 (cond (eqb c decimal_mark) 1 0)
 
 -- ---- a pattern filled in at a place, whatever place and pattern a caller gives
 

@@ -8,4 +8,4 @@ returns-then-place-eq0 c =
 
 pub returns : goal.returns
 returns c =
-    ends_bad c.args.held.now c.args.place c.requires.1 c.if-place-eq0.false c.requires.0 _ _ c.put_bad-text.auto.out c.put_bad-text.ensures.0 c.put_bad-text.ensures.1
+    ends_bad c.args.held.now c.args.place c.requires.1 c.if-place-eq0.false c.requires.0 _ _ c.put_bad.auto.out c.put_bad.ensures.0 c.put_bad.ensures.1

@@ -1,11 +1,6 @@
 -- `refill` meets its contract: what a read leaves is as long as the buffer was.
-use Rattle.point_lines_program.specs.Chunk.{Refills}
 use Rattle.point_lines_program.proofs.Reach.{refills}
 use Rattle.point_lines_program.proofs.refill.Goals as goal
 
-pub returns-in-Ok : goal.returns-in-Ok
-returns-in-Ok g c = refills _ c.args.input.now c.args.held.now c.args.place c.requires.1 _ _ _ c.fed.ensures
-
-pub returns-in-Err : goal.returns-in-Err
-unfolding Refills
-returns-in-Err g c = tt
+pub returns : goal.returns
+returns g c = refills _ c.args.input.now c.args.held.now c.args.place c.requires.1 _ _ _ c.fed.ensures

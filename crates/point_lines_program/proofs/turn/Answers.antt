@@ -1,5 +1,5 @@
 -- `turn` meets its contract: its test is that by which a turn reads.
-use Rattle.point_lines_program.proofs.Reach.{turns_shown, turns_read}
+use Rattle.point_lines_program.proofs.Reach.{turns_shown, turns_read_ok}
 use Rattle.point_lines_program.proofs.turn.Goals as goal
 
 pub returns-then-place : goal.returns-then-place
@@ -7,5 +7,4 @@ returns-then-place g c =
     turns_shown c.args.input.now c.args.held.now c.args.place c.if-place.true _ _ c.show_one.ensures
 
 pub returns : goal.returns
-returns g c =
-    turns_read c.args.input.now c.args.held.now c.args.place c.if-place.false _ _ _ c.refill.ensures
+returns g c = turns_read_ok c.args.input.now c.args.held.now c.args.place c.if-place.false _ _ _ c.refill.ensures

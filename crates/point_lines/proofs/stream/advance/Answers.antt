@@ -1,7 +1,6 @@
 -- `advance` meets its contract: its tests are those by which a turn is defined.
-use Rattle.model.proofs.Prelude.{ℕ, ◌+◌, ◌≤◌, List, sym, ◌≡◌, arith, drop, length, length-take-le}
+use Rattle.model.proofs.Prelude.{ℕ, ◌+◌, ◌≤◌, List, sym, ◌≡◌, ⊎_elim, flag, arith, drop, length, length-take-le}
 use Rattle.point_lines.proofs.Prelude.{line_length, length_line}
-use Rattle.point_lines.proofs.Formed.{point_some, point_none}
 use Rattle.point_lines.proofs.Turns.{turn_more, turn_good, turn_bad, turn_full}
 use Rattle.point_lines.proofs.stream.advance.Goals as goal
 
@@ -30,11 +29,11 @@ returns-then-end-chunk c =
 pub slice_bounds-widths_of-end-2 : goal.slice_bounds-widths_of-end-2
 slice_bounds-widths_of-end-2 c = sym (length-take-le c.keep-next.result c.keep-next.new.held (omega arith))
 
-pub returns-then-w-eq0 : goal.returns-then-w-eq0
-returns-then-w-eq0 c =
+pub returns-in_default : goal.returns-in_default
+returns-in_default c =
     let a = c.args in
     turn_bad a.held.now a.count a.chunk.now _ _ _ (ending _ _ c.line_end-end.ensures) c.keep-next.ensures.0 c.keep-next.ensures.1
-    c.if-held-next.false c.if-end-chunk.false (point_none _ _ c.widths_of-w.ensures (omega (arith, c.if-w-eq0.true)))
+    c.if-held-next.false c.if-end-chunk.false (⊎_elim (λ e. absurd (c.in_default.ensures e)) (λ e. e) (flag _))
 
 pub overflow_add-result : goal.overflow_add-result
 overflow_add-result c = omega (arith, within _ _ c.line_end-end.ensures, c.if-end-chunk.false)
@@ -43,5 +42,4 @@ pub returns : goal.returns
 returns c =
     let a = c.args in
     turn_good a.held.now a.count a.chunk.now _ _ _ (ending _ _ c.line_end-end.ensures) c.keep-next.ensures.0 c.keep-next.ensures.1
-    c.if-held-next.false c.if-end-chunk.false
-    _ c.widths_of-w.ensures (point_some _ _ c.widths_of-w.ensures (omega (arith, c.if-w-eq0.false)))
+    c.if-held-next.false c.if-end-chunk.false _ c.in-Some.ensures.1 c.in-Some.ensures.0

@@ -1,20 +1,39 @@
-use Rattle.model.proofs.Prelude.{refl, ◌∙◌, arith}
-use Rattle.script.proofs.Turns.{started, room_here, turned, at_end}
+use Rattle.model.proofs.Prelude.{sym, ◌∙◌, eqb-true, eqb-false}
+use Rattle.script.proofs.Turns.{mark_room, along_number, number_none, along_byte, byte_other, byte_missing, end_met, end_missing}
 use Rattle.script.proofs.line.matched.Goals as goal
+use Rattle.script.proofs.line.matched.Goals.{then-c-eq35+in_ok-value, else-c-eq35+in_ok-b+else-b-c}
 
-pub loop-i-init : goal.loop-i-init
-loop-i-init c = (omega arith, refl, started _ _ _ c.requires)
+pub returns-in_err-value : goal.returns-in_err-value
+returns-in_err-value g c =
+    c.from_residual.ensures ∙ sym (number_none _ _ _ _ _ _ _ c.loop-c-test.true c.loop-c.invariant c.if-c-eq35.true c.in_err-value.ensures)
 
-pub past-m-requires : goal.past-m-requires
-past-m-requires c =
-    room_here c.args.pattern.now _ c.loop-i.i c.loop-i.m (omega arith) c.loop-i.invariant.2
+pub bounds-values-count : goal.bounds-values-count
+bounds-values-count g c = mark_room _ _ _ _ _ _ _ c.loop-c-test.true c.loop-c.invariant c.if-c-eq35.true
 
-pub loop-i-preserved : goal.loop-i-preserved
-loop-i-preserved c =
-    let a = c.args in
-    (omega arith, c.loop-i.invariant.1, turned a.pattern.now a.line.now c.loop-i.i c.loop-i.m _ (omega arith) c.loop-i.invariant.2 c.past-m.ensures)
+pub returns-in_err-b : goal.returns-in_err-b
+returns-in_err-b g c =
+    c.from_residual-in_err-b.ensures ∙ sym (byte_missing _ _ _ _ _ _ _ c.loop-c-test.true c.loop-c.invariant c.if-c-eq35.false c.in_err-b.ensures.cases)
 
-pub returns : goal.returns
-returns c =
-    let a = c.args in
-    c.ended.ensures ∙ at_end a.pattern.now a.line.now c.loop-i.i c.loop-i.m (omega arith) c.loop-i.invariant.2
+pub returns-then-b-c : goal.returns-then-b-c
+returns-then-b-c g c =
+    sym (byte_other _ _ _ _ _ _ _ c.loop-c-test.true c.loop-c.invariant c.if-c-eq35.false _ _ c.in_ok-b.ensures.cases.0 c.if-b-c.true)
+
+pub loop-c-preserved : goal.loop-c-preserved
+loop-c-preserved g c =
+    let l = c.loop-c in
+    elim c.if-c-eq35.branch [
+      | then-c-eq35+in_ok-value w ↦
+          rw (w.values-is, w.count-is, w.rest-is)
+          (along_number _ _ _ _ _ _ _ c.loop-c-test.true l.invariant w.if-c-eq35.true _ _ w.in_ok-value.ensures.0 w.in_ok-value.ensures.1 w.in_ok-value.ensures.2)
+      | else-c-eq35+in_ok-b+else-b-c w ↦
+          rw (w.values-is, w.count-is, w.rest-is)
+          (along_byte _ _ _ _ _ _ _ c.loop-c-test.true l.invariant w.if-c-eq35.false _ _ w.in_ok-b.ensures.cases.0 w.if-b-c.false)
+    ]
+
+pub returns-then-is_empty : goal.returns-then-is_empty
+returns-then-is_empty g c =
+    sym (end_met _ _ _ _ _ _ _ c.loop-c-test.false c.loop-c.invariant (eqb-true _ _ (sym c.is_empty.ensures ∙ c.if-is_empty.true)))
+
+pub returns-else-is_empty : goal.returns-else-is_empty
+returns-else-is_empty g c =
+    sym (end_missing _ _ _ _ _ _ _ c.loop-c-test.false c.loop-c.invariant (eqb-false _ _ (sym c.is_empty.ensures ∙ c.if-is_empty.false)))

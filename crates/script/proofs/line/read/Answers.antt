@@ -2,40 +2,34 @@
 use Rattle.model.proofs.Prelude.{sym, ◌∙◌, arith}
 use Rattle.script.proofs.Prelude.{codes}
 use Rattle.script.specs.Line.{register_line, special_line, step_line}
-use Rattle.script.proofs.Forms.{register_marks, special_marks, step_marks, line_bad, missed, by_register, by_special, by_step}
+use Rattle.script.proofs.Forms.{register_marks, special_marks, step_marks, line_register, line_special, line_step, line_bad}
 use Rattle.script.proofs.line.read.Goals as goal
 
-pub matched-r-requires : goal.matched-r-requires
+pub matched-requires : goal.matched-requires
 unfolding register_line codes
-matched-r-requires c = omega (arith, register_marks)
+matched-requires c = (omega arith, register_marks)
 
-pub returns-then-r : goal.returns-then-r
+pub returns-in-Some : goal.returns-in-Some
 unfolding register_line codes
-returns-then-r c = c.register.ensures ∙ by_register _ _ c.matched-r.ensures c.if-r.true
+returns-in-Some c = c.register.ensures ∙ sym (line_register c.args.line.now _ (sym c.in-Some.ensures))
 
-pub matched-s-requires : goal.matched-s-requires
+pub matched-requires-2 : goal.matched-requires-2
 unfolding special_line codes
-matched-s-requires c = omega (arith, special_marks)
+matched-requires-2 c = (omega arith, special_marks)
 
-pub returns-then-s : goal.returns-then-s
+pub returns-in-Some-matched : goal.returns-in-Some-matched
 unfolding register_line special_line codes
-returns-then-s c =
-    c.special.ensures ∙ by_special _ _ (missed register_line _ c.matched-r.result c.matched-r.ensures c.if-r.false) c.matched-s.ensures c.if-s.true
+returns-in-Some-matched c = c.special.ensures ∙ sym (line_special c.args.line.now _ (sym c.in_default.ensures) (sym c.in-Some-matched.ensures))
 
-pub matched-t-requires : goal.matched-t-requires
+pub matched-requires-3 : goal.matched-requires-3
 unfolding step_line codes
-matched-t-requires c = omega (arith, step_marks)
+matched-requires-3 c = (omega arith, step_marks)
 
-pub returns-then-t : goal.returns-then-t
+pub returns-in_err-matched : goal.returns-in_err-matched
 unfolding register_line special_line step_line codes
-returns-then-t c =
-    c.step.ensures
-    ∙ by_step _ _ (missed register_line _ c.matched-r.result c.matched-r.ensures c.if-r.false)
-    (missed special_line _ c.matched-s.result c.matched-s.ensures c.if-s.false) c.matched-t.ensures c.if-t.true
+returns-in_err-matched c =
+    c.from_residual.ensures ∙ sym (line_bad c.args.line.now (sym c.in_default.ensures) (sym c.in_default-matched.ensures) (sym c.in_err-matched.ensures))
 
 pub returns : goal.returns
 unfolding register_line special_line step_line codes
-returns c =
-    sym
-    (line_bad _ (missed register_line _ c.matched-r.result c.matched-r.ensures c.if-r.false)
-    (missed special_line _ c.matched-s.result c.matched-s.ensures c.if-s.false) (missed step_line _ c.matched-t.result c.matched-t.ensures c.if-t.false))
+returns c = c.step.ensures ∙ sym (line_step c.args.line.now _ (sym c.in_default.ensures) (sym c.in_default-matched.ensures) (sym c.in_ok-matched.ensures))

@@ -17,10 +17,10 @@ pub returns-then-number-eq0 : goal.returns-then-number-eq0
 unfolding done_line codes
 returns-then-number-eq0 c =
     let a = c.args in
-    wrote_as _ _ _ _ _ _ (text_done a.i a.number a.state c.if-number-eq0.true) (wrote_here a.at done_line _ _ _ _ c.requires short_done c.write.ensures)
+    wrote_as _ _ _ _ _ _ (text_done a.i a.number a.state.now c.if-number-eq0.true) (wrote_here a.at done_line _ _ _ _ c.requires short_done (rw (c.from-op.ensures, c.from-x.ensures, c.from-y.ensures, c.from-z.ensures) at c.write.ensures))
 
 pub returns : goal.returns
 unfolding refused_line codes
 returns c =
     let a = c.args in
-    wrote_as _ _ _ _ _ _ (text_refused a.i a.number a.state c.if-number-eq0.false) (wrote_here a.at refused_line _ _ _ _ c.requires short_refused c.write-2.ensures)
+    wrote_as _ _ _ _ _ _ (text_refused a.i a.number a.state.now c.if-number-eq0.false) (wrote_here a.at refused_line _ _ _ _ c.requires short_refused (rw (c.from-op.ensures, c.from-x.ensures, c.from-y.ensures, c.from-z.ensures) at c.write-2.ensures))

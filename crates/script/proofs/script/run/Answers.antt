@@ -12,4 +12,4 @@ returns-then-script-gt-SCRIPT_MOST c =
 pub returns : goal.returns
 unfolding windows
 returns c =
-    prints_carried c.args.script.now _ _ _ c.if-script-gt-SCRIPT_MOST.false _ _ (start_is c.initialize-fresh.result c.initialize-fresh.ensures) refl c.carry.ensures
+    prints_carried c.args.script.now _ _ _ c.if-script-gt-SCRIPT_MOST.false _ _ (start_is c.initialize-first.result c.initialize-first.ensures) refl c.carry.ensures

@@ -4,12 +4,12 @@ use Rattle.script.proofs.Carries.{special_out}
 use Rattle.std.proofs.Common.{rules}
 use Rattle.script.proofs.script.set_special.Goals as goal
 
-pub returns-then-k-gt-RZZ : goal.returns-then-k-gt-RZZ
-returns-then-k-gt-RZZ c =
-    let good = c.well_formed in
-    let h : length c.args.state.special ≡ 32 = search rules in
-    special_out c.args.state _ _ (omega arith)
-
-pub returns : goal.returns
+pub returns-then-k-le-RZZ : goal.returns-then-k-le-RZZ
 unfolding with_special
-returns c = refl
+returns-then-k-le-RZZ c = rw c.from-k.ensures refl
+
+pub returns-else-k-le-RZZ : goal.returns-else-k-le-RZZ
+returns-else-k-le-RZZ c =
+    let good = c.well_formed in
+    let h : length c.args.state.now.special ≡ 32 = search rules in
+    special_out c.args.state.now _ _ (omega (arith, c.from-k.ensures))

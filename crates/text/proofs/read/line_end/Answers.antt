@@ -1,18 +1,11 @@
-use Rattle.model.proofs.Prelude.{refl, arith}
-use Rattle.text.proofs.Pieces.{line_there, line_past, line_further}
+-- `line_end` meets its contract: the first newline is the first byte that is one.
+use Rattle.std.proofs.Common.{arith, ◌-◌, drop, length, length-drop, take_all}
+use Rattle.text.proofs.Pieces.{line_position}
 use Rattle.text.proofs.read.line_end.Goals as goal
 
-pub loop-i-init : goal.loop-i-init
-loop-i-init c = refl
-
-pub returns-then-text-i-eq-NEWLINE : goal.returns-then-text-i-eq-NEWLINE
-returns-then-text-i-eq-NEWLINE c =
-    omega (arith, c.loop-i.invariant, line_there c.args.text.now c.loop-i.i (omega arith) c.if-text-i-eq-NEWLINE.true)
-
-pub loop-i-preserved : goal.loop-i-preserved
-loop-i-preserved c =
-    let e = line_further c.args.text.now c.loop-i.i (omega arith) c.if-text-i-eq-NEWLINE.false in
-    omega (arith, c.loop-i.invariant, e)
-
-pub returns : goal.returns
-returns c = omega (arith, c.loop-i.invariant, line_past c.args.text.now c.loop-i.i (omega arith))
+pub returns-in-Some : goal.returns-in-Some
+returns-in-Some c =
+    let l = c.args.text.now in
+    let i = c.args.at in
+    rw (c.unwrap_or.ensures, c.newline.ensures, line_position c.in-Some.rest.now, c.in-Some.ensures.lookup.0.2)
+    (rw (take_all (length l - i) (drop i l) (omega (arith, length-drop i l))))

@@ -1,38 +1,35 @@
-use Rattle.model.proofs.Prelude.{refl, ◌∙◌, arith, get_or}
-use Rattle.text.proofs.Writes.{leads_whole, leads_on, leads_end, filled_at, filled_past, marks_small, most_piece}
+use Rattle.model.proofs.Prelude.{arith}
+use Rattle.text.proofs.Writes.{leads_on, leads_end, filled_hex, filled_decimal, filled_plain, filled_past, field_is, fields_left, length_numeral}
 use Rattle.text.proofs.write.fill.Goals as goal
+use Rattle.text.proofs.write.fill.Goals.{in-35, in-37, in_default}
 
-pub loop-i-init : goal.loop-i-init
-loop-i-init c = (omega arith, omega arith, omega arith, refl, leads_whole _ _ _)
-
-pub put_piece-next-requires : goal.put_piece-next-requires
-put_piece-next-requires c =
-    omega (arith, c.requires)
-
-pub overflow_add-used : goal.overflow_add-used
-overflow_add-used c =
-    omega (arith, c.loop-i.invariant.0, c.loop-i.invariant.1, c.marks-used.ensures, marks_small (get_or c.args.pattern.now c.loop-i.i 0))
-
-pub overflow_add-i : goal.overflow_add-i
-overflow_add-i c = omega (arith, c.loop-i.invariant.0)
-
-pub loop-i-preserved : goal.loop-i-preserved
-loop-i-preserved c =
-    let l = c.loop-i in
-    let a = c.args in
-    let byte = get_or a.pattern.now l.i 0 in (
-      omega (arith, c.loop-i-test.true),
-      omega (arith, l.invariant.1, c.marks-used.ensures, marks_small byte),
-      omega (arith, l.invariant.2, c.put_piece-next.ensures.end_is, most_piece byte c.field_at-n.result),
-      c.put_piece-next.auto.out ∙ l.invariant.3,
-      leads_on _ _ _ _ _ _ _ _ _ _ l.invariant.4
-          (filled_at a.pattern.now a.fields.now l.i l.used c.field_at-n.result c.marks-used.result
-          c.loop-i-test.true c.field_at-n.ensures c.marks-used.ensures)
-          c.put_piece-next.ensures,
-    )
-
-pub shape_of-out : goal.shape_of-out
-shape_of-out c = c.loop-i.invariant.3
+pub loop-byte-preserved : goal.loop-byte-preserved
+loop-byte-preserved c =
+    let p = c.args.pattern.now in
+    let l = c.loop-byte in
+    elim c.match-byte.branch [
+      | in-35 w ↦
+          let e = field_is l.fields w.next.new.self w.next.result w.next.ensures.steps in
+          let f = fields_left l.fields w.next.new.self w.next.result w.next.ensures.steps in
+          rw (w.out-is, w.end-is, w.fields-is, f) (
+            omega (arith, l.invariant.0, w.numeral-end.ensures.end_is, length_numeral 16 15 w.unwrap_or.result),
+            leads_on _ _ _ _ _ _ _ _ _ _ l.invariant.1 (filled_hex p _ l.byte-index c.loop-byte-test.true w.in-35.is)
+                (rw (w.unwrap_or.ensures, w.copied.ensures, e) at w.numeral-end.ensures),
+          )
+      | in-37 w ↦
+          let e = field_is l.fields w.next-in-37.new.self w.next-in-37.result w.next-in-37.ensures.steps in
+          let f = fields_left l.fields w.next-in-37.new.self w.next-in-37.result w.next-in-37.ensures.steps in
+          rw (w.out-is, w.end-is, w.fields-is, f) (
+            omega (arith, l.invariant.0, w.numeral-end-in-37.ensures.end_is, length_numeral 10 19 w.unwrap_or-in-37.result),
+            leads_on _ _ _ _ _ _ _ _ _ _ l.invariant.1 (filled_decimal p _ l.byte-index c.loop-byte-test.true w.in-37.is)
+                (rw (w.unwrap_or-in-37.ensures, w.copied-in-37.ensures, e) at w.numeral-end-in-37.ensures),
+          )
+      | in_default w ↦
+          rw (w.out-is, w.end-is, w.fields-is) (
+            omega (arith, l.invariant.0, w.put-end.ensures.end_is),
+            leads_on _ _ _ _ _ _ _ _ _ _ l.invariant.1 (filled_plain p _ l.byte-index c.loop-byte-test.true (omega arith) (omega arith)) w.put-end.ensures,
+          )
+    ]
 
 pub returns : goal.returns
-returns c = leads_end _ _ _ _ _ _ c.loop-i.invariant.4 (filled_past _ _ _ c.loop-i-test.false)
+returns c = rw (← c.iter-fields.ensures.rest) (leads_end _ _ _ _ _ _ c.loop-byte.invariant.1 (filled_past _ _ _ c.loop-byte-test.false))

@@ -1,9 +1,7 @@
 -- `put` meets its contract: a place past the end gets nothing.
-use Rattle.text.proofs.Writes.{wrote_one, wrote_past}
+use Rattle.text.proofs.Writes.{wrote_byte, wrote_past}
 use Rattle.text.proofs.write.put.Goals as goal
+use Rattle.text.proofs.write.put.Goals.{then-at-out, else-at-out}
 
-pub returns-then-at-out : goal.returns-then-at-out
-returns-then-at-out c = wrote_one _ _ _
-
-pub returns-else-at-out : goal.returns-else-at-out
-returns-else-at-out c = wrote_past c.args.out.now c.args.at c.args.byte c.if-at-out.false
+pub returns : goal.returns
+returns c = elim c.if-at-out.branch [ then-at-out w ↦ wrote_byte _ _ _ _ w.out-is | else-at-out w ↦ wrote_past _ _ _ _ w.if-at-out.false w.out-is ]

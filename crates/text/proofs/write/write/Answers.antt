@@ -1,17 +1,12 @@
 -- `write` meets its contract: its tests are the definition's.
 use Rattle.model.proofs.Prelude.{arith}
-use Rattle.text.proofs.Writes.{wrote_nothing, wrote_as, put_here, put_far, put_long}
+use Rattle.text.proofs.Writes.{wrote_nothing, wrote_as, put_here, put_none}
 use Rattle.text.proofs.write.write.Goals as goal
 
 pub returns-then-at-ge-PLACES : goal.returns-then-at-ge-PLACES
 returns-then-at-ge-PLACES c =
     let a = c.args in
-    wrote_as _ _ _ _ _ _ (put_far a.at a.pattern.now a.fields.now (omega arith)) (wrote_nothing _ _)
-
-pub returns-then-pattern-gt-PATTERN_MOST : goal.returns-then-pattern-gt-PATTERN_MOST
-returns-then-pattern-gt-PATTERN_MOST c =
-    let a = c.args in
-    wrote_as _ _ _ _ _ _ (put_long a.at a.pattern.now a.fields.now (omega arith) (omega arith)) (wrote_nothing _ _)
+    wrote_as _ _ _ _ _ _ (put_none a.at a.pattern.now a.fields.now c.then-at-ge-PLACES.either) (wrote_nothing _ _)
 
 pub returns : goal.returns
 returns c =
