@@ -7,6 +7,7 @@ ghost use Rattle.model.specs.Lent.{windows_lent, SameWindows};
 ghost use Rattle.tasks.specs.Images.{TasksRan};
 
 use model::{WindowsMut, replies};
+use schedule::Tasks;
 
 mod judge;
 mod schedule;
@@ -45,6 +46,11 @@ pub fn run(
     if number != replies::DONE {
         return number;
     }
-    schedule::rounds(images, parts, windows, q, grant, counts, refusals);
+    let mut tasks = Tasks {
+        images,
+        counts,
+        refusals,
+    };
+    schedule::rounds(&mut tasks, parts, windows, q, grant);
     replies::DONE
 }
