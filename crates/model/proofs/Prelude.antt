@@ -137,7 +137,7 @@ pub use Rattle.model.proofs.SaveUnsave.{saved_global, saved_local, saved_packed,
 pub use Rattle.model.proofs.SaveUnsave.{saved_state_address, Saves, shape_same, unsave_found, unsaved_next, Unsaves, with_context, Wraps}
 pub use Rattle.model.proofs.SeenArms.{by_test}
 pub use Rattle.model.proofs.SeenStates.{admissible_same, of_seen, Seen, seen_of}
-pub use Rattle.model.proofs.Slices.{in_all, in_none, in_turn, length_part, out_all, out_none, out_turn, part_all, part_apart, part_inside, part_lent}
+pub use Rattle.model.proofs.Slices.{length_part, part_all, part_apart, part_inside, part_lent}
 pub use Rattle.model.proofs.Slices.{part_padded, part_within, written_again, written_inside, written_lent}
 pub use Rattle.model.proofs.Split.{needs_append, splits}
 pub use Rattle.model.proofs.StepAnswers.{exception_meets, perform_meets, step_meets, worst_six}

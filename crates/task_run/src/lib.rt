@@ -103,6 +103,7 @@ fn is_lost(reply: Reply) -> bool
 }
 
 /// The run on A and the part, `b`; 32 in the place of 6 or 24 where the instruction asked for what is foreign.
+// The windows in parts: a struct over a part of a lent slice has no proof ("a call keeps the loan of a slice in a field").
 fn run_own(
     state: &mut StateMut<'_>,
     a: &mut [u8],

@@ -8,3 +8,4 @@ pub mod Played
 pub mod Alone
 pub mod Bridge
 pub mod Ends
+pub mod Lent

@@ -8,6 +8,7 @@ ghost use Rattle.model.specs.Lent.{windows_lent, SameWindows};
 ghost use Rattle.tasks.specs.Images.{TasksRan};
 
 use model::{Reply, WindowsMut};
+use schedule::Tasks;
 
 mod judge;
 mod schedule;
@@ -46,6 +47,11 @@ pub fn run(
     if refused != Reply::Done {
         return refused;
     }
-    schedule::rounds(images, parts, windows, q, grant, counts, refusals);
+    let mut tasks = Tasks {
+        images,
+        counts,
+        refusals,
+    };
+    schedule::rounds(&mut tasks, parts, windows, q, grant);
     Reply::Done
 }

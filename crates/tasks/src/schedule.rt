@@ -10,6 +10,7 @@ ghost use Rattle.image.specs.Image.{is_image};
 ghost use Rattle.task_model.specs.Schedule.{Given, refusal_by, any_runs, Desk, turn_of, turns_from, rounds};
 ghost use Rattle.task_model.specs.Call.{tasks_in, tasks_most};
 ghost use Rattle.task_run.specs.RunIn.{own};
+ghost use Rattle.tasks.specs.Lent.{SameTasks};
 ghost use Rattle.tasks.specs.Desks.{image_turn, tasks_turn, Turned, At, Shown, Ready, Played};
 
 use super::judge;
@@ -17,6 +18,14 @@ use instruction::run::Ran;
 use model::replies::number_of;
 use model::{StateMut, WindowsMut};
 use task_run::Part;
+
+/// The tasks of a call: their images, how many instructions each did, and the number that stopped it, or 0.
+#[derive(Drop)]
+pub(crate) struct Tasks<'t> {
+    pub images: &'t mut [u8],
+    pub counts: &'t mut [u64; 8],
+    pub refusals: &'t mut [u64; 8],
+}
 
 /// One turn of a task on its image: up to `grant` instructions.
 fn image_turn(image: &mut [u8], windows: &mut WindowsMut<'_>, part: Part, grant: u64) -> Ran
@@ -43,59 +52,57 @@ fn image_turn(image: &mut [u8], windows: &mut WindowsMut<'_>, part: Part, grant:
 
 /// The turn of task k, where something is left and k has not stopped; what is left after it.
 fn turn(
-    images: &mut [u8],
+    tasks: &mut Tasks<'_>,
     parts: &[u64],
     windows: &mut WindowsMut<'_>,
     q: u64,
     left: u64,
-    counts: &mut [u64; 8],
-    refusals: &mut [u64; 8],
     k: usize,
 ) -> u64
-    requires { (k < tasks_in parts.now) × Ready parts.now images.old left counts.old }
-    ensures same { SameWindows windows.old windows.new }
-    ensures played { Played parts.now (turn_of (tasks_turn parts.now images.old) (tasks_in parts.now) q k)
-        left images.old (windows_lent windows.old) counts.old refusals.old
-        result images.new (windows_lent windows.new) counts.new refusals.new }
+    requires { (k < tasks_in parts.now) × Ready parts.now tasks.old.images.now left tasks.old.counts.now }
+    ensures same { SameTasks tasks.old tasks.new × SameWindows windows.old windows.new }
+    ensures played { Played parts.now
+        (turn_of (tasks_turn parts.now tasks.old.images.now) (tasks_in parts.now) q k)
+        left tasks.old.images.now (windows_lent windows.old) tasks.old.counts.now tasks.old.refusals.now
+        result tasks.new.images.now (windows_lent windows.new) tasks.new.counts.now tasks.new.refusals.now }
 {
     if left == 0 {
         return 0;
     }
-    if refusals[k] != 0 {
+    if tasks.refusals[k] != 0 {
         return left;
     }
-    let each = judge::each_len(images.len(), parts.len() / 2);
+    let own = judge::part_at(parts, k);
+    let each = judge::each_len(tasks.images.len(), parts.len() / 2);
     let start = k * each;
     let end = start + each;
-    let own = judge::part_at(parts, k);
     let grant = q.min(left);
+    let images = &mut *tasks.images;
     let ran = image_turn(&mut images[start..end], windows, own, grant);
-    refusals[k] = number_of(ran.reply);
-    counts[k] += ran.done;
+    tasks.refusals[k] = number_of(ran.reply);
+    tasks.counts[k] += ran.done;
     left - ran.done
 }
 
 /// One round: the turn of each task, in order of number; what is left after it.
 fn round(
-    images: &mut [u8],
+    tasks: &mut Tasks<'_>,
     parts: &[u64],
     windows: &mut WindowsMut<'_>,
     q: u64,
     left: u64,
-    counts: &mut [u64; 8],
-    refusals: &mut [u64; 8],
 ) -> u64
-    requires { Ready parts.now images.old left counts.old }
-    ensures same { SameWindows windows.old windows.new }
+    requires { Ready parts.now tasks.old.images.now left tasks.old.counts.now }
+    ensures same { SameTasks tasks.old tasks.new × SameWindows windows.old windows.new }
     ensures played { Played parts.now
-        (turns_from (tasks_turn parts.now images.old) (tasks_in parts.now) q 0 (tasks_in parts.now))
-        left images.old (windows_lent windows.old) counts.old refusals.old
-        result images.new (windows_lent windows.new) counts.new refusals.new }
+        (turns_from (tasks_turn parts.now tasks.old.images.now) (tasks_in parts.now) q 0 (tasks_in parts.now))
+        left tasks.old.images.now (windows_lent windows.old) tasks.old.counts.now tasks.old.refusals.now
+        result tasks.new.images.now (windows_lent windows.new) tasks.new.counts.now tasks.new.refusals.now }
 {
     let n = parts.len() / 2;
     let mut rest = left;
     for k in 0..n {
-        rest = turn(images, parts, windows, q, rest, counts, refusals, k);
+        rest = turn(tasks, parts, windows, q, rest, k);
     }
     rest
 }
@@ -110,20 +117,18 @@ fn any_runs(refusals: &[u64; 8], n: usize) -> bool
 
 /// Rounds, until nothing is left or all have stopped. As many as there are instructions to spend and tasks to stop are enough.
 pub(crate) fn rounds(
-    images: &mut [u8],
+    tasks: &mut Tasks<'_>,
     parts: &[u64],
     windows: &mut WindowsMut<'_>,
     q: u64,
     grant: u64,
-    counts: &mut [u64; 8],
-    refusals: &mut [u64; 8],
 )
-    requires { Ready parts.now images.old grant counts.old × (grant ≤ grant_most) }
-    ensures same { SameWindows windows.old windows.new }
+    requires { Ready parts.now tasks.old.images.now grant tasks.old.counts.now × (grant ≤ grant_most) }
+    ensures same { SameTasks tasks.old tasks.new × SameWindows windows.old windows.new }
     ensures shown { (d : Desk (List ℕ) Windows)
-        → At d grant images.old (windows_lent windows.old) counts.old refusals.old
-        → Shown (rounds (tasks_turn parts.now images.old) (tasks_in parts.now) q (grant + tasks_in parts.now) d)
-        images.new (windows_lent windows.new) counts.new refusals.new }
+        → At d grant tasks.old.images.now (windows_lent windows.old) tasks.old.counts.now tasks.old.refusals.now
+        → Shown (rounds (tasks_turn parts.now tasks.old.images.now) (tasks_in parts.now) q (grant + tasks_in parts.now) d)
+        tasks.new.images.now (windows_lent windows.new) tasks.new.counts.now tasks.new.refusals.now }
 {
     let n = parts.len() / 2;
     let most = grant + n as u64;
@@ -132,9 +137,9 @@ pub(crate) fn rounds(
         if left == 0 {
             return;
         }
-        if !any_runs(refusals, n) {
+        if !any_runs(tasks.refusals, n) {
             return;
         }
-        left = round(images, parts, windows, q, left, counts, refusals);
+        left = round(tasks, parts, windows, q, left);
     }
 }
