@@ -97,7 +97,7 @@ unfoldable pub use Rattle.model.proofs.ArmAnswers.{Answers}
 pub use Rattle.model.proofs.ArmReplies.{plan_replies, three_replies}
 pub use Rattle.model.proofs.Bools.{and_left, and_right, at_each, denied, eqb_swap, granted, on, on_both, or_left, or_right}
 unfoldable pub use Rattle.model.proofs.Bools.{each}
-pub use Rattle.model.proofs.Bytes.{byte_at, eight, get_d_part, grow, over_written, small, value_below, value_halves, value_more, value_none}
+pub use Rattle.model.proofs.Bytes.{byte_at, eight, get_d_part, grow, over_written, small, value_below, value_more, value_none}
 pub use Rattle.model.proofs.Bytes.{written_append}
 pub use Rattle.model.proofs.Computed.{at_pop_law, below_at, off_run_law, ranged}
 unfoldable pub use Rattle.model.proofs.Computed.{below, off_run, poppable, ranged_state}

@@ -6,6 +6,7 @@ ghost use Rattle.model.specs.Plan.{worst};
 ghost use Rattle.model.specs.Registers.{r_o, r_s, r_g, r_l, sp};
 ghost use Rattle.model.specs.Frames.{count_of, last_output, misplaced};
 ghost use Rattle.model.specs.PopOrder.{lowered};
+ghost use Rattle.model.specs.Lent.{windows_read};
 ghost use Rattle.model.specs.Parts.{made, lent};
 ghost use Rattle.model.specs.Step.{refusing};
 ghost use Rattle.model.specs.Numbers.{number_of};
@@ -14,7 +15,7 @@ ghost use Rattle.machine.specs.Octas.{read_octa};
 ghost use Rattle.stack.specs.GivenBack.{Refused, placed};
 ghost use Rattle.stack.specs.PushPop.{pop_number, pop_answer, Held, Placed, bottom_of, between_by, popped_as, pop_in, PopGives};
 
-use model::{Bases, Reply, State};
+use model::{Bases, Reply, State, WindowsRef};
 
 /// What POP found at rO.
 #[derive(Clone, Copy)]
@@ -58,14 +59,14 @@ pub(crate) fn is_placed(rg: u64, rl: u64) -> bool
 
 /// They become the octabytes from `addr` up.
 #[tactic(auto, using(model::proofs::Fill::over_none))]
-fn load_locals(general: &mut [u64; 256], a: &[u8], b: &[u8], at: Bases, addr: u64, n: u64)
+fn load_locals(general: &mut [u64; 256], windows: WindowsRef<'_>, addr: u64, n: u64)
     ensures { general.new
-        ≡ over (λ (k : ℕ). read_octa (lent at a.now b.now) (addr + 8 * (k - 0))) 0 n general.old }
+        ≡ over (λ (k : ℕ). read_octa (windows_read windows.entry) (addr + 8 * (k - 0))) 0 n general.old }
 {
     if n == 0 {
         return;
     }
-    machine::ranges::load_range(general, a, b, at, addr, 0, n);
+    machine::ranges::load_range(general, windows.a, windows.b, windows.at, addr, 0, n);
 }
 
 /// How many outputs there are.
@@ -94,29 +95,27 @@ fn last_output(general: &[u64; 256], rl: u64, x: u8) -> u64
 /// new rL, up is written; with no outputs that is the hole too.
 fn restore(
     general: &mut [u64; 256],
-    a: &[u8],
-    b: &[u8],
-    at: Bases,
+    windows: WindowsRef<'_>,
     bottom: u64,
     rl: u64,
     x: u8,
     h: u64,
     low: u64,
 )
-    requires { (h ≤ 255) × (low ≤ 255) × (worst (refusing (shapes_of (lent at a.now b.now))) bottom (min h low) ≡ 0) }
+    requires { (h ≤ 255) × (low ≤ 255) × (worst (refusing (shapes_of (windows_read windows))) bottom (min h low) ≡ 0) }
     ensures { (special : List ℕ) (pc halt marks mask : ℕ) → get_or special r_l 0 ≡ rl
         → low ≡ lowered (made general.old special pc halt marks mask) x h
         → made general.new special pc halt marks mask
-        ≡ between_by (lent at a.now b.now) bottom (made general.old special pc halt marks mask) x h }
+        ≡ between_by (windows_read windows.entry) bottom (made general.old special pc halt marks mask) x h }
 {
     let last = last_output(general, rl, x);
     super::slide::slide_up(general, h + 1, low);
     if h < low {
         general[h as usize] = last;
-        load_locals(general, a, b, at, bottom, h);
+        load_locals(general, windows, bottom, h);
         return;
     }
-    load_locals(general, a, b, at, bottom, low);
+    load_locals(general, windows, bottom, low);
 }
 
 /// Whether rO, above the stack's start, cannot hold a frame.
@@ -137,19 +136,11 @@ fn set_frame(special: &mut [u64; 32], low: u64, bottom: u64)
 }
 
 /// The registers after a pop with hole h: written, then cleared from the new rL to rG − 1; the special ones are set afterwards.
-fn leave(
-    general: &mut [u64; 256],
-    special: &mut [u64; 32],
-    a: &[u8],
-    b: &[u8],
-    at: Bases,
-    x: u8,
-    h: u64,
-)
+fn leave(general: &mut [u64; 256], special: &mut [u64; 32], windows: WindowsRef<'_>, x: u8, h: u64)
     requires { (Held special.old) × (h ≤ 255) × (Placed special.old)
-        × (worst (refusing (shapes_of (lent at a.now b.now))) (bottom_of special.old h) (min h (get_or special.old r_g 0)) ≡ 0) }
+        × (worst (refusing (shapes_of (windows_read windows))) (bottom_of special.old h) (min h (get_or special.old r_g 0)) ≡ 0) }
     ensures { (pc halt marks mask : ℕ) → made general.new special.new pc halt marks mask
-        ≡ popped_as (lent at a.now b.now) (made general.old special.old pc halt marks mask) x h }
+        ≡ popped_as (windows_read windows.entry) (made general.old special.old pc halt marks mask) x h }
 {
     let ro = special[State::RO];
     let rg = special[State::RG];
@@ -157,7 +148,7 @@ fn leave(
     let bottom = model::number::wrapping_sub(ro, 8 * (h + 1));
     let count = count_of(rl, x);
     let low = (h + count).min(rg);
-    restore(general, a, b, at, bottom, rl, x, h, low);
+    restore(general, windows, bottom, rl, x, h, low);
     machine::registers::clear_range(general, low, rg);
     set_frame(special, low, bottom);
 }
@@ -166,15 +157,13 @@ fn leave(
 fn pop_at(
     general: &mut [u64; 256],
     special: &mut [u64; 32],
-    a: &[u8],
-    b: &[u8],
-    at: Bases,
+    windows: WindowsRef<'_>,
     x: u8,
     yz: u16,
 ) -> PopFrame
     requires { (Held special.old) × (Placed special.old) }
     ensures { (pc halt marks mask : ℕ) → misplaced (made general.old special.old pc halt marks mask) ≡ false → PopGives
-        (pop_in (lent at a.now b.now) (made general.old special.old pc halt marks mask) x)
+        (pop_in (windows_read windows.entry) (made general.old special.old pc halt marks mask) x)
         (made general.old special.old pc halt marks mask) yz result
         (made general.new special.new pc halt marks mask) }
 {
@@ -182,17 +171,17 @@ fn pop_at(
     let rg = special[State::RG];
     let rj = special[State::RJ];
     let below = model::number::wrapping_sub(ro, 8);
-    let octa = machine::memory::read_octa(a, b, at, below);
+    let octa = machine::memory::read_octa(windows.a, windows.b, windows.at, below);
     if octa.holder.is_none() {
         return PopFrame::Missing;
     }
     let h = octa.value % 256;
     let bottom = model::number::wrapping_sub(ro, 8 * (h + 1));
     let n = h.min(rg);
-    if machine::memory::run_refusal(a, b, at, bottom, n) != Reply::Done {
+    if machine::memory::run_refusal(windows.a, windows.b, windows.at, bottom, n) != Reply::Done {
         return PopFrame::Missing;
     }
-    leave(general, special, a, b, at, x, h);
+    leave(general, special, windows, x, h);
     let target = model::number::wrapping_add(rj, 4 * (yz as u64));
     PopFrame::Frame(target)
 }
@@ -227,5 +216,5 @@ pub fn pop_frame_judged(
         *halt = 1;
         return PopFrame::Rejected;
     }
-    pop_at(general, special, a, b, at, x, yz)
+    pop_at(general, special, WindowsRef { a, b, at }, x, yz)
 }

@@ -1,6 +1,7 @@
 -- `leave` meets its contract: clearing from the new rL up makes the POP of the state between.
-use Rattle.model.proofs.Prelude.{ℕ, List, ap, refl, ◌∙◌, ◌≡◌, arith, lent, made}
+use Rattle.model.proofs.Prelude.{ℕ, List, ap, refl, ◌∙◌, ◌≡◌, arith, made}
 use Rattle.model.specs.declared.State.{State}
+use Rattle.model.specs.Lent.{windows_read}
 use Rattle.stack.proofs.PushPopRegisters.{frame_read_law, low_is, left}
 use Rattle.stack.proofs.frame.leave.Goals as goal
 
@@ -14,7 +15,7 @@ restore-requires c =
     let least = c.min-low in (
       c.requires.1,
       omega (arith, least.ensures, c.requires.0.g_high),
-      frame_read_law (lent a.at a.a.now a.b.now) a.special.now a.x a.h _ _ _ c.requires.0 c.requires.2 c.requires.1
+      frame_read_law (windows_read a.windows) a.special.now a.x a.h _ _ _ c.requires.0 c.requires.2 c.requires.1
           c.wrapping_sub-bottom.ensures c.count_of-count.ensures.0 least.ensures c.requires.3,
     )
 
@@ -25,9 +26,9 @@ returns c =
     let bottom = c.wrapping_sub-bottom in
     let count = c.count_of-count in
     specials _ _ _ pc halt marks mask _ c.set_frame.ensures
-    (left (lent a.at a.a.now a.b.now) a.special.now a.x a.h _ _ _ c.requires.0 c.requires.2 c.requires.1
+    (left (windows_read a.windows) a.special.now a.x a.h _ _ _ c.requires.0 c.requires.2 c.requires.1
     bottom.ensures count.ensures.0 c.min-low.ensures a.general.now _ _ pc halt marks mask
     (c.restore.ensures a.special.now pc halt marks mask refl
-    (low_is (lent a.at a.a.now a.b.now) a.special.now a.x a.h _ _ _ c.requires.0 c.requires.2 c.requires.1
+    (low_is (windows_read a.windows) a.special.now a.x a.h _ _ _ c.requires.0 c.requires.2 c.requires.1
     bottom.ensures count.ensures.0 c.min-low.ensures a.general.now pc halt marks mask))
     c.clear_range.ensures)

@@ -1,5 +1,6 @@
 -- `pop_at` meets its contract: the hole is read where it is lent, and then the frame.
-use Rattle.model.proofs.Prelude.{no_holder, some_holder, told_done, told_refused, sym, ◌∙◌, arith, lent, made}
+use Rattle.model.proofs.Prelude.{no_holder, some_holder, told_done, told_refused, sym, ◌∙◌, arith, made}
+use Rattle.model.specs.Lent.{windows_read}
 use Rattle.stack.proofs.PushPopRegisters.{held_placed, hole_held, hole_lost, hole_is, frame_run}
 use Rattle.stack.proofs.PushPopAnswers.{pop_lacks, pop_short, pop_done}
 use Rattle.stack.proofs.frame.pop_at.Goals as goal
@@ -8,7 +9,7 @@ pub returns-then-is_none : goal.returns-then-is_none
 returns-then-is_none c =
     λ pc halt marks mask m.
     let a = c.args in
-    let w = lent a.at a.a.now a.b.now in
+    let w = windows_read a.windows in
     let l = a.special.now in
     let hole = c.wrapping_sub-below in
     let found = c.read_octa-octa in
@@ -20,7 +21,7 @@ pub returns-then-ne : goal.returns-then-ne
 returns-then-ne c =
     λ pc halt marks mask m.
     let a = c.args in
-    let w = lent a.at a.a.now a.b.now in
+    let w = windows_read a.windows in
     let l = a.special.now in
     let hole = c.wrapping_sub-below in
     let found = c.read_octa-octa in
@@ -32,7 +33,7 @@ returns-then-ne c =
 pub leave-requires : goal.leave-requires
 leave-requires c =
     let a = c.args in
-    let w = lent a.at a.a.now a.b.now in
+    let w = windows_read a.windows in
     let l = a.special.now in
     (c.requires.0, omega arith, c.requires.1, sym (frame_run w l c.requires.1 _ _ _ _ (omega arith) c.wrapping_sub-bottom.ensures c.min-n.ensures c.run_refusal.ensures) ∙ (told_done _ _ c.ne.ensures c.if-ne.false))
 
@@ -40,7 +41,7 @@ pub returns : goal.returns
 returns c =
     λ pc halt marks mask m.
     let a = c.args in
-    let w = lent a.at a.a.now a.b.now in
+    let w = windows_read a.windows in
     let l = a.special.now in
     let hole = c.wrapping_sub-below in
     let found = c.read_octa-octa in
