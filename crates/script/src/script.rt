@@ -2,15 +2,16 @@
 ghost use Rattle.std.specs.Prelude.{◌≡◌, ℕ, ◌+◌, ◌≤◌, ◌<◌, ◌^◌, Some, length};
 ghost use Rattle.model.specs.Octa.{written};
 ghost use Rattle.model.specs.Registers.{with_special};
-ghost use Rattle.model.specs.Parts.{lent};
+ghost use Rattle.model.specs.Lent.{windows_lent, SameWindows};
 ghost use Rattle.text.specs.Pieces.{pieces};
-ghost use Rattle.script.specs.Script.{step_text, bases, form_turn, carried, script_most, printed};
+ghost use Rattle.script.specs.Script.{step_text, form_turn, carried, script_most, printed};
 ghost use Rattle.text.specs.Writing.{Wrote};
 ghost use Rattle.script.specs.Writing.{TurnWritten};
 ghost use Rattle.script.specs.declared.line.Form.TheVariants.{Step as Form-as-Step};
 
 use super::line::{Form, Setting};
-use model::{Bases, Instruction, State};
+use model::replies::number_of;
+use model::{Bases, Instruction, State, WindowsMut};
 use std::ops::ControlFlow;
 
 /// The longest script.
@@ -74,18 +75,19 @@ fn step(
     out: &mut [u8],
     at: usize,
     state: &mut State,
-    a: &mut [u8],
-    b: &mut [u8],
+    windows: &mut WindowsMut<'_>,
     i: Instruction,
 ) -> ControlFlow<usize, usize>
     requires { at < 2 ^ 63 }
-    ensures { (n : ℕ) → TurnWritten (form_turn n state.old (lent bases a.old b.old) (Some (Form-as-Step i)))
-        out.old at out.new result state.new (lent bases a.new b.new) }
+    ensures same { SameWindows windows.old windows.new }
+    ensures written { (n : ℕ) → TurnWritten (form_turn n state.old (windows_lent windows.old) (Some (Form-as-Step i)))
+        out.old at out.new result state.new (windows_lent windows.new) }
 {
-    let stepped = instruction::value::step(*state, a, b, BASES, i.op, i.x, i.y, i.z);
+    let stepped = instruction::value::step(*state, windows, &i);
     *state = stepped.state;
-    let end = put_step(out, at, i, stepped.number, state);
-    if stepped.number == 0 {
+    let number = number_of(stepped.reply);
+    let end = put_step(out, at, i, number, state);
+    if number == 0 {
         ControlFlow::Continue(end)
     } else {
         ControlFlow::Break(end)
@@ -98,13 +100,13 @@ fn turn(
     at: usize,
     n: u64,
     state: &mut State,
-    a: &mut [u8],
-    b: &mut [u8],
+    windows: &mut WindowsMut<'_>,
     form: Option<Form>,
 ) -> ControlFlow<usize, usize>
     requires { at < 2 ^ 63 }
-    ensures { TurnWritten (form_turn n state.old (lent bases a.old b.old) form)
-        out.old at out.new result state.new (lent bases a.new b.new) }
+    ensures same { SameWindows windows.old windows.new }
+    ensures written { TurnWritten (form_turn n state.old (windows_lent windows.old) form)
+        out.old at out.new result state.new (windows_lent windows.new) }
 {
     let Some(form) = form else {
         return ControlFlow::Break(text::write::put_bad(out, at, n));
@@ -118,15 +120,15 @@ fn turn(
             set_special(state, setting);
             ControlFlow::Continue(at)
         }
-        Form::Step(i) => step(out, at, state, a, b, i),
+        Form::Step(i) => step(out, at, state, windows, i),
     }
 }
 
 /// The lines from the first on, until one ends the script.
-fn carry(script: &[u8], out: &mut [u8], a: &mut [u8], b: &mut [u8], first: State) -> usize
+fn carry(script: &[u8], out: &mut [u8], windows: &mut WindowsMut<'_>, first: State) -> usize
     requires { length script.now ≤ script_most }
     ensures { Wrote out.old 0
-        (carried 1 first (lent bases a.old b.old) (pieces script.now)) out.new result }
+        (carried 1 first (windows_lent windows.old) (pieces script.now)) out.new result }
 {
     let mut state = first;
     let mut end = 0;
@@ -138,7 +140,7 @@ fn carry(script: &[u8], out: &mut [u8], a: &mut [u8], b: &mut [u8], first: State
             return text::write::put_bad(out, end, n);
         }
         let form = super::line::read(&script[at..newline]);
-        match turn(out, end, n, &mut state, a, b, form) {
+        match turn(out, end, n, &mut state, windows, form) {
             ControlFlow::Continue(next) => end = next,
             ControlFlow::Break(last) => return last,
         }
@@ -160,5 +162,10 @@ pub fn run(script: &[u8], out: &mut [u8]) -> usize
     first.marks = ALL_LOADED;
     let mut a = [0; WINDOW_SIZE];
     let mut b = [0; WINDOW_SIZE];
-    carry(script, out, &mut a, &mut b, first)
+    let mut windows = WindowsMut {
+        a: &mut a,
+        b: &mut b,
+        at: BASES,
+    };
+    carry(script, out, &mut windows, first)
 }

@@ -1,7 +1,6 @@
 -- `carry` meets its contract: one line after another, of a script whose text is no longer than the whole.
-use Rattle.model.proofs.Prelude.{arith, lent, refl}
+use Rattle.model.proofs.Prelude.{arith, windows_lent, refl}
 use Rattle.script.proofs.Prelude.{line_within, leads_end, leads_last, wrote_bad}
-use Rattle.script.specs.Script.{bases}
 use Rattle.script.proofs.Carries.{carried_end, carried_unended, line_onward, line_stop}
 use Rattle.script.proofs.Bounds.{carried_most}
 use Rattle.script.proofs.script.carry.Goals as goal
@@ -10,17 +9,17 @@ use Rattle.script.proofs.script.carry.Goals as goal
 pub turn-requires : goal.turn-requires
 turn-requires c =
     let a = c.args in
-    omega (arith, c.loop-at.invariant.2.same_end, c.requires, carried_most 1 a.first (lent bases a.a.now a.b.now) a.script.now)
+    omega (arith, c.loop-at.invariant.2.same_end, c.requires, carried_most 1 a.first (windows_lent a.windows.now) a.script.now)
 
 pub returns-then-newline-script : goal.returns-then-newline-script
 returns-then-newline-script c =
     let l = c.loop-at in
     let a = c.args in
     leads_last _ _ _ _ _ _ _ _ _ l.invariant.2
-    (carried_unended l.n l.state (lent bases l.a l.b) a.script.now l.at c.line_end-newline.result
+    (carried_unended l.n l.state (windows_lent l.windows) a.script.now l.at c.line_end-newline.result
     c.loop-at-test.true c.line_end-newline.ensures c.if-newline-script.true)
     (wrote_bad _ _ _ _ _
-    (omega (arith, l.invariant.2.same_end, c.requires, carried_most 1 a.first (lent bases a.a.now a.b.now) a.script.now))
+    (omega (arith, l.invariant.2.same_end, c.requires, carried_most 1 a.first (windows_lent a.windows.now) a.script.now))
     c.put_bad.ensures)
 
 -- a line ends within the script
@@ -31,9 +30,9 @@ pub returns-in-Break : goal.returns-in-Break
 returns-in-Break c =
     let l = c.loop-at in
     let a = c.args in
-    line_stop a.script.now _ _ l.n l.state (lent bases l.a l.b) l.out l.end l.at
+    line_stop a.script.now _ _ l.n l.state (windows_lent l.windows) l.out l.end l.at
     c.line_end-newline.result c.read-form.result _ _ _ _
-    c.loop-at-test.true c.line_end-newline.ensures c.if-newline-script.false c.read-form.ensures l.invariant.2 c.in-Break.ensures refl
+    c.loop-at-test.true c.line_end-newline.ensures c.if-newline-script.false c.read-form.ensures l.invariant.2 c.in-Break.ensures.written refl
 
 pub loop-at-preserved : goal.loop-at-preserved
 loop-at-preserved c =
@@ -42,9 +41,9 @@ loop-at-preserved c =
     let inside = line_within a.script.now l.at _ l.invariant.0 c.line_end-newline.ensures in (
       omega (arith, inside, c.if-newline-script.false),
       omega (arith, inside, l.invariant.1),
-      line_onward a.script.now _ _ l.n l.state (lent bases l.a l.b) l.out l.end l.at
+      line_onward a.script.now _ _ l.n l.state (windows_lent l.windows) l.out l.end l.at
           c.line_end-newline.result c.read-form.result _ _ _ _
-          c.loop-at-test.true c.line_end-newline.ensures c.if-newline-script.false c.read-form.ensures l.invariant.2 c.in-Continue.ensures refl,
+          c.loop-at-test.true c.line_end-newline.ensures c.if-newline-script.false c.read-form.ensures l.invariant.2 c.in-Continue.ensures.written refl,
     )
 
 pub returns : goal.returns
