@@ -1,9 +1,8 @@
 -- How a reply, a state and the windows given back stand to an outcome of the model: the reply, the whole state, every byte; of a run the count too.
-use Rattle.std.specs.Prelude.{◌≡◌, List, ℕ}
+use Rattle.std.specs.Prelude.{◌≡◌, ℕ}
 use Rattle.model.specs.Memory.{Windows}
 use Rattle.model.specs.Plan.{Outcome}
 use Rattle.model.specs.Run.{Stopped}
-use Rattle.model.specs.Parts.{lent}
 use Rattle.model.specs.declared.State.{State}
 
 -- the outcome o, whole, by the reply's number
@@ -17,11 +16,3 @@ pub record RunNumbered (o : Stopped State Windows) (n k : ℕ) (t : State) (v : 
   pub count_is : k ≡ o.done
   pub state_is : t ≡ o.state
   pub window_is : v ≡ o.memory
-
--- what is added to an opcode to say that 1, 2 and 22 have passed
-abbrev pub judged_code : ℕ
-judged_code = 256
-
--- windows lent at two bases
-abbrev pub lent_at : ℕ → ℕ → List ℕ → List ℕ → Windows
-lent_at p q a b = lent (record { a = p; b = q }) a b

@@ -369,8 +369,8 @@ pub fn mmix_step_parts(
         b: base_b,
     };
     let mut windows = WindowsMut { a, b, at };
-    let reply = instruction::step::step(&mut state, &mut windows, &Instruction { op, x, y, z });
-    number_of(reply)
+    let stepped = instruction::step::step(&mut state, &mut windows, &Instruction { op, x, y, z });
+    number_of(stepped)
 }
 
 /// A run in place on the parts of a state, for a host that runs programs: state and windows are judged once a call.
