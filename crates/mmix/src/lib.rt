@@ -105,14 +105,7 @@ pub fn mmix_step(
         a,
         b,
     );
-    image::few::store_touched(
-        &mut *image,
-        few,
-        x,
-        &general,
-        &special,
-        rest,
-    );
+    image::few::store_touched(&mut *image, few, x, &general, &special, rest);
     reply
 }
 
@@ -211,12 +204,7 @@ pub fn mmix_run(
         b,
         done,
     );
-    image::store_state(
-        &mut *image,
-        &general,
-        &special,
-        rest,
-    );
+    image::store_state(&mut *image, &general, &special, rest);
     reply
 }
 
@@ -281,14 +269,7 @@ pub fn mmix_exceptions(
         rest.marks,
         rest.mask,
     );
-    image::few::store_touched(
-        &mut *image,
-        true,
-        LAST,
-        &general,
-        &special,
-        rest,
-    );
+    image::few::store_touched(&mut *image, true, LAST, &general, &special, rest);
     reply
 }
 

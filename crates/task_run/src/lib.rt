@@ -62,7 +62,14 @@ pub fn run(state: &mut StateMut<'_>, windows: &mut WindowsMut<'_>, part: Part, g
     let at = windows.at;
     stack::pass::counted(state.general, state.special);
     let lent = windows.read();
-    let reply = stack::pass::refusal(state.special, state.marks, state.mask, lent.a, lent.b, lent.at);
+    let reply = stack::pass::refusal(
+        state.special,
+        state.marks,
+        state.mask,
+        lent.a,
+        lent.b,
+        lent.at,
+    );
     if reply != Reply::Done {
         return Ran { reply, done: 0 };
     }
