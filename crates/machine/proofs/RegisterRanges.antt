@@ -72,12 +72,3 @@ over_part f a b l ys g h n e =
     (λ out. let same : get_or (put_mid a (b - a) l ys) i 0 ≡ get_or l i 0 = grind (arith, places) in same ∙ sym (over_above f a b l i out m))
     (lt_or_le i b))
     (lt_or_le i a))
-
--- a part filled with 0
-pub over_filled : (a b : ℕ) (l ys : List ℕ) → a ≤ b → b ≤ length l → ys ≡ replicate (length (mid_of a (b - a) l)) 0
-    → put_mid a (b - a) l ys ≡ over (λ (k : ℕ). 0) a b l
-over_filled a b l ys g h e =
-    let n : length (mid_of a (b - a) l) ≡ b - a = grind (arith, places) in
-    let long : length ys ≡ b - a = ap length e ∙ length-replicate _ 0 ∙ n in
-    over_part (λ (k : ℕ). 0) a b l ys g h long
-    (λ i m. ap (λ (zs : List ℕ). get_or zs i 0) e ∙ get_or-replicate (length (mid_of a (b - a) l)) i 0 0 (omega (arith, n)))
