@@ -115,7 +115,6 @@ pub(crate) fn store_range(
 }
 
 /// They go there where the window has room for them all, and else nothing changes; whether it has.
-
 pub fn store_held(
     general: &[u64; 256],
     window: &mut [u8],

@@ -60,7 +60,6 @@ fn move_up(held: &mut [u8], len: usize, at: usize, n: usize)
     requires { (at ≤ len) × (len + n ≤ length held.old) }
     ensures { held.new ≡ written held.old (at + n) (drop at (take len held.old)) }
 {
-    // The library has no `copy_within`.
     for i in (at..len).rev() {
         held[i + n] = held[i];
     }

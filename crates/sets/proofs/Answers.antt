@@ -1,5 +1,5 @@
 -- What put_set answers, from what its tests and calls tell; and that of a long list its first 33 pairs tell as much as all.
-use Rattle.model.proofs.Prelude.{min, ℕ, ◌*◌, ◌+◌, ◌/◌, ◌<◌, ◌≤◌, false, true, List, ⊎_elim, ap, refl, sym, ◌∙◌, ◌≡◌, arith, length, le-leb, lt-ltb}
+use Rattle.model.proofs.Prelude.{◌≢◌, min, ℕ, ◌*◌, ◌+◌, ◌/◌, ◌<◌, ◌≤◌, false, true, List, ⊎_elim, ap, refl, sym, ◌∙◌, ◌≡◌, arith, length, le-leb, lt-ltb}
 use Rattle.model.proofs.Prelude.{number_of, admissible, halted, r_l, Sized, sp, lt_or_le, numbered}
 use Rattle.model.specs.declared.State.{State}
 use Rattle.model.specs.declared.Reply.TheVariants.{NotAdmissible, TooManyPairs}
@@ -41,6 +41,12 @@ module _ (s : State) (ps : List Pair) where
         let m : judgement.reply ≤ 33 = (let k = judge_most ps (sp s r_l) 0 in omega arith) in
         let number : number_of f.reply ≡ judgement.reply = ap number_of j.0 ∙ numbered.number_reply _ m in
         rw (number, j.2) (by s ps _ (set_refused s ps n e h _ refl j.1))
+
+-- a pair that fails is refused by a number that is not 0
+pub fails_by : (l : ℕ) (ps : List Pair) (f : Failed) → length ps ≤ pairs_max → Judged (judge_pairs l 0 ps) (Err f) → number_of f.reply ≢ 0
+fails_by l ps f h j z =
+    let m : (judge_pairs l 0 ps).reply ≤ 33 = (let k = judge_most ps l 0 in omega arith) in
+    j.1 (sym (numbered.number_reply _ m) ∙ ap number_of (sym j.0) ∙ z)
 
 -- ---- the pairs of a list of bytes
 

@@ -1,8 +1,9 @@
 //! PUT for a whole set of special registers, in place: each pair of a list takes effect, or none does. It is judged first, by rL alone, and then put.
 #![tactic(auto)]
 
-ghost use Rattle.std.specs.Prelude.{◌≡◌};
+ghost use Rattle.std.specs.Prelude.{◌≡◌, ◌≢◌, IfErr};
 ghost use Rattle.model.specs.Registers.{with_parts};
+ghost use Rattle.model.specs.Numbers.{number_of};
 ghost use Rattle.model.specs.Lent.{state_lent, SameState};
 ghost use Rattle.model.specs.declared.State.{State};
 ghost use Rattle.machine.specs.Octabytes.{loaded_octas};
@@ -75,6 +76,7 @@ pub fn put_set(state: &mut StateMut<'_>, pairs: &[u64]) -> Result<(), Failed>
     ensures same { SameState state.old state.new }
     ensures put { PutSet (state_lent state.old) (pairs_of pairs.now) (number_in result) (place_in result)
         (state_lent state.new) }
+    ensures failed { IfErr result (λ failed. number_of failed.reply ≢ 0) }
 {
     if !machine::registers::admissible(state.special, state.marks, state.mask) {
         return Err(Failed {
@@ -103,6 +105,7 @@ fn put_read(state: &mut StateMut<'_>, bytes: &[u8], octas: &mut [u64]) -> Result
     ensures same { SameState state.old state.new }
     ensures put { PutSet (state_lent state.old) (pairs_of (loaded_octas bytes.now 0 octas.old))
         (number_in result) (place_in result) (state_lent state.new) }
+    ensures failed { IfErr result (λ failed. number_of failed.reply ≢ 0) }
 {
     machine::octabytes::load_octas(bytes, 0, octas);
     put_set(state, octas)
@@ -113,6 +116,7 @@ pub fn put_set_bytes(state: &mut StateMut<'_>, bytes: &[u8]) -> Result<(), Faile
     ensures same { SameState state.old state.new }
     ensures put { PutSet (state_lent state.old) (pairs_in bytes.now) (number_in result) (place_in result)
         (state_lent state.new) }
+    ensures failed { IfErr result (λ failed. number_of failed.reply ≢ 0) }
 {
     let mut octas = [0; READ_MAX];
     let count = (bytes.len() / 8).min(READ_MAX);

@@ -1,4 +1,6 @@
 // A set on a state by value.
+ghost use Rattle.std.specs.Prelude.{◌≢◌, IfErr};
+ghost use Rattle.model.specs.Numbers.{number_of};
 ghost use Rattle.sets.specs.Sets.{pairs_of, PutSet};
 ghost use Rattle.sets.specs.Answer.{number_in, place_in};
 
@@ -13,7 +15,8 @@ pub struct SetAnswer {
 }
 
 pub fn put_set(mut state: State, pairs: &[u64]) -> SetAnswer
-    ensures { PutSet state (pairs_of pairs.now) (number_in result.set) (place_in result.set) result.state }
+    ensures put { PutSet state (pairs_of pairs.now) (number_in result.set) (place_in result.set) result.state }
+    ensures failed { IfErr result.set (λ failed. number_of failed.reply ≢ 0) }
 {
     let mut lent = StateMut {
         general: &mut state.general,

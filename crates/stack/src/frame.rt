@@ -54,7 +54,11 @@ pub(crate) fn refused(reply: Reply) -> PopFrame
 pub(crate) fn is_placed(rg: u64, rl: u64) -> bool
     ensures { (s : State) → sp s r_g ≡ rg → sp s r_l ≡ rl → result ≡ placed s }
 {
-    rg <= 255 && rl <= rg
+    // A return of its own: of one expression the compiler makes no jump.
+    if rg > 255 {
+        return false;
+    }
+    rl <= rg
 }
 
 /// They become the octabytes from `addr` up.

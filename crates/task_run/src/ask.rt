@@ -26,9 +26,6 @@ pub(crate) struct Whole {
     pub part: Part,
 }
 
-/// The holder of an octabyte that is in neither window.
-const NEITHER: u64 = 2;
-
 /// Whether the octabyte that `addr` names lies in B outside the part.
 #[tactic(auto, unfolding(task_model::specs::Tasks::foreign, model::specs::Memory::has))]
 fn is_foreign(whole: Whole, addr: u64) -> bool
