@@ -6,8 +6,8 @@ ghost use Rattle.model.specs.Plan.{worst};
 ghost use Rattle.model.specs.Registers.{r_o, r_s, r_g, r_l, sp};
 ghost use Rattle.model.specs.Frames.{count_of, last_output, misplaced};
 ghost use Rattle.model.specs.PopOrder.{lowered};
-ghost use Rattle.model.specs.Lent.{windows_read};
-ghost use Rattle.model.specs.Parts.{made, lent};
+ghost use Rattle.model.specs.Lent.{state_lent, windows_read, SameState};
+ghost use Rattle.model.specs.Parts.{made};
 ghost use Rattle.model.specs.Step.{refusing};
 ghost use Rattle.model.specs.Numbers.{number_of};
 ghost use Rattle.model.specs.declared.State.{State};
@@ -15,7 +15,7 @@ ghost use Rattle.machine.specs.Octas.{read_octa};
 ghost use Rattle.stack.specs.GivenBack.{Refused, placed};
 ghost use Rattle.stack.specs.PushPop.{pop_number, pop_answer, Held, Placed, bottom_of, between_by, popped_as, pop_in, PopGives};
 
-use model::{Bases, Reply, State, WindowsRef};
+use model::{Reply, State, StateMut, WindowsRef};
 
 /// What POP found at rO.
 #[derive(Clone, Copy)]
@@ -191,34 +191,24 @@ fn pop_at(
 }
 
 /// Does not judge 2 or 22, nor 1 beyond rL ≤ rG ≤ 255: the caller has. POP x, yz.
-pub fn pop_frame_judged(
-    general: &mut [u64; 256],
-    special: &mut [u64; 32],
-    halt: &mut u64,
-    a: &[u8],
-    b: &[u8],
-    at: Bases,
-    x: u8,
-    yz: u16,
-) -> PopFrame
-    ensures { (pc marks mask : ℕ) → PopGives
-        (pop_in (lent at a.now b.now) (made general.old special.old pc halt.old marks mask) x)
-        (made general.old special.old pc halt.old marks mask) yz result
-        (made general.new special.new pc halt.new marks mask) }
+pub fn pop_frame_judged(s: &mut StateMut<'_>, windows: WindowsRef<'_>, x: u8, yz: u16) -> PopFrame
+    ensures same { SameState s.old s.new }
+    ensures gives { PopGives (pop_in (windows_read windows.entry) (state_lent s.old) x) (state_lent s.old) yz result (state_lent s.new) }
 {
-    let rg = special[State::RG];
-    let rl = special[State::RL];
-    let ro = special[State::RO];
+    machine::registers::counted(s.general, s.special);
+    let rg = s.special[State::RG];
+    let rl = s.special[State::RL];
+    let ro = s.special[State::RO];
     if !is_placed(rg, rl) {
         return PopFrame::NotAdmissible;
     }
     if ro <= State::STACK_START {
-        *halt = 1;
+        *s.halt = 1;
         return PopFrame::NoFrame;
     }
     if is_misplaced(ro) {
-        *halt = 1;
+        *s.halt = 1;
         return PopFrame::Rejected;
     }
-    pop_at(general, special, WindowsRef { a, b, at }, x, yz)
+    pop_at(s.general, s.special, windows, x, yz)
 }

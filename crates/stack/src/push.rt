@@ -5,7 +5,7 @@ ghost use Rattle.model.specs.Memory.{shapes_of, both};
 ghost use Rattle.model.specs.Plan.{worst, puts};
 ghost use Rattle.model.specs.Registers.{r_g, r_l, sp};
 ghost use Rattle.model.specs.Frames.{hole, framed, pushed};
-ghost use Rattle.model.specs.Parts.{made, lent};
+ghost use Rattle.model.specs.Lent.{state_lent, windows_lent, SameState, SameWindows};
 ghost use Rattle.model.specs.Step.{refusing};
 ghost use Rattle.model.specs.declared.State.{State};
 ghost use Rattle.machine.specs.Octas.{written_range};
@@ -13,7 +13,7 @@ ghost use Rattle.stack.specs.GivenBack.{Gives};
 ghost use Rattle.stack.specs.PushPop.{Held, push_in};
 
 use super::frame::is_placed;
-use model::{Bases, Reply, State};
+use model::{Reply, State, StateMut, WindowsMut};
 
 /// The hole's number.
 #[tactic(auto, unfolding(model::specs::Frames::hole))]
@@ -30,75 +30,71 @@ fn hole_of(rg: u64, rl: u64, x: u8) -> u64
 
 /// The first n general registers go to the octabytes from `addr` up; where there are none it is no call.
 #[tactic(auto, using(machine::proofs::Octas::run_none), unfolding(machine::specs::Octas::written_range_by))]
-fn store_locals(general: &[u64; 256], a: &mut [u8], b: &mut [u8], at: Bases, addr: u64, n: u64)
-    ensures { lent at a.new b.new
-        ≡ written_range (lent at a.old b.old) addr 0 n general.now }
+fn store_locals(general: &[u64; 256], w: &mut WindowsMut<'_>, addr: u64, n: u64)
+    ensures same { SameWindows w.old w.new }
+    ensures stored { windows_lent w.new ≡ written_range (windows_lent w.old) addr 0 n general.now }
 {
     if n == 0 {
         return;
     }
-    machine::ranges::store_range(general, a, b, at, addr, 0, n);
+    let at = w.at;
+    machine::ranges::store_range(general, w.a, w.b, at, addr, 0, n);
 }
 
-/// The frame with hole h, stored from address ro up.
-fn store_frame(general: &[u64; 256], a: &mut [u8], b: &mut [u8], at: Bases, ro: u64, h: u64)
-    requires { (h ≤ 255) × (worst (refusing (shapes_of (lent at a.old b.old))) ro (h + 1) ≡ 0) }
-    ensures { (special : List ℕ) (pc halt marks mask : ℕ) → lent at a.new b.new
-        ≡ puts both (lent at a.old b.old) ro (tab 0 (h + 1) (framed (made general.now special pc halt marks mask) h)) }
+/// The frame with hole h, stored from rO up.
+fn store_frame(s: &StateMut<'_>, w: &mut WindowsMut<'_>, ro: u64, h: u64)
+    requires { (h ≤ 255) × (worst (refusing (shapes_of (windows_lent w.old))) ro (h + 1) ≡ 0) }
+    ensures same { SameWindows w.old w.new }
+    ensures stored { windows_lent w.new
+        ≡ puts both (windows_lent w.old) ro (tab 0 (h + 1) (framed (state_lent s.now) h)) }
 {
-    store_locals(general, a, b, at, ro, h);
+    store_locals(s.general, w, ro, h);
+    let at = w.at;
     let addr = model::number::wrapping_add(ro, 8 * h);
-    machine::memory::write_octa(a, b, at, addr, h);
+    machine::memory::write_octa(w.a, w.b, at, addr, h);
 }
 
 /// The registers after a push with hole h.
-fn enter(general: &mut [u64; 256], special: &mut [u64; 32], pc: u64, h: u64)
-    requires { (Held special.old) × (h ≤ 255) }
-    ensures { (halt marks mask : ℕ) → made general.new special.new pc halt marks mask
-        ≡ pushed (made general.old special.old pc halt marks mask) h }
+fn enter(s: &mut StateMut<'_>, h: u64)
+    requires { (Held s.old.special.now) × (h ≤ 255) }
+    ensures same { SameState s.old s.new }
+    ensures pushed { state_lent s.new ≡ pushed (state_lent s.old) h }
 {
-    let ro = special[State::RO];
-    let rl = special[State::RL];
-    let rg = special[State::RG];
+    let ro = s.special[State::RO];
+    let rl = s.special[State::RL];
+    let rg = s.special[State::RG];
     let n = rl.saturating_sub(h + 1);
     let new_ro = model::number::wrapping_add(ro, 8 * (h + 1));
-    let rj = model::number::wrapping_add(pc, 4);
-    super::slide::slide(general, h + 1, n);
-    machine::registers::clear_range(general, n, rg);
-    special[State::RL] = n;
-    special[State::RO] = new_ro;
-    special[State::RJ] = rj;
-    special[State::RS] = new_ro;
+    let rj = model::number::wrapping_add(*s.pc, 4);
+    super::slide::slide(s.general, h + 1, n);
+    machine::registers::clear_range(s.general, n, rg);
+    s.special[State::RL] = n;
+    s.special[State::RO] = new_ro;
+    s.special[State::RJ] = rj;
+    s.special[State::RS] = new_ro;
 }
 
 /// Does not judge 2 or 22, nor 1 beyond rL ≤ rG ≤ 255: the caller has. PUSH with x: the frame goes to the windows at rO, and the callee gets the registers
 /// above the hole.
-pub fn push_frame_judged(
-    general: &mut [u64; 256],
-    special: &mut [u64; 32],
-    pc: u64,
-    a: &mut [u8],
-    b: &mut [u8],
-    at: Bases,
-    x: u8,
-) -> Reply
-    ensures { (halt marks mask : ℕ) → Gives
-        (push_in (lent at a.old b.old) (made general.old special.old pc halt marks mask) x)
-        (made general.old special.old pc halt marks mask) result
-        (made general.new special.new pc halt marks mask) (lent at a.new b.new) }
+pub fn push_frame_judged(s: &mut StateMut<'_>, w: &mut WindowsMut<'_>, x: u8) -> Reply
+    ensures same { SameState s.old s.new × SameWindows w.old w.new }
+    ensures gives { Gives (push_in (windows_lent w.old) (state_lent s.old) x) (state_lent s.old) result
+        (state_lent s.new) (windows_lent w.new) }
 {
-    let rg = special[State::RG];
-    let rl = special[State::RL];
-    let ro = special[State::RO];
+    machine::registers::counted(s.general, s.special);
+    let rg = s.special[State::RG];
+    let rl = s.special[State::RL];
+    let ro = s.special[State::RO];
     if !is_placed(rg, rl) {
         return Reply::NotAdmissible;
     }
     let h = hole_of(rg, rl, x);
-    let reply = machine::memory::run_refusal(a, b, at, ro, h + 1);
+    let lent = w.read();
+    let reply = machine::memory::run_refusal(lent.a, lent.b, lent.at, ro, h + 1);
     if reply != Reply::Done {
         return reply;
     }
-    store_frame(general, a, b, at, ro, h);
-    enter(general, special, pc, h);
+    store_frame(s, w, ro, h);
+    enter(s, h);
     Reply::Done
 }
