@@ -127,8 +127,7 @@ fn turn(
 /// The lines from the first on, until one ends the script.
 fn carry(script: &[u8], out: &mut [u8], windows: &mut WindowsMut<'_>, first: State) -> usize
     requires { length script.now ≤ script_most }
-    ensures same { SameWindows windows.old windows.new }
-    ensures text { Wrote out.old 0
+    ensures { Wrote out.old 0
         (carried 1 first (windows_lent windows.old) (pieces script.now)) out.new result }
 {
     let mut state = first;
