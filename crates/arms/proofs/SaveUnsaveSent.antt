@@ -45,24 +45,28 @@ module _ (w : Windows) (s : State) where
 
 -- ---- the two ways out
 
-module _ (o : Outcome State Windows) (s : State) (h : Onward o s) (r : Reply) (g l : List ℕ) (k : ℕ) (v : Windows)
-    (e : Gives o s r (made g l s.pc k s.marks s.mask) v) where
+module _ (o : Outcome State Windows) (s : State) (h : Onward o s) (r : Reply) (t : State) (v : Windows)
+    (e : Gives o s r t v) where
   small : o.reply ≤ 33
   small = let m = h.most in omega arith
 
   state_at_law : (b : Bool) → eqb o.reply 0 ≡ b → o.state ≡ cond b (goes (goes o.state s.pc) (following s)) (goes o.state s.pc)
   state_at_law b q = ap (λ (p : Outcome State Windows). p.state) h.sent_on ∙ (unfold sent back_to in ap (λ (t : Bool). cond t (goes (goes o.state s.pc) (following s)) (goes o.state s.pc)) q)
 
-  pub onward_done : (n : ℕ) → r ≡ Done → n ≡ (s.pc + 4) % 2 ^ 64 → Replied o r (made g l n k s.marks s.mask) v
+  pub onward_done : (n : ℕ) → r ≡ Done → n ≡ (t.pc + 4) % 2 ^ 64 → Replied o r (goes t n) v
   onward_done n z q = record { reply_is = e.reply_is; state_is = state; window_is = e.window_is }
     where
-      moved : made g l (following s) k s.marks s.mask ≡ goes (goes o.state s.pc) (following s)
-      moved = unfold goes in (ap (λ (t : State). goes t (following s)) e.state_is)
+      moved : goes t (following s) ≡ goes (goes o.state s.pc) (following s)
+      moved = ap (λ (u : State). goes u (following s)) e.state_is
 
-      state : made g l n k s.marks s.mask ≡ o.state
-      state = ap (λ (m : ℕ). made g l m k s.marks s.mask) q ∙ moved ∙ sym (state_at_law true (eq-eqb _ _ (number_zero _ r small e.reply_is z)))
+      -- PC is not the stack's to change
+      here : t.pc ≡ s.pc
+      here = unfold goes in ap (λ (u : State). u.pc) e.state_is
 
-  pub onward_refused : (r ≡ Done → ⊥) → Replied o r (made g l s.pc k s.marks s.mask) v
+      state : goes t n ≡ o.state
+      state = ap (goes t) (q ∙ ap (λ (p : ℕ). (p + 4) % 2 ^ 64) here) ∙ moved ∙ sym (state_at_law true (eq-eqb _ _ (number_zero _ r small e.reply_is z)))
+
+  pub onward_refused : (r ≡ Done → ⊥) → Replied o r t v
   onward_refused z = record {
     reply_is = e.reply_is;
     state_is = e.state_is ∙ sym (state_at_law false (ne_eqb _ 0 (refused_not_zero _ r e.reply_is z)));

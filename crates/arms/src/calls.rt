@@ -13,7 +13,7 @@ pub fn push_to_judged(s: &mut StateMut<'_>, w: &mut WindowsMut<'_>, x: u8, targe
     ensures replied { Replied (call_to (windows_lent w.old) (state_lent s.old) x target)
         result (state_lent s.new) (windows_lent w.new) }
 {
-    let reply = stack::push::push_frame_judged(s.general, s.special, *s.pc, w.a, w.b, w.at, x);
+    let reply = stack::push::push_frame_judged(s, w, x);
     if reply == Reply::Done {
         *s.pc = target;
     }
@@ -27,9 +27,7 @@ pub fn pop_to_judged(s: &mut StateMut<'_>, w: &WindowsMut<'_>, i: &Instruction) 
         result (state_lent s.new) (windows_lent w.now) }
 {
     let yz = 256 * (i.y as u16) + i.z as u16;
-    let found = stack::frame::pop_frame_judged(
-        s.general, s.special, s.halt, w.a, w.b, w.at, i.x, yz,
-    );
+    let found = stack::frame::pop_frame_judged(s, w.read(), i.x, yz);
     match found {
         PopFrame::Frame(to) => {
             *s.pc = to;

@@ -14,9 +14,7 @@ pub fn save_to_judged(s: &mut StateMut<'_>, w: &mut WindowsMut<'_>, x: u8) -> Re
     ensures replied { Replied (save_in (windows_lent w.old) (state_lent s.old) x)
         result (state_lent s.new) (windows_lent w.new) }
 {
-    let reply = context::save_context_judged(
-        s.general, s.special, s.halt, s.marks, s.mask, w.a, w.b, w.at, x,
-    );
+    let reply = context::save_context_judged(s, w, x);
     if reply == Reply::Done {
         *s.pc = target::following(*s.pc);
     }
@@ -29,9 +27,7 @@ pub fn unsave_from_judged(s: &mut StateMut<'_>, w: &WindowsMut<'_>, address: u64
     ensures replied { Replied (unsave_in (windows_lent w.now) (state_lent s.old) address)
         result (state_lent s.new) (windows_lent w.now) }
 {
-    let reply = context::unsave_context_judged(
-        s.general, s.special, s.halt, w.a, w.b, w.at, address,
-    );
+    let reply = context::unsave_context_judged(s, w.read(), address);
     if reply == Reply::Done {
         *s.pc = target::following(*s.pc);
     }

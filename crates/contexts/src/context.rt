@@ -4,6 +4,7 @@ ghost use Rattle.std.specs.Prelude.{◌≡◌, ℕ, ◌+◌, ◌*◌, ◌%◌, �
 ghost use Rattle.model.specs.Fill.{over};
 ghost use Rattle.model.specs.Contexts.{saved_special, unsaved_general, octas_of};
 ghost use Rattle.model.specs.Parts.{made, lent};
+ghost use Rattle.model.specs.Lent.{state_lent, windows_lent, windows_read, SameState, SameWindows};
 ghost use Rattle.machine.specs.Octas.{read_octa, written_run, written_range};
 ghost use Rattle.stack.specs.GivenBack.{Gives};
 ghost use Rattle.contexts.specs.SaveUnsave.{save_in, unsave_in, context_specials};
@@ -12,7 +13,7 @@ ghost use Rattle.contexts.specs.ContextWork.{Ranged, StoresContext, left_general
 use super::layout::{
     AT_PACKED, AT_SPECIALS, CONTEXT_OCTAS, CONTEXT_SPECIALS, ContextError, PACKED_RG, SavedContext,
 };
-use model::{Bases, Reply, State};
+use model::{Bases, Reply, State, StateMut, WindowsMut, WindowsRef};
 
 /// The special register that is number i of the twelve (`SAVE_SPECIALS`): rB to rR, which are 0 to 6, then rP to rZ, 23 to 27.
 #[tactic(auto, using(model::proofs::SaveUnsave::saved_special_low, crate::proofs::UnsaveLoads::saved_special_up))]
@@ -115,39 +116,30 @@ fn depart(special: &mut [u64; 32])
 }
 
 /// Does not judge 2 or 22: the caller has; 1 is judged. SAVE $x: the context goes to the windows at rO.
-pub fn save_context_judged(
-    general: &mut [u64; 256],
-    special: &mut [u64; 32],
-    halt: &mut u64,
-    marks: u64,
-    mask: u64,
-    a: &mut [u8],
-    b: &mut [u8],
-    at: Bases,
-    x: u8,
-) -> Reply
-    ensures { (pc : ℕ) → Gives
-        (save_in (lent at a.old b.old) (made general.old special.old pc halt.old marks mask) x)
-        (made general.old special.old pc halt.old marks mask) result
-        (made general.new special.new pc halt.new marks mask) (lent at a.new b.new) }
+pub fn save_context_judged(s: &mut StateMut<'_>, w: &mut WindowsMut<'_>, x: u8) -> Reply
+    ensures same { SameState s.old s.new × SameWindows w.old w.new }
+    ensures gives { Gives (save_in (windows_lent w.old) (state_lent s.old) x) (state_lent s.old) result
+        (state_lent s.new) (windows_lent w.new) }
 {
-    if !machine::registers::admissible(special, marks, mask) {
+    machine::registers::counted(s.general, s.special);
+    if !machine::registers::admissible(s.special, s.marks, s.mask) {
         return Reply::NotAdmissible;
     }
-    let rg = special[State::RG];
-    let rl = special[State::RL];
-    let ro = special[State::RO];
-    let named = x as u64;
-    if named < rg {
-        *halt = 1;
+    let rg = s.special[State::RG];
+    let rl = s.special[State::RL];
+    let ro = s.special[State::RO];
+    if (x as u64) < rg {
+        *s.halt = 1;
         return Reply::SaveLocal;
     }
-    let reply = machine::memory::run_refusal(a, b, at, ro, rl + CONTEXT_OCTAS - rg);
+    let lent = w.read();
+    let reply = machine::memory::run_refusal(lent.a, lent.b, lent.at, ro, rl + CONTEXT_OCTAS - rg);
     if reply != Reply::Done {
         return reply;
     }
-    put_away(general, special, a, b, at, x);
-    depart(special);
+    let at = w.at;
+    put_away(s.general, s.special, w.a, w.b, at, x);
+    depart(s.special);
     Reply::Done
 }
 
@@ -213,28 +205,22 @@ fn arrive(
 }
 
 /// Does not judge 1, 2 or 22: the caller has. UNSAVE of the context whose packed octabyte is at `address`.
-pub fn unsave_context_judged(
-    general: &mut [u64; 256],
-    special: &mut [u64; 32],
-    halt: &mut u64,
-    a: &[u8],
-    b: &[u8],
-    at: Bases,
-    address: u64,
-) -> Reply
-    ensures { (pc marks mask : ℕ) → Gives
-        (unsave_in (lent at a.now b.now) (made general.old special.old pc halt.old marks mask) address)
-        (made general.old special.old pc halt.old marks mask) result
-        (made general.new special.new pc halt.new marks mask) (lent at a.now b.now) }
+pub fn unsave_context_judged(s: &mut StateMut<'_>, windows: WindowsRef<'_>, address: u64) -> Reply
+    ensures same { SameState s.old s.new }
+    ensures gives { Gives (unsave_in (windows_read windows.entry) (state_lent s.old) address) (state_lent s.old) result
+        (state_lent s.new) (windows_read windows.entry) }
 {
-    let located = super::layout::locate(a, b, at, address);
+    machine::registers::counted(s.general, s.special);
+    let located = super::layout::locate(windows.a, windows.b, windows.at, address);
     match located {
         Ok(context) => {
-            arrive(general, special, a, b, at, context);
+            arrive(
+                s.general, s.special, windows.a, windows.b, windows.at, context,
+            );
             Reply::Done
         }
         Err(ContextError::Bad(reply)) => {
-            *halt = 1;
+            *s.halt = 1;
             reply
         }
         Err(ContextError::Lost(reply)) => reply,
