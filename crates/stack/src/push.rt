@@ -54,15 +54,14 @@ fn store_frame(s: &StateMut<'_>, w: &mut WindowsMut<'_>, ro: u64, h: u64)
     machine::memory::write_octa(w.a, w.b, at, addr, h);
 }
 
-/// The registers after a push with hole h.
-fn enter(s: &mut StateMut<'_>, h: u64)
-    requires { (Held s.old.special.now) × (h ≤ 255) }
+/// The registers after a push with hole h. rG is handed on: what is read anew is not known to be at most 255.
+fn enter(s: &mut StateMut<'_>, h: u64, rg: u64)
+    requires { (Held s.old.special.now) × (h ≤ 255) × (rg ≡ sp (state_lent s.old) r_g) }
     ensures same { SameState s.old s.new }
     ensures pushed { state_lent s.new ≡ pushed (state_lent s.old) h }
 {
     let ro = s.special[State::RO];
     let rl = s.special[State::RL];
-    let rg = s.special[State::RG];
     let n = rl.saturating_sub(h + 1);
     let new_ro = model::number::wrapping_add(ro, 8 * (h + 1));
     let rj = model::number::wrapping_add(*s.pc, 4);
@@ -95,6 +94,6 @@ pub fn push_frame_judged(s: &mut StateMut<'_>, w: &mut WindowsMut<'_>, x: u8) ->
         return reply;
     }
     store_frame(s, w, ro, h);
-    enter(s, h);
+    enter(s, h, rg);
     Reply::Done
 }

@@ -26,7 +26,14 @@ pub fn push_frame(mut state: State, w: &mut WindowsMut<'_>, x: u8) -> Answer
     ensures gives { PushGives (windows_lent w.old) state x result.reply result.state (windows_lent w.new) }
 {
     let lent = w.read();
-    let refusal = pass::refusal(&state.special, state.marks, state.mask, lent.a, lent.b, lent.at);
+    let refusal = pass::refusal(
+        &state.special,
+        state.marks,
+        state.mask,
+        lent.a,
+        lent.b,
+        lent.at,
+    );
     if refusal != Reply::Done {
         return Answer {
             reply: refusal,

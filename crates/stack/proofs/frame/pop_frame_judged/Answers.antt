@@ -24,9 +24,10 @@ returns-then-is_misplaced-clause-gives c =
 
 pub pop_at-requires : goal.pop_at-requires
 pop_at-requires c =
-    let s = state_lent c.args.s.now in
-    (held_by s (granted _ _ (c.is_placed.ensures s refl refl) (ap not c.if-not-is_placed.false)) (omega (arith, c.counted.ensures.1)),
-    placed_by s c.if-ro-le-STACK_START.false (sym (c.is_misplaced.ensures s refl) ∙ c.if-is_misplaced.false))
+    let s = state_lent c.args.s.now in (
+      held_by s (granted _ _ (c.is_placed.ensures s refl refl) (ap not c.if-not-is_placed.false)) (omega (arith, c.counted.ensures.1)),
+      placed_by s c.if-ro-le-STACK_START.false (sym (c.is_misplaced.ensures s refl) ∙ c.if-is_misplaced.false),
+    )
 
 pub returns-clause-gives : goal.returns-clause-gives
 returns-clause-gives c =

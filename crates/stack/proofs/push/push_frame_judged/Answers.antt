@@ -28,7 +28,7 @@ store_frame-requires c = (c.hole_of-h.ensures.1, passed _ _ _ _ _ (rw c.read-len
 pub enter-requires : goal.enter-requires
 enter-requires c =
     let s = state_lent c.args.s.now in
-    (held_by s (granted _ _ (c.is_placed.ensures s refl refl) (ap not c.if-not-is_placed.false)) (omega (arith, c.counted.ensures.1)), c.hole_of-h.ensures.1)
+    (held_by s (granted _ _ (c.is_placed.ensures s refl refl) (ap not c.if-not-is_placed.false)) (omega (arith, c.counted.ensures.1)), c.hole_of-h.ensures.1, refl)
 
 pub returns-clause-gives : goal.returns-clause-gives
 returns-clause-gives c =
