@@ -7,11 +7,11 @@ use Rattle.arithmetic.proofs.Digits.{factor_pos}
 
 -- ---- left
 
-pub left_far : (y z : ℕ) → 63 < z → 0 ≡ octa_of (pos (y * power_of z))
+pub left_far : (y z : ℕ) → 64 ≤ z → 0 ≡ octa_of (pos (y * power_of z))
 unfolding octa_of
 left_far y z h = rw (power_far z h) (sym (mul-mod_left y (2 ^ 64)))
 
-pub left_near : (y z : ℕ) → z ≤ 63 → y * 2 ^ z % 2 ^ 64 ≡ octa_of (pos (y * power_of z))
+pub left_near : (y z : ℕ) → z < 64 → y * 2 ^ z % 2 ^ 64 ≡ octa_of (pos (y * power_of z))
 unfolding octa_of
 left_near y z h = rw (power_near z (omega arith)) refl
 
@@ -32,13 +32,13 @@ module _ (y p k : ℕ) (p_pos : 0 < p) (e : k * p ≡ 2 ^ 63) where
       (λ l. rw (small l) (eq-eqb (mag (signed_of y) / k) 0 (div-eq_of_lt l)))
       (λ l. rw (large l) (ne_eqb (mag (signed_of y) / k) 0 (λ n. omega (arith, (le-div_iff_mul-le {k = k} {x = 1} {y = mag (signed_of y)} (factor_pos k p (omega arith))).1 (omega arith)))))
 
-pub signed_near : (y z : ℕ) → z ≤ 63 → eqb (mag (signed_of y) / 2 ^ (63 - z)) 0 ≡ is_signed (signed_of y *ℤ pos (power_of z))
+pub signed_near : (y z : ℕ) → z < 64 → eqb (mag (signed_of y) / 2 ^ (63 - z)) 0 ≡ is_signed (signed_of y *ℤ pos (power_of z))
 signed_near y z h =
     let e : 63 - z + z ≡ 63 = omega arith in
     rw (power_near z (omega arith)) (tested y (2 ^ z) (2 ^ (63 - z)) (pow_pos z) (sym (pow-add 2 (63 - z) z) ∙ ap (λ (k : ℕ). 2 ^ k) e))
 
 -- by 64 or more only 0 is left whole
-pub signed_far : (y z : ℕ) → 63 < z → eqb y 0 ≡ is_signed (signed_of y *ℤ pos (power_of z))
+pub signed_far : (y z : ℕ) → 64 ≤ z → eqb y 0 ≡ is_signed (signed_of y *ℤ pos (power_of z))
 signed_far y z h = rw (power_far z h) (⊎_elim
     (λ e. rw (e, signed_low 0 (omega arith), signed_pos) refl)
     (λ n. ne_eqb y 0 (omega arith) ∙ sym (far y (2 ^ 64) n (omega arith)))
@@ -46,10 +46,10 @@ signed_far y z h = rw (power_far z h) (⊎_elim
 
 -- ---- right
 
-pub right_far : (y z : ℕ) → y < 2 ^ 64 → 63 < z → 0 ≡ y / power_of z
+pub right_far : (y z : ℕ) → y < 2 ^ 64 → 64 ≤ z → 0 ≡ y / power_of z
 right_far y z f h = rw (power_far z h) (sym (div-eq_of_lt f))
 
-pub right_near : (y z : ℕ) → z ≤ 63 → y / 2 ^ z ≡ y / power_of z
+pub right_near : (y z : ℕ) → z < 64 → y / 2 ^ z ≡ y / power_of z
 right_near y z h = rw (power_near z (omega arith)) refl
 
 pub right_low : (y p : ℕ) → y < 2 ^ 63 → mag (signed_of y) / p ≡ octa_of (floor_by (signed_of y) p)

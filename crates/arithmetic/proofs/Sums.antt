@@ -1,8 +1,12 @@
--- Sums, differences and the order of signed values, by the four cases of the signs.
-use Rattle.model.proofs.Prelude.{suc, zero, ℕ, ◌%◌, ◌+◌, ◌-◌, ◌<◌, ◌^◌, ◌≤◌, Bool, bool_beq, cond, false, not, true, ◌&&◌, ap, ap₂, refl, sym, ◌∙◌, ◌≡◌}
-use Rattle.model.proofs.Prelude.{add-suc, arith, leb, ltb, negsuc, pos, sub_ℕ, ℤ, ◌+ℤ◌, ◌-ℤ◌, lt_z, le-leb, le-ltb, lt-leb, lt-ltb, exact, overflow_of, is_negative}
-use Rattle.model.proofs.Prelude.{flag_v, compared, is_signed, octa_of, signed_of, by_order, by_sign, leb_not_ltb, negative_high, negative_low, octa_minus}
-use Rattle.model.proofs.Prelude.{pos_minus_pos, signed_high, signed_low}
+-- Results and flags of signed operations, by what the library's own say.
+use Rattle.model.proofs.Prelude.{ℕ, ◌%◌, ◌+◌, ◌-◌, ◌<◌, ◌^◌, Bool, bool_beq, cond, false, not, true, ap, ap₂, refl, subst, ◌∙◌, ◌≡◌}
+use Rattle.model.proofs.Prelude.{arith, negsuc, pos, ℤ, ◌-ℤ◌, le-ltb, lt-ltb, exact, overflow_of, is_negative}
+use Rattle.model.proofs.Prelude.{flag_v, is_signed, octa_of, signed_of, by_order, by_sign, octa_minus}
+use Rattle.model.proofs.Prelude.{pos_minus_pos, signed_high, signed_low, w64}
+use Rattle.std.specs.Int.{cast_signed, cast_unsigned, int_wrap}
+use Rattle.std.specs.Bool.{FalseIff}
+use Rattle.std.specs.Prelude.{FitsSigned}
+use Rattle.std.proofs.lemmas.Int.{of_z-to_z, to_z-of_z, SFits-int_wrap}
 use Rattle.model.specs.declared.Operands.{Operands}
 use Rattle.model.specs.declared.Results.{Results}
 
@@ -19,148 +23,40 @@ flag_of t n e = ap (λ (b : Bool). cond b flag_v 0) e ∙ turned (is_signed n)
 pub results_made : (a : Operands) {x f : ℕ} (n : ℤ) → x ≡ octa_of n → f ≡ overflow_of n → ◌≡◌ {A = Results} (record { x = x; rh = a.rh; rr = a.rr; flags = f }) (exact a n)
 results_made a n ex ef = ap₂ {C = Results} (λ (i j : ℕ). record { x = i; rh = a.rh; rr = a.rr; flags = j }) ex ef
 
-pub exactly : (a : Operands) {x f : ℕ} (t : Bool) (n : ℤ) → x ≡ octa_of n → f ≡ cond t flag_v 0 → t ≡ not (is_signed n)
-    → ◌≡◌ {A = Results} (record { x = x; rh = a.rh; rr = a.rr; flags = f }) (exact a n)
-exactly a t n ex ef et = results_made a n ex (ef ∙ flag_of t n et)
-
-differs_false : (t : Bool) → not (bool_beq false t) ≡ t
-differs_false true = refl
-differs_false false = refl
-
-differs_true : (t : Bool) → not (bool_beq true t) ≡ not t
-differs_true true = refl
-differs_true false = refl
-
 -- whether the signs of two octabytes differ
 abbrev pub differ : ℕ → ℕ → Bool
 differ y z = not (bool_beq (is_negative y) (is_negative z))
 
-signed_minus : (a b : ℕ) → a < 2 ^ 63 + b → b ≤ 2 ^ 63 + a → is_signed (sub_ℕ a b) ≡ true
-unfolding is_signed
-signed_minus a b l m = by_order a b
-    (λ h. rw (lt-ltb a b h) (lt-ltb (b - suc a) (2 ^ 63) (omega arith)))
-    (λ h. rw (le-ltb a b h) (lt-ltb (a - b) (2 ^ 63) (omega arith)))
-
 pub octa_difference : (y z : ℕ) → z < 2 ^ 64 → octa_of (pos y -ℤ pos z) ≡ (y + (2 ^ 64 - z)) % 2 ^ 64
 octa_difference y z l = rw (pos_minus_pos y z) (octa_minus y z (omega arith))
 
-neg_minus_pos : (a b : ℕ) → negsuc a -ℤ pos b ≡ negsuc (a + b)
-neg_minus_pos a zero = rw (lt-ltb 0 (suc a) (omega arith)) (ap negsuc (omega arith))
-neg_minus_pos a (suc b) = ap negsuc (sym (add-suc a b))
+-- ---- the library's signed numbers
 
--- v is the octabyte of the exact number n, and the test says whether n is no signed octabyte
-abbrev Exactly : ℕ → Bool → ℤ → Type 0
-Exactly v t n = (v ≡ octa_of n) × (t ≡ not (is_signed n))
+pub cast_is : (v : ℕ) → cast_signed w64 v ≡ signed_of v
+cast_is v = by_sign v (λ h. rw (signed_low v h, lt-ltb v (2 ^ 63) h) refl) (λ h. rw (signed_high v h, le-ltb v (2 ^ 63) h) refl)
 
--- ---- sums: two of one sign, and a sum of the other
+pub passed_is : (v : ℕ) (a : ℤ) → v < 2 ^ 64 → a ≡ cast_signed w64 v → cast_signed w64 (cast_unsigned w64 a) ≡ signed_of v
+passed_is v a h e = rw e (rw (of_z-to_z w64 v h) (cast_is v))
 
-module _ (y z v : ℕ) (fy : y < 2 ^ 64) (fz : z < 2 ^ 64) (e : v ≡ (y + z) % 2 ^ 64) where
-  sum_low_low : y < 2 ^ 63 → z < 2 ^ 63 → Exactly v (not (differ y z) && differ y v) (signed_of y +ℤ signed_of z)
-  unfolding octa_of is_signed
-  sum_low_low hy hz =
-      let w : v ≡ y + z = omega arith in
-      rw (signed_low y hy, signed_low z hz, negative_low y hy, negative_low z hz, differs_false, w) (omega arith, leb_not_ltb (y + z) (2 ^ 63))
+pub signed_fits : (v : ℕ) → FitsSigned w64 (signed_of v)
+signed_fits v = by_sign v (λ h. rw (signed_low v h) (record { sfits = h })) (λ h. rw (signed_high v h) (record { sfits = omega arith }))
 
-  sum_low_high : y < 2 ^ 63 → 2 ^ 63 ≤ z → Exactly v (not (differ y z) && differ y v) (signed_of y +ℤ signed_of z)
-  sum_low_high hy hz =
-      rw (signed_low y hy, signed_high z hz, negative_low y hy, negative_high z hz)
-      (rw (octa_minus y (suc (2 ^ 64 - suc z)) (omega arith)) (omega arith), rw (signed_minus y (suc (2 ^ 64 - suc z)) (omega arith) (omega arith)) refl)
+octa_wrapped : (n : ℤ) → cast_unsigned w64 (int_wrap w64 n) ≡ octa_of n
+unfolding octa_of int_wrap
+octa_wrapped (pos n) = of_z-to_z w64 (n % 2 ^ 64) (omega arith)
+octa_wrapped (negsuc n) = of_z-to_z w64 (2 ^ 64 - 1 - n % 2 ^ 64) (omega arith) ∙ omega arith
 
-  sum_high_low : 2 ^ 63 ≤ y → z < 2 ^ 63 → Exactly v (not (differ y z) && differ y v) (signed_of y +ℤ signed_of z)
-  sum_high_low hy hz =
-      rw (signed_high y hy, signed_low z hz, negative_high y hy, negative_low z hz)
-      (rw (octa_minus z (suc (2 ^ 64 - suc y)) (omega arith)) (omega arith), rw (signed_minus z (suc (2 ^ 64 - suc y)) (omega arith) (omega arith)) refl)
+overflows : (t : Bool) (n : ℤ) → FalseIff t (FitsSigned w64 n) → t ≡ not (is_signed n)
+unfolding is_signed
+overflows false (pos n) h = rw (lt-ltb n (2 ^ 63) h.sfits) refl
+overflows false (negsuc n) h = rw (lt-ltb n (2 ^ 63) h.sfits) refl
+overflows true (pos n) h = by_order n (2 ^ 63) (λ l. absurd (h (record { sfits = l }))) (λ l. rw (le-ltb n (2 ^ 63) l) refl)
+overflows true (negsuc n) h = by_order n (2 ^ 63) (λ l. absurd (h (record { sfits = l }))) (λ l. rw (le-ltb n (2 ^ 63) l) refl)
 
-  below_zero : 2 ^ 63 ≤ y → 2 ^ 63 ≤ z → leb (2 ^ 63) v ≡ ltb (suc (2 ^ 64 - suc y + (2 ^ 64 - suc z))) (2 ^ 63)
-  below_zero hy hz = by_sign v
-      (λ h. rw (lt-leb (2 ^ 63) v h) (sym (le-ltb (suc (2 ^ 64 - suc y + (2 ^ 64 - suc z))) (2 ^ 63) (omega arith))))
-      (λ h. rw (le-leb (2 ^ 63) v h) (sym (lt-ltb (suc (2 ^ 64 - suc y + (2 ^ 64 - suc z))) (2 ^ 63) (omega arith))))
-
-  sum_high_high : 2 ^ 63 ≤ y → 2 ^ 63 ≤ z → Exactly v (not (differ y z) && differ y v) (signed_of y +ℤ signed_of z)
-  unfolding octa_of is_signed
-  sum_high_high hy hz =
-      rw (signed_high y hy, signed_high z hz, negative_high y hy, negative_high z hz, differs_true)
-      (omega arith, ap not (below_zero hy hz))
-
-  pub sum_exact : Exactly v (not (differ y z) && differ y v) (signed_of y +ℤ signed_of z)
-  sum_exact = by_sign y (λ hy. by_sign z (sum_low_low hy) (sum_low_high hy)) (λ hy. by_sign z (sum_high_low hy) (sum_high_high hy))
-
--- ---- differences: two of different signs, and a difference whose sign is not the first's
-
-module _ (y z v : ℕ) (fy : y < 2 ^ 64) (fz : z < 2 ^ 64) (e : v ≡ (y + (2 ^ 64 - z)) % 2 ^ 64) where
-  difference_low_low : y < 2 ^ 63 → z < 2 ^ 63 → Exactly v (differ y z && differ y v) (signed_of y -ℤ signed_of z)
-  difference_low_low hy hz =
-      rw (signed_low y hy, signed_low z hz, negative_low y hy, negative_low z hz, pos_minus_pos)
-      (rw (octa_minus y z (omega arith)) e, rw (signed_minus y z (omega arith) (omega arith)) refl)
-
-  difference_low_high : y < 2 ^ 63 → 2 ^ 63 ≤ z → Exactly v (differ y z && differ y v) (signed_of y -ℤ signed_of z)
-  unfolding octa_of is_signed
-  difference_low_high hy hz =
-      let w : v ≡ y + suc (2 ^ 64 - suc z) = omega arith in
-      rw (signed_low y hy, signed_high z hz, negative_low y hy, negative_high z hz, differs_false, w) (omega arith, leb_not_ltb (y + suc (2 ^ 64 - suc z)) (2 ^ 63))
-
-  above_zero : 2 ^ 63 ≤ y → z < 2 ^ 63 → leb (2 ^ 63) v ≡ ltb (2 ^ 64 - suc y + z) (2 ^ 63)
-  above_zero hy hz = by_sign v
-      (λ h. rw (lt-leb (2 ^ 63) v h) (sym (le-ltb (2 ^ 64 - suc y + z) (2 ^ 63) (omega arith))))
-      (λ h. rw (le-leb (2 ^ 63) v h) (sym (lt-ltb (2 ^ 64 - suc y + z) (2 ^ 63) (omega arith))))
-
-  difference_high_low : 2 ^ 63 ≤ y → z < 2 ^ 63 → Exactly v (differ y z && differ y v) (signed_of y -ℤ signed_of z)
-  unfolding octa_of is_signed
-  difference_high_low hy hz =
-      rw (signed_high y hy, signed_low z hz, negative_high y hy, negative_low z hz, neg_minus_pos, differs_true) (omega arith, ap not (above_zero hy hz))
-
-  difference_high_high : 2 ^ 63 ≤ y → 2 ^ 63 ≤ z → Exactly v (differ y z && differ y v) (signed_of y -ℤ signed_of z)
-  difference_high_high hy hz =
-      rw (signed_high y hy, signed_high z hz, negative_high y hy, negative_high z hz) (
-        rw (octa_minus (suc (2 ^ 64 - suc z)) (suc (2 ^ 64 - suc y)) (omega arith)) (omega arith),
-        rw (signed_minus (suc (2 ^ 64 - suc z)) (suc (2 ^ 64 - suc y)) (omega arith) (omega arith)) refl,
-      )
-
-  pub difference_exact : Exactly v (differ y z && differ y v) (signed_of y -ℤ signed_of z)
-  difference_exact =
-      by_sign y (λ hy. by_sign z (difference_low_low hy) (difference_low_high hy)) (λ hy. by_sign z (difference_high_low hy) (difference_high_high hy))
-
--- ---- the order
-
-absurd_test : {X : Type 0} → false ≡ true → X
-absurd_test t = absurd (let n : ◌≡◌ {A = ℕ} 0 1 = cc in omega arith)
-
-complements : (y z : ℕ) → y < 2 ^ 64 → z < 2 ^ 64 → ltb y z ≡ ltb (2 ^ 64 - suc z) (2 ^ 64 - suc y)
-complements y z fy fz = by_order y z
-    (λ h. rw (lt-ltb y z h) (sym (lt-ltb (2 ^ 64 - suc z) (2 ^ 64 - suc y) (omega arith))))
-    (λ h. rw (le-ltb y z h) (sym (le-ltb (2 ^ 64 - suc z) (2 ^ 64 - suc y) (omega arith))))
-
-module _ (y z : ℕ) (fy : y < 2 ^ 64) (fz : z < 2 ^ 64) where
-  -- of different signs, the negative one is below
-  pub order_differ : differ y z ≡ true → is_negative y ≡ lt_z (signed_of y) (signed_of z)
-  order_differ = by_sign y
-      (λ hy. by_sign z
-      (λ hz. rw (negative_low y hy, negative_low z hz) (λ t. absurd_test t))
-      (λ hz. rw (negative_low y hy, negative_high z hz, signed_low y hy, signed_high z hz) (λ t. refl)))
-      (λ hy. by_sign z
-      (λ hz. rw (negative_high y hy, negative_low z hz, signed_high y hy, signed_low z hz) (λ t. refl))
-      (λ hz. rw (negative_high y hy, negative_high z hz) (λ t. absurd_test t)))
-
-  -- of one sign, the octabytes are in order
-  pub order_same : differ y z ≡ false → ltb y z ≡ lt_z (signed_of y) (signed_of z)
-  order_same = by_sign y
-      (λ hy. by_sign z
-      (λ hz. rw (signed_low y hy, signed_low z hz) (λ t. refl))
-      (λ hz. rw (negative_low y hy, negative_high z hz) (λ t. absurd_test (sym t))))
-      (λ hy. by_sign z
-      (λ hz. rw (negative_high y hy, negative_low z hz) (λ t. absurd_test (sym t)))
-      (λ hz. rw (signed_high y hy, signed_high z hz) (λ t. complements y z fy fz)))
-
--- −1, 0 or 1 by the tests
-
-pub compared_below : (a b : ℤ) → lt_z a b ≡ true → 0xFFFFFFFFFFFFFFFF ≡ octa_of (compared a b)
-unfolding octa_of compared
-compared_below a b t = rw t refl
-
-pub compared_above : (a b : ℤ) → lt_z a b ≡ false → lt_z b a ≡ true → 1 ≡ octa_of (compared a b)
-unfolding octa_of compared
-compared_above a b f t = rw (f, t) refl
-
-pub compared_equal : (a b : ℤ) → lt_z a b ≡ false → lt_z b a ≡ false → 0 ≡ octa_of (compared a b)
-unfolding octa_of compared
-compared_equal a b f t = rw (f, t) refl
+-- r is what is left of n, which the call got as m
+pub exactly : (a : Operands) {x f : ℕ} (t : Bool) (r m n : ℤ) → m ≡ n → r ≡ int_wrap w64 n → x ≡ cast_unsigned w64 (cast_signed w64 (cast_unsigned w64 r))
+    → f ≡ cond t flag_v 0 → FalseIff t (FitsSigned w64 m) → ◌≡◌ {A = Results} (record { x = x; rh = a.rh; rr = a.rr; flags = f }) (exact a n)
+exactly a t r m n em er ex ef et =
+    results_made a n
+    (ex ∙ ap (λ (i : ℤ). cast_unsigned w64 (cast_signed w64 (cast_unsigned w64 i))) er ∙ ap (cast_unsigned w64) (to_z-of_z w64 (int_wrap w64 n) (SFits-int_wrap w64 n)) ∙ octa_wrapped n)
+    (ef ∙ flag_of t n (overflows t n (subst (λ (i : ℤ). FalseIff t (FitsSigned w64 i)) em et)))

@@ -10,7 +10,7 @@ fn alone(a: Operands, x: u64) -> Results
     ensures { result ≡ plain a x }
 {
     Results {
-        x: x,
+        x,
         rh: a.rh,
         rr: a.rr,
         flags: 0,
@@ -18,11 +18,11 @@ fn alone(a: Operands, x: u64) -> Results
 }
 
 /// The operation done.
+#[tactic(auto, unfolding(model::specs::Arithmetic::results_of))]
 pub fn perform(o: Operation, a: Operands) -> Results
     ensures { result ≡ results_of o a }
 {
-    let y = a.y;
-    let z = a.z;
+    let Operands { y, z, .. } = a;
     match o {
         Operation::Mul => product::mul(a),
         Operation::Mulu => product::mulu(a),

@@ -12,6 +12,7 @@ pub struct Quotient {
 }
 
 /// DIVU: rD and $Y by $Z; rD and $Y themselves where the quotient has more than 64 bits.
+#[tactic(auto, unfolding(model::specs::Arithmetic::divided_wide))]
 pub fn divu(a: Operands) -> Results
     ensures { result ≡ divided_wide a }
 {
@@ -68,7 +69,7 @@ fn headroom(v: u64) -> u64
     requires { 0 < v }
     ensures { v * 2 ^ result / 2 ^ 63 ≡ 1 }
 {
-    u64::leading_zeros(v) as u64
+    u64::from(v.leading_zeros())
 }
 
 // One digit, and what it leaves, of a divisor with its top bit set.
@@ -81,7 +82,7 @@ fn digit(h: u64, l: u64, v: u64) -> Quotient
     let over = e.remainder % 0x100000000 * 0x100000000 + l;
     Quotient {
         quotient: q,
-        remainder: std::num::wrapping_sub_u64(over, q * (v % 0x100000000)),
+        remainder: over.wrapping_sub(q * (v % 0x100000000)),
     }
 }
 
@@ -95,10 +96,8 @@ fn estimate(h: u64, l: u64, v: u64) -> Quotient
     let mut q = h / v1;
     let mut r = h % v1;
     while r < 0x100000000 {
-        if q < 0x100000000 {
-            if q * v0 <= r * 0x100000000 + l {
-                break;
-            }
+        if q < 0x100000000 && q * v0 <= r * 0x100000000 + l {
+            break;
         }
         q -= 1;
         r += v1;

@@ -1,37 +1,38 @@
 // Signed sums, differences, quotients and the order of octabytes.
-ghost use Rattle.std.specs.Prelude.{◌≡◌, ◌+◌, ◌-◌, ◌/◌, ◌%◌, ◌<◌, not, ◌&&◌, pos, ◌+ℤ◌, ◌-ℤ◌, if◌then◌else◌, ◌==◌, int_lt};
+ghost use Rattle.std.specs.Prelude.{◌≡◌, ◌+◌, ◌-◌, ◌/◌, ◌%◌, ◌<◌, not, ◌&&◌, pos, ◌+ℤ◌, ◌-ℤ◌, if◌then◌else◌, ◌==◌};
 ghost use Rattle.model.specs.Whole.{signed_of, octa_of, compared};
 ghost use Rattle.model.specs.Arithmetic.{exact, divided};
 
 use super::number;
 use super::quotient::Quotient;
 use model::{Operands, Results};
+use std::cmp::Ordering;
 
 const D: u8 = 0x80;
 
-/// ADD: two numbers of one sign whose sum has the other overflow.
+/// ADD.
 pub fn add(a: Operands) -> Results
     ensures { result ≡ exact a (signed_of a.y +ℤ signed_of a.z) }
 {
-    let v = number::sum(a.y, a.z);
+    let (x, overflow) = a.y.cast_signed().overflowing_add(a.z.cast_signed());
     Results {
-        x: v,
+        x: x.cast_unsigned(),
         rh: a.rh,
         rr: a.rr,
-        flags: number::flag(!number::signs_differ(a.y, a.z) & number::signs_differ(a.y, v)),
+        flags: number::flag(overflow),
     }
 }
 
-/// SUB, NEG: two numbers of different signs whose difference has another sign than the first overflow.
+/// SUB, NEG.
 pub fn sub(a: Operands) -> Results
     ensures { result ≡ exact a (signed_of a.y -ℤ signed_of a.z) }
 {
-    let v = number::difference(a.y, a.z);
+    let (x, overflow) = a.y.cast_signed().overflowing_sub(a.z.cast_signed());
     Results {
-        x: v,
+        x: x.cast_unsigned(),
         rh: a.rh,
         rr: a.rr,
-        flags: number::flag(number::signs_differ(a.y, a.z) & number::signs_differ(a.y, v)),
+        flags: number::flag(overflow),
     }
 }
 
@@ -39,8 +40,7 @@ pub fn sub(a: Operands) -> Results
 pub fn div(a: Operands) -> Results
     ensures { result ≡ divided a }
 {
-    let y = a.y;
-    let z = a.z;
+    let Operands { y, z, .. } = a;
     if z == 0 {
         return Results {
             x: 0,
@@ -65,50 +65,39 @@ fn rounded(up: bool, n: u64, k: u64) -> Quotient
     ensures { (result.quotient ≡ (if up && not (n == 0) then (n - 1) / k + 1 else n / k))
         × (result.remainder ≡ (if up && not (n == 0) then k - 1 - (n - 1) % k else n % k)) }
 {
-    if up & (n != 0) {
-        return Quotient {
+    if up && n != 0 {
+        Quotient {
             quotient: (n - 1) / k + 1,
             remainder: k - 1 - (n - 1) % k,
-        };
+        }
+    } else {
+        Quotient {
+            quotient: n / k,
+            remainder: n % k,
+        }
     }
-    Quotient {
-        quotient: n / k,
-        remainder: n % k,
-    }
-}
-
-// Whether y is below z.
-fn is_less(y: u64, z: u64) -> bool
-    ensures { result ≡ int_lt (signed_of y) (signed_of z) }
-{
-    if number::signs_differ(y, z) {
-        return model::number::is_negative(y);
-    }
-    y < z
 }
 
 /// CMP: −1, 0 or 1 as y is below, equal to or above z.
+#[tactic(auto, unfolding(model::specs::Whole::compared, model::specs::Whole::octa_of), using(crate::proofs::Sums::cast_is))]
 pub fn cmp(y: u64, z: u64) -> u64
     ensures { result ≡ octa_of (compared (signed_of y) (signed_of z)) }
 {
-    if is_less(y, z) {
-        return u64::MAX;
+    match y.cast_signed().cmp(&z.cast_signed()) {
+        Ordering::Less => u64::MAX,
+        Ordering::Equal => 0,
+        Ordering::Greater => 1,
     }
-    if is_less(z, y) {
-        return 1;
-    }
-    0
 }
 
 /// CMPU.
+#[tactic(auto, unfolding(model::specs::Whole::compared, model::specs::Whole::octa_of))]
 pub fn cmpu(y: u64, z: u64) -> u64
     ensures { result ≡ octa_of (compared (pos y) (pos z)) }
 {
-    if y < z {
-        return u64::MAX;
+    match y.cmp(&z) {
+        Ordering::Less => u64::MAX,
+        Ordering::Equal => 0,
+        Ordering::Greater => 1,
     }
-    if z < y {
-        return 1;
-    }
-    0
 }

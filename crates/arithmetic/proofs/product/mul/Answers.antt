@@ -1,20 +1,16 @@
--- `mul` meets its contract: the product by signs and magnitudes.
-use Rattle.model.proofs.Prelude.{ℕ, ◌*◌, ◌+◌, ◌^◌, Bool, ap, ap₂, sym, ◌∙◌, ◌≡◌, nat_abs, ◌*ℤ◌, split, overflow_of, is_negative, octa_of, product_high}
-use Rattle.model.proofs.Prelude.{product_low, signed_of, wide_of, octa_low, product_parts, signed_parts, with_sign}
-use Rattle.arithmetic.proofs.Sums.{differ, results_made}
+-- `mul` meets its contract: what is left of the exact product, and whether it fits.
+use Rattle.model.proofs.Prelude.{ap₂, ◌∙◌, ◌*ℤ◌, arith, signed_of, w64}
+use Rattle.std.specs.Int.{int_wrapping_mul}
+use Rattle.std.proofs.lemmas.Int.{wrapping_mul_is}
+use Rattle.arithmetic.proofs.Sums.{exactly, passed_is, signed_fits}
 use Rattle.arithmetic.proofs.product.mul.Goals as goal
-
--- the sign s, the magnitudes m and n, the halves h and l of their product
-product_is : (y z m n h l : ℕ) (s : Bool) → s ≡ differ y z → m ≡ nat_abs (signed_of y) → n ≡ nat_abs (signed_of z) → h ≡ product_high m n → l ≡ product_low m n
-    → with_sign s (wide_of h l) ≡ signed_of y *ℤ signed_of z
-unfolding product_high product_low
-product_is y z m n h l s es em en eh el =
-    ap₂ with_sign es (ap₂ (λ (i j : ℕ). i * 2 ^ 64 + j) eh el ∙ split (m * n) 64 ∙ ap₂ ◌*◌ em en)
-    ∙ sym (ap₂ ◌*ℤ◌ (signed_parts y) (signed_parts z) ∙ product_parts (is_negative y) (is_negative z) (nat_abs (signed_of y)) (nat_abs (signed_of z)))
 
 pub returns : goal.returns
 returns c =
-    let e = product_is _ _ _ _ c.multiply-p.result.high c.multiply-p.result.low c.signs_differ-negative.result c.signs_differ-negative.ensures c.magnitude.ensures c.magnitude-2.ensures
-    c.multiply-p.ensures.0 c.multiply-p.ensures.1 in
-    results_made c.args.a _ (c.with_sign.ensures ∙ sym (octa_low c.signs_differ-negative.result c.multiply-p.result.high c.multiply-p.result.low) ∙ ap octa_of e)
-    (c.overflow_of.ensures ∙ ap overflow_of e)
+    let a = c.args.a in
+    let ey = passed_is a.y c.cast_signed.result (omega arith) c.cast_signed.ensures in
+    let ez = passed_is a.z c.cast_signed-2.result (omega arith) c.cast_signed-2.ensures in
+    let s = c.overflowing_mul-x in
+    exactly a s.result.1 s.result.0 _ _ (ap₂ ◌*ℤ◌ ey ez)
+    (s.ensures.value ∙ ap₂ (int_wrapping_mul w64) ey ez ∙ wrapping_mul_is w64 (signed_of a.y) (signed_of a.z) (signed_fits a.y) (signed_fits a.z))
+    c.cast_unsigned.ensures c.flag.ensures s.ensures.overflow

@@ -2,7 +2,7 @@ use Rattle.model.proofs.Prelude.{suc, zero, ℕ, ◌%◌, ◌*◌, ◌+◌, ◌-
 use Rattle.model.proofs.Prelude.{mod-lt, mul-le-mul_right, sub-one, arith, split}
 use Rattle.arithmetic.proofs.Digits.{digit_product, factor_pos}
 use Rattle.arithmetic.proofs.quotient.estimate.Goals as goal
-use Rattle.arithmetic.proofs.quotient.estimate.Goals.{then-q-lt4294967296+else-q-v0, else-q-lt4294967296}
+use Rattle.arithmetic.proofs.quotient.estimate.Goals.{else-q-lt4294967296-via-then-q-lt4294967296+else-q-v0, else-q-lt4294967296-via-else-q-lt4294967296}
 
 -- v1 * 2^32 + v0 is the divisor, h * 2^32 + l the dividend
 abbrev Holds : (h l v1 v0 q r : ℕ) → Type 0
@@ -56,9 +56,9 @@ pub overflow_sub-q : goal.overflow_sub-q
 overflow_sub-q c =
     let a = c.args in
     let t : Above a.h a.l (a.v / 2 ^ 32) (a.v % 2 ^ 32) c.loop-r.q =
-    elim c.if-q-lt4294967296.branch [
-      | then-q-lt4294967296+else-q-v0 w ↦ refuted a.h a.l (a.v / 2 ^ 32) (a.v % 2 ^ 32) c.loop-r.q c.loop-r.r c.loop-r.invariant.0 w.if-q-v0.false
-      | else-q-lt4294967296 w ↦ long a.h a.l (a.v / 2 ^ 32) (a.v % 2 ^ 32) c.loop-r.q (omega arith) c.requires.2 w.if-q-lt4294967296.false
+    elim c.else-q-lt4294967296.branch [
+      | else-q-lt4294967296-via-then-q-lt4294967296+else-q-v0 w ↦ refuted a.h a.l (a.v / 2 ^ 32) (a.v % 2 ^ 32) c.loop-r.q c.loop-r.r c.loop-r.invariant.0 w.if-q-v0.false
+      | else-q-lt4294967296-via-else-q-lt4294967296 w ↦ long a.h a.l (a.v / 2 ^ 32) (a.v % 2 ^ 32) c.loop-r.q (omega arith) c.requires.2 w.if-q-lt4294967296.false
     ] in
     above_pos _ _ _ _ _ t
 
@@ -66,9 +66,9 @@ pub loop-r-smaller : goal.loop-r-smaller
 loop-r-smaller c =
     let a = c.args in
     let t : Above a.h a.l (a.v / 2 ^ 32) (a.v % 2 ^ 32) c.loop-r.q =
-    elim c.if-q-lt4294967296.branch [
-      | then-q-lt4294967296+else-q-v0 w ↦ refuted a.h a.l (a.v / 2 ^ 32) (a.v % 2 ^ 32) c.loop-r.q c.loop-r.r c.loop-r.invariant.0 w.if-q-v0.false
-      | else-q-lt4294967296 w ↦ long a.h a.l (a.v / 2 ^ 32) (a.v % 2 ^ 32) c.loop-r.q (omega arith) c.requires.2 w.if-q-lt4294967296.false
+    elim c.else-q-lt4294967296.branch [
+      | else-q-lt4294967296-via-then-q-lt4294967296+else-q-v0 w ↦ refuted a.h a.l (a.v / 2 ^ 32) (a.v % 2 ^ 32) c.loop-r.q c.loop-r.r c.loop-r.invariant.0 w.if-q-v0.false
+      | else-q-lt4294967296-via-else-q-lt4294967296 w ↦ long a.h a.l (a.v / 2 ^ 32) (a.v % 2 ^ 32) c.loop-r.q (omega arith) c.requires.2 w.if-q-lt4294967296.false
     ] in
     omega (arith, above_pos _ _ _ _ _ t)
 
@@ -76,9 +76,9 @@ pub loop-r-preserved : goal.loop-r-preserved
 loop-r-preserved c =
     let a = c.args in
     let t : Above a.h a.l (a.v / 2 ^ 32) (a.v % 2 ^ 32) c.loop-r.q =
-    elim c.if-q-lt4294967296.branch [
-      | then-q-lt4294967296+else-q-v0 w ↦ refuted a.h a.l (a.v / 2 ^ 32) (a.v % 2 ^ 32) c.loop-r.q c.loop-r.r c.loop-r.invariant.0 w.if-q-v0.false
-      | else-q-lt4294967296 w ↦ long a.h a.l (a.v / 2 ^ 32) (a.v % 2 ^ 32) c.loop-r.q (omega arith) c.requires.2 w.if-q-lt4294967296.false
+    elim c.else-q-lt4294967296.branch [
+      | else-q-lt4294967296-via-then-q-lt4294967296+else-q-v0 w ↦ refuted a.h a.l (a.v / 2 ^ 32) (a.v % 2 ^ 32) c.loop-r.q c.loop-r.r c.loop-r.invariant.0 w.if-q-v0.false
+      | else-q-lt4294967296-via-else-q-lt4294967296 w ↦ long a.h a.l (a.v / 2 ^ 32) (a.v % 2 ^ 32) c.loop-r.q (omega arith) c.requires.2 w.if-q-lt4294967296.false
     ] in
     again _ _ _ _ _ _ c.loop-r.invariant.0 t
 

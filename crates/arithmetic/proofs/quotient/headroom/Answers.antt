@@ -1,5 +1,5 @@
 -- `headroom` meets its contract. v has m bits, which with the free ones make 64: so v is at least 2^(m − 1), and below 2^m.
-use Rattle.model.proofs.Prelude.{suc, zero, ℕ, ◌*◌, ◌+◌, ◌/◌, ◌<◌, ◌^◌, ◌≤◌, ap, subst, sym, ◌≡◌, mul-le-mul_right, add-one, arith, leading_le, leading_length}
+use Rattle.model.proofs.Prelude.{suc, zero, ℕ, ◌*◌, ◌+◌, ◌/◌, ◌<◌, ◌^◌, ◌≤◌, ap, subst, sym, ◌≡◌, mul-le-mul_right, add-one, arith, leading_length}
 use Rattle.model.proofs.Prelude.{count_leading_zeros, pow-add, shl_lt}
 use Rattle.arithmetic.proofs.quotient.headroom.Goals as goal
 
@@ -16,10 +16,7 @@ topmost v r (suc j) p e h l =
     let high : v * 2 ^ r < 2 ^ 64 = subst (λ (k : ℕ). v * 2 ^ r < 2 ^ k) o (shl_lt {a = v} (suc j) r h) in
     omega arith
 
-pub overflow_cast-result : goal.overflow_cast-result
-overflow_cast-result c = omega (arith, leading_le 64 c.args.v)
-
 pub returns : goal.returns
 returns c =
     let bits = leading_length 64 c.args.v c.ranges.v.fits in
-    topmost c.args.v (count_leading_zeros 64 c.args.v) bits.0 c.requires bits.1 bits.2 bits.3
+    rw c.from.ensures (topmost c.args.v (count_leading_zeros 64 c.args.v) bits.0 c.requires bits.1 bits.2 bits.3)

@@ -1,10 +1,16 @@
--- `sub` meets its contract, by the signs of both and of what comes out.
-use Rattle.model.proofs.Prelude.{Bool, ◌&&◌, ap₂, ◌∙◌, arith}
-use Rattle.arithmetic.proofs.Sums.{octa_difference, difference_exact, exactly}
+-- `sub` meets its contract: what is left of the exact difference, and whether it fits.
+use Rattle.model.proofs.Prelude.{ap₂, ◌∙◌, ◌-ℤ◌, arith, signed_of, w64}
+use Rattle.std.specs.Int.{int_wrapping_sub}
+use Rattle.std.proofs.lemmas.Int.{wrapping_sub_is}
+use Rattle.arithmetic.proofs.Sums.{exactly, passed_is, signed_fits}
 use Rattle.arithmetic.proofs.signed.sub.Goals as goal
 
 pub returns : goal.returns
 returns c =
     let a = c.args.a in
-    let e = difference_exact a.y a.z c.difference-v.result (omega arith) (omega arith) (c.difference-v.ensures ∙ octa_difference a.y a.z (omega arith)) in
-    exactly a _ _ e.0 c.flag.ensures (ap₂ (λ (t u : Bool). t && u) c.signs_differ.ensures c.signs_differ-2.ensures ∙ e.1)
+    let ey = passed_is a.y c.cast_signed.result (omega arith) c.cast_signed.ensures in
+    let ez = passed_is a.z c.cast_signed-2.result (omega arith) c.cast_signed-2.ensures in
+    let s = c.overflowing_sub-x in
+    exactly a s.result.1 s.result.0 _ _ (ap₂ ◌-ℤ◌ ey ez)
+    (s.ensures.value ∙ ap₂ (int_wrapping_sub w64) ey ez ∙ wrapping_sub_is w64 (signed_of a.y) (signed_of a.z) (signed_fits a.y) (signed_fits a.z))
+    c.cast_unsigned.ensures c.flag.ensures s.ensures.overflow
