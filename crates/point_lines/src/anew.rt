@@ -1,6 +1,5 @@
 // The line that is held, left in its place in the form that is written.
 ghost use Rattle.std.specs.Prelude.{◌≡◌, ◌+◌, ◌≤◌, length, take, drop};
-ghost use Rattle.model.specs.Octa.{written};
 ghost use Rattle.point_lines.specs.Line.{padded, widens, renewed_in};
 
 use super::line::{FIRST_AT, LENGTH_DIGITS, SECOND_AT, STATE_AT, STATE_DIGITS, Widths};
@@ -50,17 +49,7 @@ fn insert_zeros(held: &mut [u8], len: usize, at: usize, n: usize) -> usize
     if n == 0 {
         return len;
     }
-    move_up(held, len, at, n);
+    held.copy_within(at..len, at + n);
     held[at..at + n].fill(b'0');
     len + n
-}
-
-// The bytes from index `at` to `len` stand n further on, moved from the last one on.
-fn move_up(held: &mut [u8], len: usize, at: usize, n: usize)
-    requires { (at ≤ len) × (len + n ≤ length held.old) }
-    ensures { held.new ≡ written held.old (at + n) (drop at (take len held.old)) }
-{
-    for i in (at..len).rev() {
-        held[i + n] = held[i];
-    }
 }
