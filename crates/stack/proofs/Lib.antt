@@ -3,3 +3,4 @@ pub mod PushPopRegisters
 pub mod Judged
 pub mod PassedOctas
 pub mod PushPopAnswers
+pub mod MovedRegisters
