@@ -2,7 +2,6 @@
 pub mod RegisterRanges
 pub mod RunTest
 pub mod RunRefused
-pub mod SlidRanges
 pub mod Octas
 pub mod BothOctas
 pub mod PutRegisters

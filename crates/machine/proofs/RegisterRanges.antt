@@ -1,9 +1,9 @@
--- Laws of a range of registers, `over`, at lists of any length: two ranges alike, a loop's turn, also past the end, a range cut to
--- the list, and one after another. Those for loops that go down are in SlidRanges; the first ones in model, Fill.
-use borrow.Rule.Slice.PartMut.{mid_of, put_mid}
+-- Laws of a range of registers, `over`, at lists of any length: two ranges alike, a range cut to the list, and
+-- one after another. The first ones are in model, Fill.
+use borrow.Rule.Slice.PartMut.{put_mid}
 use Rattle.std.proofs.lemmas.List.{places}
-use Rattle.model.proofs.Prelude.{min, ℕ, ◌+◌, ◌-◌, ◌<◌, ◌≤◌, List, ⊎_elim, ap, sym, ◌∙◌, ◌≡◌, arith, get_or, get_or-replicate, length, length-replicate, replicate, set, ext_get_or, set_out, over, length_over, lt_or_le}
-use Rattle.model.proofs.Prelude.{over_above, over_below, over_in, over_more}
+use Rattle.model.proofs.Prelude.{min, ℕ, ◌+◌, ◌-◌, ◌<◌, ◌≤◌, List, ⊎_elim, ap, sym, ◌∙◌, ◌≡◌, arith, get_or, length, ext_get_or, over, length_over, lt_or_le}
+use Rattle.model.proofs.Prelude.{over_above, over_below, over_in}
 
 -- two ranges that hold the same elements of the list
 pub over_same : (f : ℕ → ℕ) (a b c : ℕ) (l : List ℕ) → ((k : ℕ) → k < length l → k < b → k < c) → ((k : ℕ) → k < length l → k < c → k < b)
@@ -17,14 +17,6 @@ over_same f a b c l up down =
     ∙ sym (⊎_elim (λ in_c. let z : k < b = down k m in_c in absurd (omega arith)) (λ past. over_above f a c l k past m) (lt_or_le k c)))
     (lt_or_le k b))
     (lt_or_le k a))
-
--- one element more, wherever it lies
-pub over_next : (f : ℕ → ℕ) (a i : ℕ) (l : List ℕ) (v : ℕ) → a ≤ i → v ≡ f i → set (over f a i l) i v ≡ over f a (i + 1) l
-over_next f a i l v h e =
-    ⊎_elim (λ n. over_more f a i l v h n e)
-    (λ past. set_out (over f a i l) i v (omega (arith, length_over f a i l))
-    ∙ over_same f a i (i + 1) l (λ k n m. omega arith) (λ k n m. omega arith))
-    (lt_or_le i (length l))
 
 -- a range cut to the list
 pub over_cut : (f : ℕ → ℕ) (a b n : ℕ) (l : List ℕ) → length l ≤ n → over f a (min b n) l ≡ over f a b l
