@@ -3,8 +3,7 @@
 ghost use Rattle.model.specs.Parts.{lent};
 ghost use Rattle.contexts.specs.SaveUnsave.{SaveGives, UnsaveGives};
 
-use model::{Bases, Reply, State};
-use stack::value::Answer;
+use model::{Answer, Bases, Reply, State};
 
 pub fn save_context(mut state: State, a: &mut [u8], b: &mut [u8], at: Bases, x: u8) -> Answer
     ensures { SaveGives (lent at a.old b.old) state x result.reply result.state (lent at a.new b.new) }

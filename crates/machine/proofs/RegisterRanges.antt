@@ -1,8 +1,8 @@
 -- Laws of a range of registers, `over`, at lists of any length: two ranges alike, a loop's turn, also past the end, a range cut to
 -- the list, and one after another. Those for loops that go down are in SlidRanges; the first ones in model, Fill.
-use borrow.Rule.Slice.PartMut.{mid_of, put_mid}
+use borrow.Rule.Slice.PartMut.{put_mid}
 use Rattle.std.proofs.lemmas.List.{places}
-use Rattle.model.proofs.Prelude.{min, ℕ, ◌+◌, ◌-◌, ◌<◌, ◌≤◌, List, ⊎_elim, ap, sym, ◌∙◌, ◌≡◌, arith, get_or, get_or-replicate, length, length-replicate, replicate, set, ext_get_or, set_out, over, length_over, lt_or_le}
+use Rattle.model.proofs.Prelude.{min, ℕ, ◌+◌, ◌-◌, ◌<◌, ◌≤◌, List, ⊎_elim, ap, sym, ◌∙◌, ◌≡◌, arith, get_or, length, set, ext_get_or, set_out, over, length_over, lt_or_le}
 use Rattle.model.proofs.Prelude.{over_above, over_below, over_in, over_more}
 
 -- two ranges that hold the same elements of the list
