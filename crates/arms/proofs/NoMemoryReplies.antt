@@ -1,6 +1,6 @@
 -- Laws of what an arm that touches no memory tells, over plain variables: a reply and the parts that code leaves, from what its callees ensure.
 -- 31, GET, PUT, SYNC. Trips and traps: Interrupts of crate exceptions.
-use Rattle.model.proofs.Prelude.{ℕ, ◌%◌, ◌+◌, ◌<◌, ◌^◌, ◌≤◌, cond, false, true, List, refl, sym, ◌∙◌, ◌≡◌, arith, eqb, le-leb, le-ltb, lt-leb, lt-ltb, ne_eqb}
+use Rattle.model.proofs.Prelude.{ℕ, ◌%◌, ◌+◌, ◌<◌, ◌^◌, ◌≤◌, cond, false, true, List, refl, ◌≡◌, arith, eqb, le-leb, le-ltb, lt-leb, lt-ltb, ne_eqb}
 use Rattle.model.proofs.Prelude.{Said, reply_of, made, halted, hides, with_parts, get_special, got, put_refusal, put_special, put_state, sync_of}
 use Rattle.model.proofs.Prelude.{unless_hidden, put_most, number_zero, refused_not_zero}
 use Rattle.arms.proofs.Prelude.{Reply, Done, Hidden, NoSpecial, SyncIllegal, SyncPrivileged, State, Told, halted_is, next_is}

@@ -12,6 +12,7 @@ use std::io::{Print, Read};
 use std::process::ExitCode;
 use text::report::failure;
 
+// Functions, here and below: a constant has no contract.
 fn input_buffer() -> [u8; INPUT_LEN]
     ensures { input_length ≡ length result }
 {
@@ -33,6 +34,7 @@ fn read_more<I: Read>(reader: &mut I, buf: &mut [u8], done: usize) -> io::Result
     Ok(done + n)
 }
 
+// No read_to_end: it takes a Vec.
 /// Reads until `buf` is full or the input ends; how many bytes that are.
 fn read_all<I: Read>(reader: &mut I, buf: &mut [u8]) -> io::Result<usize>
     ensures { ReadWithin result buf.new }

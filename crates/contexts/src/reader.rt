@@ -9,7 +9,6 @@ ghost use Rattle.machine.specs.Octas.{lent_one};
 ghost use Rattle.contexts.specs.SaveUnsave.{place_at, part_in, held_part, PlaceIs, PartIs};
 
 use super::layout::{CONTEXT_OCTAS, ContextError};
-use model::replies::number_of;
 use model::{Bases, Reply};
 
 /// The windows' numbers, as the C library hands them out.
@@ -17,6 +16,7 @@ const IN_A: u64 = 0;
 
 const IN_B: u64 = 1;
 
+// Numbers and no Result: what C is handed, 0 where refused.
 /// Where a context lies: the reply, the window's number, its first byte's index there and its length; all three 0 where it is refused.
 #[derive(Clone, Copy)]
 pub struct Place {
@@ -30,7 +30,7 @@ fn nowhere(reply: Reply) -> Place
     ensures { result ≡ place_at reply 0 0 0 }
 {
     Place {
-        reply: reply,
+        reply,
         which: 0,
         start: 0,
         size: 0,
@@ -47,7 +47,7 @@ fn part_in(window: &[u8], base: u64, which: u64, first: u64, octas: u64) -> Plac
     }
     Place {
         reply: Reply::Done,
-        which: which,
+        which,
         start: machine::window::distance(base, first) as usize,
         size: 8 * octas as usize,
     }
@@ -85,6 +85,7 @@ pub fn place_context(a: &[u8], b: &[u8], at: Bases, address: u64) -> Place
     }
 }
 
+// Outputs and no Result: the slice comes back whatever the reply, as the reader promises.
 /// That part of the window that held it, with the reply's number and the window's; refused, A's first 0 bytes.
 pub fn read_context<'w>(
     a: &'w [u8],
@@ -100,7 +101,7 @@ pub fn read_context<'w>(
     let start = found.start;
     let end = start + found.size;
     let answer = found.reply;
-    *reply = number_of(answer);
+    *reply = u64::from(answer);
     *which = found.which;
     if found.which == IN_B {
         return &b[start..end];

@@ -4,8 +4,7 @@ ghost use Rattle.model.specs.Lent.{windows_lent, windows_read, SameWindows};
 ghost use Rattle.contexts.specs.SaveUnsave.{SaveGives, UnsaveGives};
 
 use super::context;
-use model::{Reply, State, StateMut, WindowsMut, WindowsRef};
-use stack::value::Answer;
+use model::{Answer, Reply, State, StateMut, WindowsMut, WindowsRef};
 
 pub fn save_context(mut state: State, w: &mut WindowsMut<'_>, x: u8) -> Answer
     ensures same { SameWindows w.old w.new }

@@ -4,4 +4,3 @@ mod Fields
 mod Conditions
 mod Operands
 pub mod Groups
-mod Operations

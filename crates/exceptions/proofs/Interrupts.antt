@@ -1,10 +1,9 @@
 -- Laws of trips, traps and exceptions, over plain variables and in this order: what each tells, from what its callees ensure.
 -- The other arms that touch no memory: NoMemoryReplies of crate instruction.
-use Rattle.model.proofs.Prelude.{ℕ, ◌%◌, ◌*◌, ◌+◌, ◌-◌, ◌/◌, ◌<◌, ◌^◌, ◌≤◌, Bool, false, true, ◌&&◌, List, ap, refl, ◌∙◌, ◌≡◌, arith, and_le_l, bit_and, bit_or}
-use Rattle.model.proofs.Prelude.{leading_le, leading_top, count_leading_zeros, trailing_le, count_trailing_zeros, eqb, get_or, set, eqb-true, ne_eqb, w64, reply_of, made}
-use Rattle.model.proofs.Prelude.{admissible, r_a, reg, with_parts, with_special, exception_of, is_named, added, enables, interrupted, is_loaded, leftmost, raised}
+use Rattle.model.proofs.Prelude.{ℕ, ◌%◌, ◌*◌, ◌+◌, ◌-◌, ◌/◌, ◌<◌, ◌^◌, ◌≤◌, Bool, false, true, ◌&&◌, List, ap, refl, ◌∙◌, ◌≡◌, arith, bit_and, bit_or}
+use Rattle.model.proofs.Prelude.{leading_le, leading_top, count_leading_zeros, trailing_le, count_trailing_zeros, eqb, get_or, set, eqb-true, ne_eqb, reply_of, made}
+use Rattle.model.proofs.Prelude.{admissible, r_a, reg, with_special, exception_of, is_named, added, enables, interrupted, is_loaded, leftmost, raised}
 use Rattle.model.proofs.Prelude.{trap_of, trapped, tripped, trip_rule, trip_to, with_added, word_of, at_each, each}
-use mir.Val.{Fits}
 use Rattle.model.specs.declared.State.{State}
 use Rattle.model.specs.declared.Reply.{Reply}
 use Rattle.model.specs.declared.Reply.TheVariants.{Done, NotAdmissible, NamedTrap, NotLoaded, Trapped}
@@ -46,10 +45,6 @@ module _ (s : State) (op x y z : ℕ) where
   trap_done t h e = rw h (record { reply_is = refl; state_is = halted_is t _ e })
 
 -- ---- exceptions
-
--- flags, as code masks them
-pub added_fits : (f e : ℕ) → f < 256 → Fits w64 (bit_and f e)
-added_fits f e h = let b : bit_and f e ≤ f = and_le_l f e in record { fits = omega arith }
 
 -- what is added, of a byte of flags
 pub added_is : (g l : List ℕ) (pc halt marks mask f t : ℕ) → f < 256 → t ≡ leftmost (bit_and f (get_or l r_a 0 / 256 % 256))

@@ -13,7 +13,7 @@ use super::{AT_MASK, AT_REST, AT_SPECIAL, Rest};
 // Where $255 is.
 const AT_LAST: usize = 2040;
 
-// The elements of an image are bytes, a fact that reading one of them tells. It does nothing.
+// The elements of an image are bytes, a fact that reading one of them tells. It does nothing: without it the proofs find no bound of a byte.
 fn known(image: &[u8])
     requires { is_image image.now ≡ true }
     ensures { (i : ℕ) → get_or image.now i 0 < 256 }
@@ -74,6 +74,7 @@ fn load_few(image: &[u8], x: u8, y: u8, z: u8, general: &mut [u64; 256])
     general[255] = register(image, 255);
 }
 
+// A flag beside x, y and z: the two ways differ by one call, the checks are one.
 /// Of the general registers of an image $x, $y, $z and $255 go to the array where few are asked for, else all; where it is as long as neither image, the
 /// array is left as it was.
 pub fn load_touched(image: &[u8], few: bool, x: u8, y: u8, z: u8, general: &mut [u64; 256])

@@ -1,7 +1,7 @@
 -- 1, 2 and 22 as a step answers them, by their number: nothing is changed; and a step's outcome by the number of its reply. 3: `ranged_step` of LoadStoreArms.
 -- 4 and 5 are judged by their arms: SystemArms.
-use Rattle.model.proofs.Prelude.{ℕ, ◌≤◌, true, List, ⊎_elim, ap, refl, sym, ◌∙◌, ◌≡◌, arith, shapes_of, Windows, say, number_of, reply_of, among, arm_of}
-use Rattle.model.proofs.Prelude.{first_branch, last_branch, made, admissible, from_three, step_of, step_plan, unruled_by, plan_replies, Any, perform_meets}
+use Rattle.model.proofs.Prelude.{ℕ, ◌≤◌, true, ⊎_elim, ap, refl, ◌∙◌, ◌≡◌, arith, shapes_of, Windows, say, number_of, among, arm_of}
+use Rattle.model.proofs.Prelude.{first_branch, last_branch, admissible, from_three, step_of, step_plan, unruled_by, plan_replies, Any, perform_meets}
 use Rattle.model.proofs.Prelude.{step_meets}
 use Rattle.instruction.proofs.Prelude.{State, branch_arm, guarded_on, refusal_on, refused_guarded, branch_of, quiet_step}
 use Rattle.model.specs.declared.Reply.{Reply}

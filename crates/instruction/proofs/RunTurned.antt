@@ -1,10 +1,9 @@
 -- A fetched instruction and a run as code has them, over plain variables: 24, then what the tetra says; the turns of the loop; 1, 2, 22 and 25.
-use Rattle.model.proofs.Prelude.{ℕ, ◌+◌, ◌<◌, ◌≤◌, Bool, cond, false, true, List, ap, refl, sym, ◌∙◌, ◌≡◌, arith, length, operand_in, both, holder, shape_of}
-use Rattle.model.proofs.Prelude.{Shapes, shapes_of, Windows, tetra, Passes, lent, look, admissible, Sized, grant_most, run_for, run_of, Stopped, fetched, fetched_of}
+use Rattle.model.proofs.Prelude.{ℕ, ◌+◌, ◌<◌, ◌≤◌, Bool, cond, false, true, ap, refl, sym, ◌∙◌, ◌≡◌, arith, operand_in, both, holder}
+use Rattle.model.proofs.Prelude.{shapes_of, Windows, tetra, Passes, look, admissible, Sized, grant_most, run_for, run_of, Stopped, fetched, fetched_of}
 use Rattle.model.proofs.Prelude.{mmix, tetra_at, unruled_by, unruled_none, fetched_missing, fetched_there, fetched_ready, fetched_shapes, Ready, run_open}
 use Rattle.model.proofs.Prelude.{run_unruled, runs_in_order}
 use Rattle.instruction.proofs.Prelude.{State, refusal_on, judged_by, held_inside, held_none}
-use Rattle.model.specs.declared.Bases.{Bases}
 use Rattle.model.proofs.RunTurns.{Turned, turned_none, turned_done, turned_refused, turned_spent}
 use Rattle.instruction.specs.StepAnswer.{Numbered, RunNumbered}
 use Rattle.instruction.specs.FetchedArms.{said_by}

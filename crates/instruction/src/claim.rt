@@ -26,14 +26,8 @@ pub fn is_claimed(special: &[u64; 32], i: &Instruction) -> bool
     ensures { (general : List ℕ) (pc halt marks mask : ℕ) → result
         ≡ (is_marginal (made general special.now pc halt marks mask) i.now.x && claims i.now.op) }
 {
-    let reg = i.x as u64;
-    if reg < special[State::RL] {
-        return false;
-    }
-    if special[State::RG] <= reg {
-        return false;
-    }
-    opcode::claims(i.op)
+    let reg = u64::from(i.x);
+    special[State::RL] <= reg && reg < special[State::RG] && opcode::claims(i.op)
 }
 
 /// Whether the registers from `from` up to $x are all zero.

@@ -74,6 +74,7 @@ pub(crate) fn dispatch(s: &mut StateMut<'_>, w: &mut WindowsMut<'_>, i: &Instruc
     if opcode::is_among(i.op, opcode::FIRST_BRANCH, opcode::LAST_BRANCH) {
         return control::branch(s, i);
     }
+    // An arm a key here too.
     let target = match i.op {
         opcode::PUSHGO => control::sum(s.general, i),
         opcode::PUSHGOI => control::sum(s.general, i),

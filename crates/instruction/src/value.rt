@@ -6,17 +6,10 @@ ghost use Rattle.model.specs.Lent.{windows_lent, SameWindows};
 ghost use Rattle.exceptions.specs.Told.{Told};
 ghost use Rattle.instruction.specs.StepAnswer.{Numbered};
 
-use model::{Instruction, Reply, State, StateMut, WindowsMut};
-
-/// A reply and the state that it leaves.
-#[derive(Clone, Copy)]
-pub struct Outcome {
-    pub reply: Reply,
-    pub state: State,
-}
+use model::{Answer, Instruction, State, StateMut, WindowsMut};
 
 /// One exception on a state by value.
-pub fn raise_exceptions(mut state: State, flags: u8, i: &Instruction, y: u64, z: u64) -> Outcome
+pub fn raise_exceptions(mut state: State, flags: u8, i: &Instruction, y: u64, z: u64) -> Answer
     ensures { Told (exception_of state flags i.now.op i.now.x i.now.y i.now.z y z) result.reply result.state }
 {
     let mut s = StateMut {
@@ -28,11 +21,11 @@ pub fn raise_exceptions(mut state: State, flags: u8, i: &Instruction, y: u64, z:
         mask: state.mask,
     };
     let reply = exceptions::raise_exceptions(&mut s, flags, i, y, z);
-    Outcome { reply, state }
+    Answer { reply, state }
 }
 
 /// One step on a state by value and the two windows.
-pub fn step(mut state: State, w: &mut WindowsMut<'_>, i: &Instruction) -> Outcome
+pub fn step(mut state: State, w: &mut WindowsMut<'_>, i: &Instruction) -> Answer
     ensures same { SameWindows w.old w.new }
     ensures numbered { Numbered (step_of (windows_lent w.old) state i.now.op i.now.x i.now.y i.now.z)
         (number_of result.reply) result.state (windows_lent w.new) }
@@ -46,5 +39,5 @@ pub fn step(mut state: State, w: &mut WindowsMut<'_>, i: &Instruction) -> Outcom
         mask: state.mask,
     };
     let reply = super::step::step(&mut s, w, i);
-    Outcome { reply, state }
+    Answer { reply, state }
 }

@@ -107,6 +107,7 @@ pub(crate) fn next_piece(a: &[u8], b: &[u8], at: Bases, addr: u64) -> Piece
 fn pieces_refusal(a: &[u8], b: &[u8], at: Bases, addr: u64, n: u64) -> Reply
     ensures { number_of result ≡ worst (refusing (shapes_of (lent at a.now b.now))) addr n }
 {
+    // A while: a step is as long as the piece.
     let mut i: u64 = 0;
     let mut place = addr;
     while i < n {

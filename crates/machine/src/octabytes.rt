@@ -42,7 +42,7 @@ pub(crate) fn load_each(bytes: &[u8], at: usize, values: &mut [u64])
     }
 }
 
-// The octabytes from `at` up become `values`, one by one.
+// The octabytes from `at` up become `values`, one by one, as in load_each.
 pub(crate) fn store_each(bytes: &mut [u8], at: usize, values: &[u64])
     requires { at + 8 * length values.now ≤ length bytes.old }
     ensures { bytes.new ≡ written bytes.old at (flat values.now) }
@@ -79,7 +79,7 @@ fn load_all(bytes: &[u8], at: usize, values: &mut [u64])
     }
 }
 
-// The octabytes from `at` up become the first `values`, by fours; how many they are is the answer.
+// The octabytes from `at` up become the first `values`, by fours, as in load_fours; how many they are is the answer.
 fn store_fours(bytes: &mut [u8], at: usize, values: &[u64]) -> usize
     requires { at + 8 * length values.now ≤ length bytes.old }
     ensures { (result ≤ length values.now)

@@ -58,6 +58,7 @@ fn load_pieces(
 {
     let end = to.min(256);
     let mut i = from;
+    // A while: a step is as long as the piece.
     while i < end {
         let place = model::number::wrapping_add(addr, 8 * (i - from));
         i = load_piece(general, a, b, at, place, i, end);
@@ -125,6 +126,7 @@ fn store_pieces(
 {
     let end = to.min(256);
     let mut i = from;
+    // A while: a step is as long as the piece.
     while i < end {
         let place = model::number::wrapping_add(addr, 8 * (i - from));
         i = store_piece(general, a, b, at, place, i, end);

@@ -22,7 +22,7 @@ pub const STATUS_MAX: u64 = 0x3FFFF;
 /// Marks of nine vectors are below this.
 const MARKS_END: u64 = 512;
 
-// The special registers that PUT tells apart, as it numbers them.
+// The special registers that PUT tells apart, as it numbers them: as u64, since a match wants consts of its type.
 const RC: u64 = State::RC as u64;
 
 const RN: u64 = State::RN as u64;
@@ -218,7 +218,7 @@ pub fn put_special(general: &mut [u64; 256], special: &mut [u64; 32], x: u8, val
 {
     let rl = special[State::RL];
     let judged = put_refusal(rl, x as u64, value);
-    if let Reply::Done = judged {
+    if judged == Reply::Done {
         put_state(general, special, x as u64, value);
     }
     judged

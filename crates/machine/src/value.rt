@@ -5,14 +5,7 @@ ghost use Rattle.model.specs.Registers.{admissible, claim_local, set_register, p
 ghost use Rattle.machine.specs.Put.{PutGives};
 
 use super::registers;
-use model::{Reply, State};
-
-/// What PUT answers, and the state that it leaves.
-#[derive(Clone, Copy)]
-pub struct Put {
-    pub reply: Reply,
-    pub state: State,
-}
+use model::{Answer, State};
 
 pub fn admissible(state: State) -> bool
     ensures { result ≡ admissible state }
@@ -48,9 +41,9 @@ pub fn put_rg(mut state: State, value: u64) -> State
     state
 }
 
-pub fn put_special(mut state: State, x: u8, value: u64) -> Put
+pub fn put_special(mut state: State, x: u8, value: u64) -> Answer
     ensures { PutGives state x value result.reply result.state }
 {
     let reply = registers::put_special(&mut state.general, &mut state.special, x, value);
-    Put { reply, state }
+    Answer { reply, state }
 }

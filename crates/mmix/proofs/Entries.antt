@@ -11,12 +11,6 @@ use Rattle.mmix.specs.Entries.{Stepped, SteppedState, RanImage, RanState, Raised
 
 -- ---- on the parts of a state
 
-pub stepped_state : (w : Windows) (s : State) (op x y z r : ℕ) (t : State) (v : Windows) → Numbered (step_of w s op x y z) r t v → SteppedState w s op x y z r t v
-stepped_state w s op x y z r t v g = record { reply_is = g.reply_is; state_is = g.state_is; window_is = g.window_is }
-
-pub ran_state : (w : Windows) (s : State) (grant r n : ℕ) (t : State) (v : Windows) → RunNumbered (run_of w s grant) r n t v → RanState w s grant r n t v
-ran_state w s grant r n t v g = record { reply_is = g.reply_is; count_is = g.count_is; state_is = g.state_is; window_is = g.window_is }
-
 -- an exception's reply, of any state, is 19 at most
 exception_most : (s : State) (f op x y z u v : ℕ) → (exception_of s f op x y z u v).reply ≤ 19
 exception_most s f op x y z u v =

@@ -13,7 +13,6 @@ ghost use Rattle.sets.specs.Answer.{number_in, place_in};
 ghost use Rattle.tasks.specs.Images.{TasksRan};
 ghost use Rattle.mmix.specs.Entries.{lent_at, version, Initialized, InitializedAt, Stepped, SteppedState, RanImage, RanState, Raised, RaisedState, SetImage, ContextAt, FieldTold};
 
-use model::replies::number_of;
 use model::{Bases, Instruction, Reach, Reply, State, StateMut, WindowsMut, replies};
 use sets::Failed;
 
@@ -38,14 +37,14 @@ pub fn mmix_version() -> u64
 pub fn mmix_initialize(image: &mut [u8]) -> u64
     ensures { Initialized image.old result image.new }
 {
-    number_of(image::encode(&State::initialize(), image))
+    u64::from(image::encode(&State::initialize(), image))
 }
 
 /// The same with the register stack at another address, any number: rO and rS are `stack_start`.
 pub fn mmix_initialize_at(image: &mut [u8], stack_start: u64) -> u64
     ensures { InitializedAt stack_start image.old result image.new }
 {
-    number_of(image::encode(&State::initialize_at(stack_start), image))
+    u64::from(image::encode(&State::initialize_at(stack_start), image))
 }
 
 /// The lent state becomes that of the image; 1 where it is as long as neither image, and then the state is left as it was.
@@ -63,7 +62,7 @@ pub fn mmix_decode(image: &[u8], state: &mut State) -> u64
 pub fn mmix_encode(state: &State, image: &mut [u8]) -> u64
     ensures { Encoded state.now image.old result image.new }
 {
-    number_of(image::encode(state, image))
+    u64::from(image::encode(state, image))
 }
 
 /// One step on an image and the two windows. Where it touches few general registers, these alone are decoded and encoded.
@@ -116,7 +115,7 @@ pub struct Answer {
     pub state: State,
 }
 
-/// One step on a state by value.
+/// One step on a state by value, in C's order: the step that mmix_step_lent calls.
 pub fn step(
     base_a: u64,
     base_b: u64,
@@ -231,7 +230,7 @@ pub fn mmix_tasks(
     };
     let mut windows = WindowsMut { a, b, at };
     let reply = tasks::run(&mut windows, q, grant, images, parts, counts, refusals);
-    number_of(reply)
+    u64::from(reply)
 }
 
 /// One exception on an image: of the general registers $255 alone is decoded and encoded.
@@ -284,7 +283,7 @@ fn told(set: Result<(), Failed>, place: &mut u64) -> u64
         }
         Err(failed) => {
             *place = failed.place;
-            number_of(failed.reply)
+            u64::from(failed.reply)
         }
     }
 }
@@ -351,7 +350,7 @@ pub fn mmix_step_parts(
     };
     let mut windows = WindowsMut { a, b, at };
     let stepped = instruction::step::step(&mut state, &mut windows, &Instruction { op, x, y, z });
-    number_of(stepped)
+    u64::from(stepped)
 }
 
 /// A run in place on the parts of a state, for a host that runs programs: state and windows are judged once a call.
@@ -389,7 +388,7 @@ pub fn mmix_run_parts(
     let mut windows = WindowsMut { a, b, at };
     let ran = instruction::run::run(&mut state, &mut windows, grant);
     *done = ran.done;
-    number_of(ran.reply)
+    u64::from(ran.reply)
 }
 
 /// One exception in place on the parts of a state.
@@ -422,7 +421,7 @@ pub fn mmix_exceptions_parts(
     };
     let instruction = Instruction { op, x, y, z };
     let raised = exceptions::raise_exceptions(&mut state, flags, &instruction, y_val, z_val);
-    number_of(raised)
+    u64::from(raised)
 }
 
 /// PUT for a whole set in place on the parts of a state: `pairs` are numbers of registers, each with its value behind it. PC stays as it is.
@@ -476,7 +475,7 @@ pub fn mmix_context(
     *start = place.start;
     *length = place.size;
     let found = place.reply;
-    number_of(found)
+    u64::from(found)
 }
 
 /// State and windows are kept in the store under a name, 0 to 15.
@@ -497,7 +496,7 @@ pub fn mmix_take(
         b: base_b,
     };
     let taken = points::take(at, name, image, a, b, store);
-    number_of(taken)
+    u64::from(taken)
 }
 
 /// State and windows become those that the store keeps under a name.
@@ -518,7 +517,7 @@ pub fn mmix_go_back(
         b: base_b,
     };
     let gone = points::go_back(at, name, image, a, b, store);
-    number_of(gone)
+    u64::from(gone)
 }
 
 /// A search's number, and its direction and field into the outputs: backward 0 or 1; both 0 where it is refused.
@@ -529,17 +528,17 @@ fn tell_reach(reach: Reach, backward: &mut u8, field: &mut u32) -> u64
         Reach::Forward(found) => {
             *backward = 0;
             *field = found;
-            number_of(Reply::Done)
+            u64::from(Reply::Done)
         }
         Reach::Backward(found) => {
             *backward = 1;
             *field = found;
-            number_of(Reply::Done)
+            u64::from(Reply::Done)
         }
         Reach::Neither => {
             *backward = 0;
             *field = 0;
-            number_of(Reply::OutOfReach)
+            u64::from(Reply::OutOfReach)
         }
     }
 }

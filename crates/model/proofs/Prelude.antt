@@ -120,7 +120,7 @@ unfoldable pub use Rattle.model.proofs.Lists.{touches_of}
 pub use Rattle.model.proofs.LoadStore.{merged_small, operand_least, operand_small, values_positive}
 pub use Rattle.model.proofs.Memory.{both_lawful, has_octa, holder_octa, inside_octa, Lawful, one_lawful}
 pub use Rattle.model.proofs.Missed.{Missed, missed}
-pub use Rattle.model.proofs.Numbers.{done_zero, is_done, is_refused, number_zero, refused_not_zero, holder_a, holder_b, holder_none, no_holder, not_done, numbered, refusals, reply_by, some_holder, tag_is, told_done, told_refused, unhalting, zero_done}
+pub use Rattle.model.proofs.Numbers.{done_zero, is_done, is_refused, number_zero, refused_not_zero, holder_a, holder_b, holder_none, no_holder, numbered, reply_by, some_holder, told_done, told_refused, unhalting, zero_done}
 pub use Rattle.model.proofs.Octa.{length_written, part_cong, part_written, value_bytes, written_above, written_below, written_nil}
 pub use Rattle.model.proofs.Plan.{All_both, All_left, All_map, All_of, All_right, All_zip, Always, Always_map, Always_mapped, Always_of, Kept, needs_map}
 pub use Rattle.model.proofs.Plan.{perform_always, perform_map, perform_shape, puts_more, puts_shape, Same, Sound, touches, touches_judged, touches_off}

@@ -1,5 +1,6 @@
 -- 01, 'Replies': "For each answer that is an enum, a definition gives this paper's number and values for every case of that enum."
-use Rattle.std.specs.Prelude.{◌≡◌, ℕ, ◌≤◌, ◌⊎◌, List, [], ◌∷◌, Option, None, Some, slice_index_or}
+use Rattle.std.specs.Prelude.{◌≡◌, ℕ, ◌≤◌, ◌⊎◌, List, [], ◌∷◌, Result, MatchResult, Option, None, Some, slice_index_or, length}
+use Rattle.model.specs.declared.replies.NoReply.{NoReply}
 use Rattle.model.specs.declared.Window.{Window}
 use Rattle.model.specs.declared.Window.TheVariants.{A, B}
 use Rattle.model.specs.declared.Reply.{Reply}
@@ -68,6 +69,13 @@ in_order = Done ∷ NotAdmissible ∷ WindowRule ∷ NoArm ∷ NamedTrap ∷ NoS
 
 unfoldable pub reply_of : ℕ → Reply
 reply_of n = slice_index_or in_order n Done
+
+-- what the conversions of the code give: the number of a reply, and the reply of a number, or of one behind them all none
+abbrev pub NumberIs : Reply → ℕ → Type 0
+NumberIs r n = n ≡ number_of r
+
+abbrev pub ReplyIs : ℕ → Result Reply NoReply → Type 0
+ReplyIs n r = MatchResult r (λ reply. number_of reply ≡ n) (λ e. (e.0 ≡ n) × (length in_order ≤ n))
 
 -- the two are inverse on 0 to 33
 pub record RepliesNumbered : Type 0 where

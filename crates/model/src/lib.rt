@@ -89,6 +89,7 @@ impl From<u32> for Instruction {
     }
 }
 
+// No Result: a call promises one number, 0 among them, and C gets it as it is.
 /// The reply of a call: done, or one of the refusals in the order of their numbers.
 #[derive(Clone, Copy, PartialEq, Eq)]
 pub enum Reply {
@@ -144,6 +145,13 @@ pub enum Reply {
     TasksRule,
 }
 
+/// A reply and the state that a call leaves.
+#[derive(Clone, Copy)]
+pub struct Answer {
+    pub reply: Reply,
+    pub state: State,
+}
+
 /// One of the two lent windows; B is the stack's.
 #[derive(Clone, Copy, PartialEq, Eq)]
 pub enum Window {
@@ -171,7 +179,7 @@ pub const OLD_IMAGE_LEN: usize = 2328;
 pub enum Reach {
     Forward(u32),
     Backward(u32),
-    // No field of either direction does.
+    // No field of either direction does. No Option: a promise gives a number and values to each case, this one's too.
     Neither,
 }
 
@@ -311,7 +319,7 @@ impl State {
         special[State::RV] = 0x369C200400000000;
         State {
             general: [0; 256],
-            special: special,
+            special,
             pc: 0,
             halt: 0,
             marks: 0,

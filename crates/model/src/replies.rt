@@ -1,6 +1,5 @@
-// The numbers of the replies, by name: the one place in code where they stand. Crates that answer a number take it from here.
-ghost use Rattle.std.specs.Prelude.{◌≡◌};
-ghost use Rattle.model.specs.Numbers.{number_of, reply_of};
+// The numbers of the replies, by name: the one place in code where they stand. Consts beside the enum: a match on a number wants them.
+ghost use Rattle.model.specs.Numbers.{NumberIs, ReplyIs};
 
 use super::Reply;
 
@@ -72,88 +71,99 @@ pub const FOREIGN: u64 = 32;
 
 pub const TASKS_RULE: u64 = 33;
 
-/// The number of a reply.
-#[tactic(auto, unfolding(crate::specs::Numbers::number_of))]
-pub fn number_of(reply: Reply) -> u64
-    ensures { result ≡ number_of reply }
-{
-    match reply {
-        Reply::Done => DONE,
-        Reply::NotAdmissible => NOT_ADMISSIBLE,
-        Reply::WindowRule => WINDOW_RULE,
-        Reply::NoArm => NO_ARM,
-        Reply::NamedTrap => NAMED_TRAP,
-        Reply::NoSpecial => NO_SPECIAL,
-        Reply::Missing => MISSING,
-        Reply::PutUnknown => PUT_UNKNOWN,
-        Reply::PutPrivileged => PUT_PRIVILEGED,
-        Reply::PutIllegal => PUT_ILLEGAL,
-        Reply::PutThreshold => PUT_THRESHOLD,
-        Reply::PutStatus => PUT_STATUS,
-        Reply::Misplaced => MISPLACED,
-        Reply::SaveLocal => SAVE_LOCAL,
-        Reply::SavedThreshold => SAVED_THRESHOLD,
-        Reply::SavedStatus => SAVED_STATUS,
-        Reply::SavedCount => SAVED_COUNT,
-        Reply::SyncPrivileged => SYNC_PRIVILEGED,
-        Reply::SyncIllegal => SYNC_ILLEGAL,
-        Reply::NotLoaded => NOT_LOADED,
-        Reply::Trapped => TRAPPED,
-        Reply::OutOfReach => OUT_OF_REACH,
-        Reply::Shared => SHARED,
-        Reply::Across => ACROSS,
-        Reply::NotFetched => NOT_FETCHED,
-        Reply::GrantTooLarge => GRANT_TOO_LARGE,
-        Reply::StoreTooShort => STORE_TOO_SHORT,
-        Reply::NoPoint => NO_POINT,
-        Reply::OtherPoint => OTHER_POINT,
-        Reply::NoFrame => NO_FRAME,
-        Reply::TooManyPairs => TOO_MANY_PAIRS,
-        Reply::Hidden => HIDDEN,
-        Reply::Foreign => FOREIGN,
-        Reply::TasksRule => TASKS_RULE,
+impl From<Reply> for u64 {
+    ghost from_gives = { NumberIs };
+
+    /// The number of a reply.
+    #[tactic(auto, unfolding(crate::specs::Numbers::number_of))]
+    fn from(reply: Reply) -> u64 {
+        match reply {
+            Reply::Done => DONE,
+            Reply::NotAdmissible => NOT_ADMISSIBLE,
+            Reply::WindowRule => WINDOW_RULE,
+            Reply::NoArm => NO_ARM,
+            Reply::NamedTrap => NAMED_TRAP,
+            Reply::NoSpecial => NO_SPECIAL,
+            Reply::Missing => MISSING,
+            Reply::PutUnknown => PUT_UNKNOWN,
+            Reply::PutPrivileged => PUT_PRIVILEGED,
+            Reply::PutIllegal => PUT_ILLEGAL,
+            Reply::PutThreshold => PUT_THRESHOLD,
+            Reply::PutStatus => PUT_STATUS,
+            Reply::Misplaced => MISPLACED,
+            Reply::SaveLocal => SAVE_LOCAL,
+            Reply::SavedThreshold => SAVED_THRESHOLD,
+            Reply::SavedStatus => SAVED_STATUS,
+            Reply::SavedCount => SAVED_COUNT,
+            Reply::SyncPrivileged => SYNC_PRIVILEGED,
+            Reply::SyncIllegal => SYNC_ILLEGAL,
+            Reply::NotLoaded => NOT_LOADED,
+            Reply::Trapped => TRAPPED,
+            Reply::OutOfReach => OUT_OF_REACH,
+            Reply::Shared => SHARED,
+            Reply::Across => ACROSS,
+            Reply::NotFetched => NOT_FETCHED,
+            Reply::GrantTooLarge => GRANT_TOO_LARGE,
+            Reply::StoreTooShort => STORE_TOO_SHORT,
+            Reply::NoPoint => NO_POINT,
+            Reply::OtherPoint => OTHER_POINT,
+            Reply::NoFrame => NO_FRAME,
+            Reply::TooManyPairs => TOO_MANY_PAIRS,
+            Reply::Hidden => HIDDEN,
+            Reply::Foreign => FOREIGN,
+            Reply::TasksRule => TASKS_RULE,
+        }
     }
 }
 
-/// The reply of a number; of one above 33, which is no reply's, `Done`.
-#[tactic(auto, unfolding(crate::specs::Numbers::reply_of))]
-pub fn reply_of(number: u64) -> Reply
-    ensures { result ≡ reply_of number }
-{
-    match number {
-        NOT_ADMISSIBLE => Reply::NotAdmissible,
-        WINDOW_RULE => Reply::WindowRule,
-        NO_ARM => Reply::NoArm,
-        NAMED_TRAP => Reply::NamedTrap,
-        NO_SPECIAL => Reply::NoSpecial,
-        MISSING => Reply::Missing,
-        PUT_UNKNOWN => Reply::PutUnknown,
-        PUT_PRIVILEGED => Reply::PutPrivileged,
-        PUT_ILLEGAL => Reply::PutIllegal,
-        PUT_THRESHOLD => Reply::PutThreshold,
-        PUT_STATUS => Reply::PutStatus,
-        MISPLACED => Reply::Misplaced,
-        SAVE_LOCAL => Reply::SaveLocal,
-        SAVED_THRESHOLD => Reply::SavedThreshold,
-        SAVED_STATUS => Reply::SavedStatus,
-        SAVED_COUNT => Reply::SavedCount,
-        SYNC_PRIVILEGED => Reply::SyncPrivileged,
-        SYNC_ILLEGAL => Reply::SyncIllegal,
-        NOT_LOADED => Reply::NotLoaded,
-        TRAPPED => Reply::Trapped,
-        OUT_OF_REACH => Reply::OutOfReach,
-        SHARED => Reply::Shared,
-        ACROSS => Reply::Across,
-        NOT_FETCHED => Reply::NotFetched,
-        GRANT_TOO_LARGE => Reply::GrantTooLarge,
-        STORE_TOO_SHORT => Reply::StoreTooShort,
-        NO_POINT => Reply::NoPoint,
-        OTHER_POINT => Reply::OtherPoint,
-        NO_FRAME => Reply::NoFrame,
-        TOO_MANY_PAIRS => Reply::TooManyPairs,
-        HIDDEN => Reply::Hidden,
-        FOREIGN => Reply::Foreign,
-        TASKS_RULE => Reply::TasksRule,
-        _ => Reply::Done,
+/// A number that is no reply's.
+#[derive(Clone, Copy, PartialEq, Eq, Debug)]
+pub struct NoReply(pub u64);
+
+impl TryFrom<u64> for Reply {
+    type Error = NoReply;
+
+    ghost try_from_gives = { ReplyIs };
+
+    /// The reply of a number, 0 to 33.
+    #[tactic(auto, unfolding(crate::specs::Numbers::number_of))]
+    fn try_from(number: u64) -> Result<Reply, NoReply> {
+        match number {
+            DONE => Ok(Reply::Done),
+            NOT_ADMISSIBLE => Ok(Reply::NotAdmissible),
+            WINDOW_RULE => Ok(Reply::WindowRule),
+            NO_ARM => Ok(Reply::NoArm),
+            NAMED_TRAP => Ok(Reply::NamedTrap),
+            NO_SPECIAL => Ok(Reply::NoSpecial),
+            MISSING => Ok(Reply::Missing),
+            PUT_UNKNOWN => Ok(Reply::PutUnknown),
+            PUT_PRIVILEGED => Ok(Reply::PutPrivileged),
+            PUT_ILLEGAL => Ok(Reply::PutIllegal),
+            PUT_THRESHOLD => Ok(Reply::PutThreshold),
+            PUT_STATUS => Ok(Reply::PutStatus),
+            MISPLACED => Ok(Reply::Misplaced),
+            SAVE_LOCAL => Ok(Reply::SaveLocal),
+            SAVED_THRESHOLD => Ok(Reply::SavedThreshold),
+            SAVED_STATUS => Ok(Reply::SavedStatus),
+            SAVED_COUNT => Ok(Reply::SavedCount),
+            SYNC_PRIVILEGED => Ok(Reply::SyncPrivileged),
+            SYNC_ILLEGAL => Ok(Reply::SyncIllegal),
+            NOT_LOADED => Ok(Reply::NotLoaded),
+            TRAPPED => Ok(Reply::Trapped),
+            OUT_OF_REACH => Ok(Reply::OutOfReach),
+            SHARED => Ok(Reply::Shared),
+            ACROSS => Ok(Reply::Across),
+            NOT_FETCHED => Ok(Reply::NotFetched),
+            GRANT_TOO_LARGE => Ok(Reply::GrantTooLarge),
+            STORE_TOO_SHORT => Ok(Reply::StoreTooShort),
+            NO_POINT => Ok(Reply::NoPoint),
+            OTHER_POINT => Ok(Reply::OtherPoint),
+            NO_FRAME => Ok(Reply::NoFrame),
+            TOO_MANY_PAIRS => Ok(Reply::TooManyPairs),
+            HIDDEN => Ok(Reply::Hidden),
+            FOREIGN => Ok(Reply::Foreign),
+            TASKS_RULE => Ok(Reply::TasksRule),
+            _ => Err(NoReply(number)),
+        }
     }
 }

@@ -44,6 +44,7 @@ pub struct Widths {
 pub fn widths_of(line: &[u8]) -> Option<Widths>
     ensures { SomeIff result (is_point line.now ≡ true) (widths_of line.now) }
 {
+    // Four tests: of a loop over a table the proof would say "none before" case by case.
     let written = Widths {
         lengths: LENGTH_DIGITS,
         state: STATE_DIGITS,

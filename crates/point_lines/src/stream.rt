@@ -31,6 +31,7 @@ pub enum Turn {
     Bad,
 }
 
+// What is held and how long: the line grows in one buffer.
 /// The chunk up to its first newline joins the line that is held, of which `held` has `count` bytes. A line that `held` has no room
 /// for, its newline too, is no point's, however it goes on.
 pub fn advance(chunk: &[u8], held: &mut [u8], count: usize) -> Turn

@@ -41,6 +41,7 @@ enum Failure {
     TooLong,
 }
 
+// Functions, here and below: a constant has no contract.
 fn input_buffer() -> [u8; INPUT_LEN]
     ensures { input_length ≡ length result }
 {

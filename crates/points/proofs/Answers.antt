@@ -1,8 +1,8 @@
 -- What take and go_back answer, from what their tests tell.
-use Rattle.model.proofs.Prelude.{ℕ, ◌%◌, ◌*◌, ◌<◌, ◌^◌, ◌≤◌, Bool, false, true, ◌&&◌, List, ◌++◌, ⊎_elim, ap, sym, ◌∙◌, ◌≡◌, arith, eqb, ltb, drop}
+use Rattle.model.proofs.Prelude.{ℕ, ◌%◌, ◌*◌, ◌<◌, ◌^◌, ◌≤◌, Bool, false, true, ◌&&◌, List, ◌++◌, ap, sym, ◌∙◌, ◌≡◌, arith, eqb, ltb, drop}
 use Rattle.model.proofs.Prelude.{length, take, eq-eqb, eqb-true, le-ltb, leb-true, lt-ltb, ne_eqb, at_length, full, image_length, octas_in, Point, point_count}
 use Rattle.model.proofs.Prelude.{PointFits, point_in, ruled, ruled_one, Shape, shape_of, Shapes, shapes_of, window_max, part, written, admissible, unruled_by, Ruled}
-use Rattle.model.proofs.Prelude.{ruled_a, ruled_b, and_left, and_right, unruled_is, unruled_none, length_part, part_lent, part_within, written_lent}
+use Rattle.model.proofs.Prelude.{ruled_a, ruled_b, and_left, and_right, unruled_none, length_part, part_lent, part_within, written_lent}
 use Rattle.image.specs.Image.{is_image, has_room, state_of}
 use Rattle.image.proofs.Coded.{is_new'}
 use Rattle.points.specs.Store.{a_at, b_at, room_length, store_length, filled, number_at, is_taken, point_of, room_of, store_with_point, shapes_in, from_two, take_reply, mask_in, suits, room_reply, back_reply, Took, GoneBack}
@@ -30,10 +30,6 @@ lent_fits p m e z =
       whole_a = omega (arith, a.size_octas);
       whole_b = omega (arith, b.size_octas);
     }
-
--- neither 0 nor 2
-pub shared_left : (w : Shapes) (m : ℕ) → m ≡ unruled_by w → (m ≡ 2 → ⊥) → (m ≡ 0 → ⊥) → m ≡ 22
-shared_left w m e two none = ⊎_elim (λ a. absurd (none (e ∙ a))) (⊎_elim (λ a. absurd (two (e ∙ a))) (λ a. e ∙ a)) (unruled_is w)
 
 -- ---- the order of judging
 

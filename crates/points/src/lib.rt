@@ -6,7 +6,6 @@ ghost use Rattle.model.specs.Kept.{point_in};
 ghost use Rattle.model.specs.Numbers.{number_of};
 ghost use Rattle.points.specs.Store.{Took, GoneBack};
 
-use model::replies::number_of;
 use model::{Bases, Reply};
 use room::ROOM_LEN;
 
@@ -24,12 +23,9 @@ pub fn take(at: Bases, name: u64, image: &[u8], a: &[u8], b: &[u8], store: &mut 
     if !image::is_admissible(image) {
         return Reply::NotAdmissible;
     }
-    let number = number_of(machine::memory::windows_refusal(a, b, at));
-    if number == 2 {
-        return Reply::WindowRule;
-    }
-    if number != 0 {
-        return Reply::Shared;
+    let refusal = machine::memory::windows_refusal(a, b, at);
+    if refusal != Reply::Done {
+        return refusal;
     }
     if store.len() < STORE_LEN {
         return Reply::StoreTooShort;
@@ -59,12 +55,9 @@ pub fn go_back(
     if !image::is_image(&*image) {
         return Reply::NotAdmissible;
     }
-    let number = number_of(machine::memory::windows_refusal(&*a, &*b, at));
-    if number == 2 {
-        return Reply::WindowRule;
-    }
-    if number != 0 {
-        return Reply::Shared;
+    let refusal = machine::memory::windows_refusal(&*a, &*b, at);
+    if refusal != Reply::Done {
+        return refusal;
     }
     if store.len() < STORE_LEN {
         return Reply::StoreTooShort;

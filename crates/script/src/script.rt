@@ -1,5 +1,6 @@
 // A whole script: its lines carried out one after another, and what they print.
 ghost use Rattle.std.specs.Prelude.{◌≡◌, ℕ, ◌+◌, ◌≤◌, ◌<◌, ◌^◌, Some, length};
+ghost use Rattle.model.specs.Numbers.{number_of};
 ghost use Rattle.model.specs.Octa.{written};
 ghost use Rattle.model.specs.Registers.{with_special};
 ghost use Rattle.model.specs.Lent.{windows_lent, SameWindows};
@@ -10,8 +11,7 @@ ghost use Rattle.script.specs.Writing.{TurnWritten};
 ghost use Rattle.script.specs.declared.line.Form.TheVariants.{Step as Form-as-Step};
 
 use super::line::{Form, Setting};
-use model::replies::number_of;
-use model::{Bases, Instruction, State, WindowsMut};
+use model::{Bases, Instruction, Reply, State, WindowsMut};
 use std::ops::ControlFlow;
 
 /// The longest script.
@@ -46,10 +46,11 @@ fn set_special(state: &mut State, setting: Setting)
 }
 
 /// The line of a step: its reply's number and the state that it left.
-fn put_step(out: &mut [u8], at: usize, i: Instruction, number: u64, state: &State) -> usize
+fn put_step(out: &mut [u8], at: usize, i: Instruction, reply: Reply, state: &State) -> usize
     requires { at < 2 ^ 63 }
-    ensures { Wrote out.old at (step_text i number state.now) out.new result }
+    ensures { Wrote out.old at (step_text i (number_of reply) state.now) out.new result }
 {
+    // No array map: its goal stays open.
     let op = u64::from(i.op);
     let x = u64::from(i.x);
     let y = u64::from(i.y);
@@ -57,7 +58,7 @@ fn put_step(out: &mut [u8], at: usize, i: Instruction, number: u64, state: &Stat
     let rg = state.special[State::RG];
     let rl = state.special[State::RL];
     let ro = state.special[State::RO];
-    if number == 0 {
+    if reply == Reply::Done {
         let done = b"(# # # # (done) (pc #) (rG #) (rL #) (rO #))\n";
         return text::write::write(out, at, done, &[op, x, y, z, state.pc, rg, rl, ro]);
     }
@@ -66,7 +67,7 @@ fn put_step(out: &mut [u8], at: usize, i: Instruction, number: u64, state: &Stat
         out,
         at,
         refused,
-        &[op, x, y, z, number, state.pc, rg, rl, ro],
+        &[op, x, y, z, u64::from(reply), state.pc, rg, rl, ro],
     )
 }
 
@@ -85,9 +86,8 @@ fn step(
 {
     let stepped = instruction::value::step(*state, windows, &i);
     *state = stepped.state;
-    let number = number_of(stepped.reply);
-    let end = put_step(out, at, i, number, state);
-    if number == 0 {
+    let end = put_step(out, at, i, stepped.reply, state);
+    if stepped.reply == Reply::Done {
         ControlFlow::Continue(end)
     } else {
         ControlFlow::Break(end)
@@ -108,6 +108,7 @@ fn turn(
     ensures written { TurnWritten (form_turn n state.old (windows_lent windows.old) form)
         out.old at out.new result state.new (windows_lent windows.new) }
 {
+    // None first: of a nested pattern the proof is told no field.
     let Some(form) = form else {
         return ControlFlow::Break(text::write::put_bad(out, at, n));
     };
@@ -134,6 +135,7 @@ fn carry(script: &[u8], out: &mut [u8], windows: &mut WindowsMut<'_>, first: Sta
     let mut end = 0;
     let mut at = 0;
     let mut n = 1;
+    // No split_inclusive: no law goes from its pieces to the definition's.
     while at < script.len() {
         let newline = text::read::line_end(script, at);
         if newline == script.len() {

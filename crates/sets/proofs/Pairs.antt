@@ -1,10 +1,9 @@
 -- The pairs of a list of octabytes, one after another from the front; what judging and putting come to, pair by pair.
 use Rattle.model.proofs.Prelude.{suc, ◌≢◌, ℕ, ◌*◌, ◌+◌, ◌/◌, ◌<◌, ◌≤◌, List, [], ◌∷◌, ap, refl, sym, ◌∙◌, ◌≡◌, arith, eqb, drop, get_or, length, length-drop}
-use Rattle.model.proofs.Prelude.{drop-cons, ne_eqb, tag_of, Among, reply_of, fresh, r_l, sp, with_special, put_refusal, put_state, put_most, on, not_done, refusals}
-use Rattle.model.proofs.Prelude.{tag_is}
+use Rattle.model.proofs.Prelude.{drop-cons, ne_eqb, reply_of, fresh, r_l, sp, with_special, put_refusal, put_state, put_most, on, number_zero, refused_not_zero}
 use Rattle.model.specs.declared.State.{State}
 use Rattle.model.specs.declared.Reply.{Reply}
-use Rattle.model.specs.contracts.Reply.{the_type}
+use Rattle.model.specs.declared.Reply.TheVariants.{Done}
 use Rattle.std.specs.Prelude.{Err}
 use Rattle.sets.specs.declared.Failed.{Failed}
 use Rattle.sets.specs.Answer.{Judged}
@@ -56,18 +55,15 @@ module _ (l : ℕ) (p : Pair) (r : Reply) (e : r ≡ reply_of (refusal_at l p)) 
   unfolding refusal_at
   at_most = let h = put_most (with_special fresh r_l l) p.register p.value in omega arith
 
-  tag : tag_of the_type r ≡ refusal_at l p
-  tag = tag_is (refusal_at l p) r at_most e
-
-  pub fails : Among refusals (tag_of the_type r) → refusal_at l p ≢ 0
-  fails z = λ q. not_done _ z (tag ∙ q)
+  pub fails : (r ≡ Done → ⊥) → refusal_at l p ≢ 0
+  fails = refused_not_zero (refusal_at l p) r e
 
   module _ (i : ℕ) (ps : List Pair) where
-    pub judge_on : tag_of the_type r ≡ 0 → (m : ℕ) → m ≡ locals_after l p → judge_pairs l i (p ∷ ps) ≡ judge_pairs m (i + 1) ps
+    pub judge_on : r ≡ Done → (m : ℕ) → m ≡ locals_after l p → judge_pairs l i (p ∷ ps) ≡ judge_pairs m (i + 1) ps
     unfolding judge_pairs
-    judge_on z m q = let k : suc i ≡ i + 1 = omega arith in rw (sym tag ∙ z, k, q)
+    judge_on z m q = let k : suc i ≡ i + 1 = omega arith in rw (number_zero (refusal_at l p) r at_most e z, k, q)
 
-    pub judge_stops : Among refusals (tag_of the_type r) → judge_pairs l i (p ∷ ps) ≡ judges (refusal_at l p) i
+    pub judge_stops : (r ≡ Done → ⊥) → judge_pairs l i (p ∷ ps) ≡ judges (refusal_at l p) i
     unfolding judge_pairs
     judge_stops z = rw (ne_eqb (refusal_at l p) 0 (fails z))
 

@@ -23,6 +23,7 @@ const READ_MAX: usize = 2 * (PAIRS_MAX + 1);
 
 const RL: u64 = State::RL as u64;
 
+// No Option: C gets 0 where no pair fails.
 /// Why a set is refused, and the place of the first pair that fails; 0 where no pair does.
 #[derive(Clone, Copy)]
 pub struct Failed {
@@ -49,14 +50,13 @@ fn judge(rl: u64, pairs: &[u64]) -> Result<(), Failed>
         let x = pairs[2 * i];
         let value = pairs[2 * i + 1];
         let reply = machine::registers::put_refusal(local, x, value);
-        if let Reply::Done = reply {
-            local = locals_after(local, x, value);
-        } else {
+        if reply != Reply::Done {
             return Err(Failed {
                 reply,
                 place: i as u64,
             });
         }
+        local = locals_after(local, x, value);
     }
     Ok(())
 }

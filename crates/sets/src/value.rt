@@ -1,4 +1,4 @@
-// A set on a state by value.
+// A set on a state by value: 01 asks for it.
 ghost use Rattle.std.specs.Prelude.{◌≢◌, IfErr};
 ghost use Rattle.model.specs.Numbers.{number_of};
 ghost use Rattle.sets.specs.Sets.{pairs_of, PutSet};

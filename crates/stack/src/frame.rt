@@ -17,6 +17,7 @@ ghost use Rattle.stack.specs.PushPop.{pop_number, pop_answer, Held, Placed, bott
 
 use model::{Reply, State, StateMut, WindowsRef};
 
+// No Result: POP's cases, each with its number, are promised by name (docs/DECISIONS.md, "Every `pub fn` is total").
 /// What POP found at rO.
 #[derive(Clone, Copy)]
 pub enum PopFrame {

@@ -1,4 +1,5 @@
 // What the layer above needs of the machine, under contracts of the stack's own: the octabytes of the two windows, registers.
+// They pass on machine's: the instruction layer rests on the stack's contracts alone.
 ghost use Rattle.std.specs.Prelude.{◌≡◌, List, ℕ, length};
 ghost use Rattle.model.specs.Memory.{shapes_of, holder};
 ghost use Rattle.model.specs.Plan.{worst};

@@ -5,14 +5,7 @@ ghost use Rattle.stack.specs.PushPop.{PushGives, pop_of, PopGives};
 
 use super::frame::PopFrame;
 use super::{frame, pass, push};
-use model::{Reply, State, StateMut, WindowsMut, WindowsRef};
-
-/// A reply and the state that it leaves.
-#[derive(Clone, Copy)]
-pub struct Answer {
-    pub reply: Reply,
-    pub state: State,
-}
+use model::{Answer, Reply, State, StateMut, WindowsMut, WindowsRef};
 
 /// What POP found and the state that it leaves.
 #[derive(Clone, Copy)]

@@ -65,6 +65,7 @@ fn push_asks(special: &[u64; 32], whole: Whole, x: u8) -> bool
     has_foreign(whole, ro, hole + 1)
 }
 
+// One test after another, as POP judges: where it is refused, nothing is asked for.
 /// POP's octabyte below rO, and then the locals.
 fn pop_asks(special: &[u64; 32], windows: WindowsRef<'_>, whole: Whole) -> bool
     requires { OwnOnly whole (windows_read windows) }

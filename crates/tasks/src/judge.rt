@@ -46,6 +46,7 @@ fn is_clear(parts: &[u64], k: usize) -> bool
     ensures { result ≡ part_clear parts.now k }
 {
     let own = part_at(parts, k);
+    // A loop, as in are_clear.
     for j in 0..k {
         let other = part_at(parts, j);
         if overlap(other, own) {
@@ -74,6 +75,7 @@ fn are_ruled(parts: &[u64], n: usize, b_len: u64) -> bool
     requires { 2 * n ≤ length parts.now }
     ensures { result ≡ each_below n (λ k. part_ruled b_len (part_at parts.now k)) }
 {
+    // A loop, as in are_clear.
     for k in 0..n {
         let own = part_at(parts, k);
         if !own.is_ruled(b_len) {
@@ -98,7 +100,7 @@ fn is_ruled(parts: &[u64], b_len: u64, q: u64) -> bool
         && are_clear(parts, n)
 }
 
-/// How long each of n images is.
+/// How long each of n images is. Of neither length it is the old one's: the caller compares.
 pub(crate) fn each_len(len: usize, n: usize) -> usize
     requires { n ≤ 8 }
     ensures { (l : List ℕ) → length l ≡ len → result ≡ each_length n l }
@@ -118,6 +120,7 @@ fn are_admissible(images: &[u8], n: usize) -> bool
     if images.len() != n * each {
         return false;
     }
+    // A loop, as in are_clear.
     for k in 0..n {
         let start = k * each;
         let end = start + each;
@@ -128,7 +131,7 @@ fn are_admissible(images: &[u8], n: usize) -> bool
     true
 }
 
-/// The number that refuses the call whole, or 0: 2, 22, 25, 33, then 1.
+/// What refuses the call whole, or Done: 2, 22, 25, 33, then 1.
 pub(crate) fn call_refusal(
     images: &[u8],
     parts: &[u64],

@@ -16,13 +16,14 @@ mod schedule;
 /// The most tasks.
 pub const TASKS_MAX: usize = 8;
 
-// The elements of a window are bytes, a fact that reading it tells. It does nothing.
+// The elements of a window are bytes, a fact that reading it tells. It does nothing: without it the proofs find no bound of a byte.
 fn known(window: &[u8])
     ensures { (i : ℕ) → get_or window.now i 0 < 256 }
 {
     let _first = window.first();
 }
 
+// Pairs and arrays of eight, as C lends them.
 /// A call of several tasks: 2, 22, 25, 33 and then 1 refuse it whole; else each task has its turns until the grant is spent or all have stopped.
 /// `parts` has start and length of each task's part of B, `images` their states. Counts and refusals are written at every reply.
 pub fn run(

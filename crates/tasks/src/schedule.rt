@@ -15,7 +15,6 @@ ghost use Rattle.tasks.specs.Desks.{image_turn, tasks_turn, Turned, At, Shown, R
 
 use super::judge;
 use instruction::run::Ran;
-use model::replies::number_of;
 use model::{StateMut, WindowsMut};
 use task_run::Part;
 
@@ -79,7 +78,7 @@ fn turn(
     let grant = q.min(left);
     let images = &mut *tasks.images;
     let ran = image_turn(&mut images[start..end], windows, own, grant);
-    tasks.refusals[k] = number_of(ran.reply);
+    tasks.refusals[k] = u64::from(ran.reply);
     tasks.counts[k] += ran.done;
     left - ran.done
 }

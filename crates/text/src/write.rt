@@ -1,4 +1,5 @@
 // Text put into a buffer as far as it goes: a pattern with its marks replaced by numbers.
+// A place beside the buffer: text is cut at the buffer's end, and its whole length is told.
 ghost use Rattle.std.specs.Prelude.{◌≡◌, [], ◌∷◌, ◌+◌, ◌*◌, ◌≤◌, ◌<◌, ◌^◌, length};
 ghost use Rattle.text.specs.Text.{glyph, numeral, filled, bad_line};
 ghost use Rattle.text.specs.Writing.{Wrote, put_at};
@@ -27,6 +28,7 @@ fn put(out: &mut [u8], at: usize, byte: u8) -> usize
     at + 1
 }
 
+// No from_digit: it answers an Option of a char.
 #[tactic(auto, unfolding(crate::specs::Text::glyph))]
 fn glyph(digit: u64) -> u8
     requires { digit < 16 }
@@ -38,6 +40,7 @@ fn glyph(digit: u64) -> u8
     }
 }
 
+// A recursion: its measure is the digits left, and it needs no buffer to turn them round.
 /// A number in a base, by at most `more` + 1 digits.
 fn numeral(out: &mut [u8], at: usize, base: u64, more: usize, n: u64) -> usize
     requires { (1 < base) × (base ≤ 16) × (at + more + 1 < 2 ^ 64) }

@@ -6,5 +6,5 @@ use Rattle.mmix.proofs.mmix_exceptions_parts.Goals as goal
 pub returns : goal.returns
 returns c =
     let k = c.raise_exceptions-raised.ensures.same in
-    let done = raised_state _ _ _ _ _ _ _ _ _ _ (rw (k.4, k.5) at c.raise_exceptions-raised.ensures.told) _ c.number_of.ensures in
+    let done = raised_state _ _ _ _ _ _ _ _ _ _ (rw (k.4, k.5) at c.raise_exceptions-raised.ensures.told) _ c.from.ensures in
     record { reply_is = done.reply_is; state_is = search (rules, done.state_is) }

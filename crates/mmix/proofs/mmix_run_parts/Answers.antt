@@ -7,7 +7,7 @@ returns c =
     let k = c.run-ran.ensures.same in
     let done = rw (k.0.4, k.0.5, k.1.2) at c.run-ran.ensures.numbered in
     record {
-      reply_is = search (rules, c.number_of.ensures, done.reply_is);
+      reply_is = search (rules, c.from.ensures, done.reply_is);
       count_is = search (rules, done.count_is);
       state_is = search (rules, done.state_is);
       window_is = search (rules, done.window_is);

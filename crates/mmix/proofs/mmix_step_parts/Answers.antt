@@ -6,4 +6,4 @@ pub returns : goal.returns
 returns c =
     let k = c.step-stepped.ensures.same in
     let done = rw (k.0.4, k.0.5, k.1.2) at c.step-stepped.ensures.numbered in
-    record { reply_is = search (rules, c.number_of.ensures, done.reply_is); state_is = search (rules, done.state_is); window_is = search (rules, done.window_is) }
+    record { reply_is = search (rules, c.from.ensures, done.reply_is); state_is = search (rules, done.state_is); window_is = search (rules, done.window_is) }

@@ -20,7 +20,7 @@ returns-then-found-eq-IN_B c =
     let a = c.args in
     let found = c.place_context-found.ensures in
     record {
-      reply_is = c.number_of.ensures ∙ found.number_is;
+      reply_is = c.from.ensures ∙ found.number_is;
       which_is = found.which_is;
       bytes_are = bytes_b (lent a.at a.a.now a.b.now) _ _ _ _ found.which_is found.start_is found.size_is c.if-found-eq-IN_B.true;
       lies_at = rw (eq-eqb _ _ c.if-found-eq-IN_B.true) (lies _ _ _ _ found.start_is);
@@ -34,7 +34,7 @@ returns c =
     let a = c.args in
     let found = c.place_context-found.ensures in
     record {
-      reply_is = c.number_of.ensures ∙ found.number_is;
+      reply_is = c.from.ensures ∙ found.number_is;
       which_is = found.which_is;
       bytes_are = bytes_a (lent a.at a.a.now a.b.now) _ _ _ _ found.which_is found.start_is found.size_is c.if-found-eq-IN_B.false;
       lies_at = rw (ne_eqb _ _ c.if-found-eq-IN_B.false) (lies _ _ _ _ found.start_is);

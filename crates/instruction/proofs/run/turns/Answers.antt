@@ -1,5 +1,5 @@
 use Rattle.model.proofs.Prelude.{arith, told_done, told_refused, number_of, ◌≡◌}
-use Rattle.instruction.proofs.RunTurned.{first_turn, next_turn, run_refused, run_spent}
+use Rattle.instruction.proofs.RunTurned.{next_turn, run_refused, run_spent}
 use Rattle.instruction.proofs.run.turns.Goals as goal
 
 pub returns-then-ne-clause-numbered : goal.returns-then-ne-clause-numbered

@@ -1,5 +1,5 @@
 -- `turns` meets its contract. The loop's invariant: so many turns are done, and the rest of the grant is to be run from here.
-use Rattle.model.proofs.Prelude.{◌≡◌, length, state_lent, windows_lent}
+use Rattle.model.proofs.Prelude.{state_lent, windows_lent}
 use Rattle.model.specs.Lent.{SameState, SameWindows}
 use Rattle.instruction.proofs.RunTurned.{running, InTurn}
 use Rattle.instruction.proofs.run.turns.Given as goal

@@ -1,7 +1,7 @@
 -- `by_key` meets its contract: the key that matched names the arm, and what the arm ensures is the step; no key, then a range's arm or none.
 use Rattle.model.proofs.Prelude.{ℕ, false, List, [], ◌∷◌, refl, ◌≡◌, ne_eqb, among, arm_of, control, direction_of, first_branch, get_address, go, jump}
 use Rattle.model.proofs.Prelude.{last_branch, last_of, none, op_get, op_geta, op_getab, op_go, op_goi, op_jmp, op_jmpb, op_pop, op_pushgo, op_pushgoi, op_pushj, op_pushjb}
-use Rattle.model.proofs.Prelude.{op_put, op_puti, op_save, op_swym, op_sync, op_trap, op_trip, op_unsave, pop, save, stack, swym, sync, system, trip, unsave, state_lent}
+use Rattle.model.proofs.Prelude.{op_put, op_puti, op_save, op_swym, op_sync, op_trap, op_trip, op_unsave, pop, save, stack, swym, sync, system, trip, unsave}
 use Rattle.model.proofs.Prelude.{Missed, missed}
 use Rattle.instruction.proofs.Prelude.{admissible_placed, NoCall, only_step, quiet_step, touching_step}
 use Rattle.contexts.specs.SaveUnsave.{save_in, unsave_in}

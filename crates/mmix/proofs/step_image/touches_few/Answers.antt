@@ -1,5 +1,5 @@
 -- `touches_few` meets its contract: a claim is asked for last.
-use Rattle.model.proofs.Prelude.{sym, ◌∙◌, made, not}
+use Rattle.model.proofs.Prelude.{sym, ◌∙◌, made}
 use Rattle.mmix.proofs.FewStepped.{few_by}
 use Rattle.mmix.proofs.step_image.touches_few.Goals as goal
 

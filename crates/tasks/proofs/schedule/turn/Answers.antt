@@ -45,5 +45,5 @@ returns-clause-played c =
     let e = c.each_len-each.result in
     let long : length c.image_turn-ran.new.image ≡ k * e + e - k * e
     = omega (arith, c.images-1.given, c.image_turn-arg-1.given.2) in
-    rw c.number_of.ensures (turn_given _ _ _ _ _ _ _ c.requires.1 _ c.requires.0 c.if-left-eq0.false c.if-tasks-k-ne0.false _ (c.each_len-each.ensures _ refl) _
+    rw c.from.ensures (turn_given _ _ _ _ _ _ _ c.requires.1 _ c.requires.0 c.if-left-eq0.false c.if-tasks-k-ne0.false _ (c.each_len-each.ensures _ refl) _
     c.part_at-own.ensures _ c.min-grant.ensures _ _ c.image_turn-ran.new.image _ long c.image_turn-ran.ensures.turned)
