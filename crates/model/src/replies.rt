@@ -1,5 +1,6 @@
 // The numbers of the replies, by name: the one place in code where they stand. Consts beside the enum: a match on a number wants them.
-ghost use Rattle.model.specs.Numbers.{NumberIs, ReplyIs};
+ghost use Rattle.std.specs.Prelude.{◌≡◌};
+ghost use Rattle.model.specs.Numbers.{NumberIs, ReplyIs, reply_of};
 
 use super::Reply;
 
@@ -165,5 +166,15 @@ impl TryFrom<u64> for Reply {
             TASKS_RULE => Ok(Reply::TasksRule),
             _ => Err(NoReply(number)),
         }
+    }
+}
+
+/// The reply of a number; of one above 33, which is no reply's, `Done`.
+pub fn reply_of(number: u64) -> Reply
+    ensures { result ≡ reply_of number }
+{
+    match Reply::try_from(number) {
+        Ok(reply) => reply,
+        Err(_) => Reply::Done,
     }
 }
