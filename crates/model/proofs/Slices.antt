@@ -1,11 +1,11 @@
 -- Laws of `part` and `written` beside each other: what a write leaves and gives back; parts of a lent slice; bytes copied one at a time, in and out.
-use Rattle.model.proofs.Logic.{suc, zero, ℕ, ◌+◌, ◌-◌, ◌<◌, ◌≤◌, append_assoc, List, [], ◌++◌, ◌∷◌, inl, inr, ◌⊎◌, ap, refl, sym, ◌∙◌, ◌≡◌}
-use Rattle.model.proofs.Logic.{arith, drop, get_or, length, length-drop, replicate, take, drop-drop, ext_get_or, get_or-drop, get_or-take, length-take-le}
-use Rattle.model.proofs.Logic.{sets-eq}
+use Rattle.model.proofs.Logic.{suc, zero, ℕ, ◌+◌, ◌-◌, ◌<◌, ◌≤◌, append_assoc, List, [], ◌++◌, ◌∷◌, inl, inr, ◌⊎◌, ap, refl, sym, ◌∙◌, ◌≡◌, add-one}
+use Rattle.model.proofs.Logic.{arith, drop, get_or, length, length-drop, replicate, set, take, drop-drop, ext_get_or, get_or-drop, get_or-take, length-take-le}
+use Rattle.model.proofs.Logic.{sets-eq, take_all, take-suc, take-suc-set}
 use Rattle.model.specs.Octa.{part, written}
 use Rattle.model.proofs.Fill.{lt_or_le}
-use Rattle.model.proofs.Octa.{part_cong, length_written, written_below, written_above, part_written, written_sets}
-use Rattle.model.proofs.Bytes.{get_d_part}
+use Rattle.model.proofs.Octa.{part_cong, length_written, written_below, written_above, part_written, written_nil, written_sets}
+use Rattle.model.proofs.Bytes.{get_d_part, written_append}
 
 -- ---- a part
 
@@ -100,3 +100,40 @@ written_lent l vs o n e h =
     ap (λ (r : List ℕ). take o l ++ (vs ++ r)) (drop-drop n o l ∙ ap (λ (k : ℕ). drop (o + k) l) (sym e))
     ∙ sym (append_assoc (take o l) vs (drop (o + length vs) l))
     ∙ sym (written_sets l o vs ∙ sets-eq vs l o (omega arith))
+
+-- ---- copied one at a time: in, at o; out, from o
+
+written_one : (l : List ℕ) (o v : ℕ) → written l o (v ∷ []) ≡ set l o v
+unfolding written
+written_one [] o v = refl
+written_one (x ∷ xs) zero v = ap (λ (r : List ℕ). v ∷ r) (written_nil xs 0)
+written_one (x ∷ xs) (suc o) v = ap (λ (r : List ℕ). x ∷ r) (written_one xs o v)
+
+pub in_none : (l : List ℕ) (o : ℕ) (vs : List ℕ) → l ≡ written l o (take 0 vs)
+in_none l o vs = sym (written_nil l o)
+
+pub in_turn : (l k vs : List ℕ) (o i : ℕ) → i < length vs → l ≡ written k o (take i vs) → set l (o + i) (get_or vs i 0) ≡ written k o (take (i + 1) vs)
+in_turn l k vs o i h e =
+    let n : length (take i vs) ≡ i = length-take-le i vs (omega arith) in
+    ap (λ (r : List ℕ). set r (o + i) (get_or vs i 0)) e
+    ∙ sym (written_one (written k o (take i vs)) (o + i) (get_or vs i 0))
+    ∙ written_append k o (take i vs) (get_or vs i 0 ∷ []) (o + i) (omega arith)
+    ∙ ap (written k o) (sym (take-suc vs i 0 h) ∙ rw (add-one i))
+
+pub in_all : (l k vs : List ℕ) (o i : ℕ) → length vs ≤ i → l ≡ written k o (take i vs) → l ≡ written k o vs
+in_all l k vs o i h e = e ∙ ap (written k o) (take_all i vs h)
+
+part_more : (l : List ℕ) (o n : ℕ) → part l o (suc n) ≡ part l o n ++ (get_or l (o + n) 0 ∷ [])
+unfolding part
+part_more l o zero = ap (λ (k : ℕ). get_or l k 0 ∷ []) (omega arith)
+part_more l o (suc n) = ap (λ (r : List ℕ). get_or l o 0 ∷ r) (part_more l (suc o) n ∙ ap (λ (k : ℕ). part l (suc o) n ++ (get_or l k 0 ∷ [])) (omega arith))
+
+pub out_none : (l k : List ℕ) (o : ℕ) → take 0 k ≡ part l o 0
+unfolding part
+out_none l k o = refl
+
+pub out_turn : (l k : List ℕ) (o i : ℕ) → i < length k → take i k ≡ part l o i → take (i + 1) (set k i (get_or l (o + i) 0)) ≡ part l o (i + 1)
+out_turn l k o i h e = rw (add-one i, part_more l o i, ← e) (take-suc-set k i (get_or l (o + i) 0) h)
+
+pub out_all : (l k : List ℕ) (o i n : ℕ) → length k ≤ i → i ≡ n → take i k ≡ part l o i → k ≡ part l o n
+out_all l k o i n h e f = sym (take_all i k h) ∙ f ∙ ap (part l o) e

@@ -22,12 +22,15 @@ const B_AT: usize = A_AT + WINDOW_MAX;
 /// Bytes of a room.
 pub(crate) const ROOM_LEN: usize = B_AT + WINDOW_MAX;
 
+// A loop, as in `copy_out`: `copy_from_slice` is a call of memmove, and the library calls nothing but memcpy and memset.
 // The bytes from `at` up become those of `from`.
 fn copy_in(to: &mut [u8], at: usize, from: &[u8])
     requires { at + length from.now ≤ length to.old }
     ensures { to.new ≡ written to.old at from.now }
 {
-    to[at..at + from.len()].copy_from_slice(from);
+    for i in 0..from.len() {
+        to[at + i] = from[i];
+    }
 }
 
 // All of `to` becomes the bytes of `from` from `at` up.
@@ -35,7 +38,9 @@ fn copy_out(from: &[u8], at: usize, to: &mut [u8])
     requires { at + length to.old ≤ length from.now }
     ensures { to.new ≡ part from.now at (length to.old) }
 {
-    to.copy_from_slice(&from[at..at + to.len()]);
+    for i in 0..to.len() {
+        to[i] = from[at + i];
+    }
 }
 
 /// Each place is filled from its front; the mask is 0 before the image comes, since an old one leaves it.

@@ -1,8 +1,14 @@
--- `copy_out` meets its contract: the part of `from` is taken whole.
-use Rattle.model.proofs.Prelude.{◌≡◌, ◌+◌, ◌-◌, ◌∙◌, arith, length, part_lent}
+use Rattle.model.proofs.Prelude.{refl, arith, out_all, out_none, out_turn}
+use Rattle.std.proofs.Common.{rules}
 use Rattle.points.proofs.room.copy_out.Goals as goal
 
+pub loop-i-init : goal.loop-i-init
+loop-i-init c = (refl, out_none c.args.from.now c.args.to.now c.args.at)
+
+pub loop-i-preserved : goal.loop-i-preserved
+loop-i-preserved c =
+    let a = c.args in
+    (search rules, out_turn a.from.now c.loop-i.to a.at c.loop-i.i (omega (arith, c.loop-i.invariant.0)) c.loop-i.invariant.1)
+
 pub returns : goal.returns
-returns c =
-    let n : c.args.at + length c.args.to.now - c.args.at ≡ length c.args.to.now = omega arith in
-    c.copy_from_slice.ensures.after ∙ rw n (part_lent c.args.from.now c.args.at (length c.args.to.now) c.requires)
+returns c = out_all _ _ _ c.loop-i.i _ (omega (arith, c.loop-i.invariant.0)) (omega (arith, c.loop-i.invariant.0)) c.loop-i.invariant.1
