@@ -1,7 +1,7 @@
 -- Laws of SAVE and UNSAVE, over plain variables: first which outcomes send PC on to @ + 4, then the whole outcome from what the stack gives, done or
 -- refused. PUSH and POP: PushPopSent.
 use Rattle.model.proofs.Prelude.{ℕ, ◌%◌, ◌+◌, ◌^◌, ◌≤◌, Bool, cond, false, true, List, ap, refl, sym, ◌∙◌, ◌≡◌, arith, eqb, ltb, eq-eqb, ne_eqb}
-use Rattle.model.proofs.Prelude.{save_context, unsave_context, unsaved, Windows, tell, made, Outcome, Plan, admissible, following, goes, halted, next, r_g, sp}
+use Rattle.model.proofs.Prelude.{save_context, unsave_context, unsaved, Windows, tell, Outcome, Plan, admissible, following, goes, halted, next, r_g, sp}
 use Rattle.model.proofs.Prelude.{Answers, context_meets, on, perform_on, Any, number_zero, refused_not_zero, perform_meets, back_to, save_sent, sent, unsave_sent}
 use Rattle.arms.proofs.Prelude.{Reply, Done, State, Gives, only_if}
 use Rattle.arms.specs.Replied.{Replied}

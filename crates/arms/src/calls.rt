@@ -1,10 +1,10 @@
 // Arms that work on the register stack's frames (control.rs: PUSHJ, PUSHGO, POP), in place: the stack moves registers and octabytes,
 // and PC is sent on where that is done. State and windows are judged before the choice of the arm.
-ghost use Rattle.model.specs.Lent.{state_lent, windows_lent, SameState, SameWindows};
+ghost use Rattle.model.specs.Lent.{state_lent, windows_lent, windows_read, SameState, SameWindows};
 ghost use Rattle.arms.specs.Replied.{Replied};
 ghost use Rattle.arms.specs.Arms.{call_to, return_of};
 
-use model::{Instruction, Reply, StateMut, WindowsMut};
+use model::{Instruction, Reply, StateMut, WindowsMut, WindowsRef};
 use stack::frame::PopFrame;
 
 /// Does not judge 2 or 22, nor 1 beyond rL ≤ rG ≤ 255: the caller has. A call of `target` with the hole that x makes.
@@ -21,13 +21,13 @@ pub fn push_to_judged(s: &mut StateMut<'_>, w: &mut WindowsMut<'_>, x: u8, targe
 }
 
 /// Does not judge 2 or 22, nor 1 beyond rL ≤ rG ≤ 255: the caller has. POP.
-pub fn pop_to_judged(s: &mut StateMut<'_>, w: &WindowsMut<'_>, i: &Instruction) -> Reply
+pub fn pop_to_judged(s: &mut StateMut<'_>, w: WindowsRef<'_>, i: &Instruction) -> Reply
     ensures same { SameState s.old s.new }
-    ensures replied { Replied (return_of (windows_lent w.now) (state_lent s.old) i.now.x i.now.y i.now.z)
-        result (state_lent s.new) (windows_lent w.now) }
+    ensures replied { Replied (return_of (windows_read w.entry) (state_lent s.old) i.now.x i.now.y i.now.z)
+        result (state_lent s.new) (windows_read w.entry) }
 {
     let yz = 256 * (i.y as u16) + i.z as u16;
-    let found = stack::frame::pop_frame_judged(s, w.read(), i.x, yz);
+    let found = stack::frame::pop_frame_judged(s, w, i.x, yz);
     match found {
         PopFrame::Frame(to) => {
             *s.pc = to;

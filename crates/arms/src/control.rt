@@ -13,25 +13,27 @@ use decode::target;
 use model::{Instruction, Reply, StateMut};
 
 /// A branch.
-pub fn branch(s: &mut StateMut<'_>, i: &Instruction) -> Reply
-    ensures same { SameState s.old s.new }
-    ensures told { Told (say 0 (branch_of (state_lent s.old) i.now.op i.now.x i.now.y i.now.z)) result (state_lent s.new) }
+pub fn branch(general: &[u64; 256], pc: &mut u64, i: &Instruction) -> Reply
+    ensures { (special : List ℕ) (halt marks mask : ℕ) → Told
+        (say 0 (branch_of (made general.now special pc.old halt marks mask) i.now.op i.now.x i.now.y i.now.z))
+        result (made general.now special pc.new halt marks mask) }
 {
-    let at = *s.pc;
-    if target::is_taken(i.op, s.general[i.x as usize]) {
-        *s.pc = target::near(at, i);
+    let at = *pc;
+    if target::is_taken(i.op, general[i.x as usize]) {
+        *pc = target::near(at, i);
         return Reply::Done;
     }
-    *s.pc = target::following(at);
+    *pc = target::following(at);
     Reply::Done
 }
 
 /// JMP and JMPB.
-pub fn jump(s: &mut StateMut<'_>, i: &Instruction) -> Reply
-    ensures same { SameState s.old s.new }
-    ensures told { Told (say 0 (jump_of (state_lent s.old) i.now.op i.now.x i.now.y i.now.z)) result (state_lent s.new) }
+pub fn jump(pc: &mut u64, i: &Instruction) -> Reply
+    ensures { (general special : List ℕ) (halt marks mask : ℕ) → Told
+        (say 0 (jump_of (made general special pc.old halt marks mask) i.now.op i.now.x i.now.y i.now.z))
+        result (made general special pc.new halt marks mask) }
 {
-    *s.pc = target::far(*s.pc, i);
+    *pc = target::far(*pc, i);
     Reply::Done
 }
 

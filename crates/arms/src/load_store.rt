@@ -1,21 +1,21 @@
 // Loads and stores, once 1, 2 and 22 have passed.
-ghost use Rattle.model.specs.Lent.{state_lent, windows_lent, SameState, SameWindows};
+ghost use Rattle.model.specs.Lent.{state_lent, windows_lent, windows_read, SameState, SameWindows};
 ghost use Rattle.arms.specs.Replied.{Replied};
 ghost use Rattle.arms.specs.Arms.{load_of, store_of};
 
 use super::control;
 use decode::{operand, target, word};
 use exceptions::Kept;
-use model::{Instruction, Reply, StateMut, WindowsMut};
+use model::{Instruction, Reply, StateMut, WindowsMut, WindowsRef};
 
 /// Integer overflow, among the flags of an exception.
 const FLAG_V: u8 = 0x40;
 
 /// LDB to LDOU: 6 comes before $X is claimed.
-pub fn load(s: &mut StateMut<'_>, w: &WindowsMut<'_>, i: &Instruction) -> Reply
+pub fn load(s: &mut StateMut<'_>, w: WindowsRef<'_>, i: &Instruction) -> Reply
     ensures same { SameState s.old s.new }
-    ensures replied { Replied (load_of (windows_lent w.now) (state_lent s.old) i.now.op i.now.x i.now.y i.now.z)
-        result (state_lent s.new) (windows_lent w.now) }
+    ensures replied { Replied (load_of (windows_read w.entry) (state_lent s.old) i.now.op i.now.x i.now.y i.now.z)
+        result (state_lent s.new) (windows_read w.entry) }
 {
     let addr = control::sum(s.general, i);
     if stack::pass::run_refusal(w.a, w.b, w.at, addr, 1) != Reply::Done {

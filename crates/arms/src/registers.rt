@@ -1,9 +1,10 @@
 // Arms that move nothing but registers (control.rs: GETA, GO; system.rs: PUT, GET, SYNC), in place. Each is the arm once 1 to 5
 // have passed, whatever the state.
-ghost use Rattle.std.specs.Prelude.{◌≡◌};
+ghost use Rattle.std.specs.Prelude.{◌≡◌, List, ℕ};
 ghost use Rattle.model.specs.NoMemory.{say};
 ghost use Rattle.model.specs.Control.{xyz_of};
 ghost use Rattle.model.specs.System.{put_special, sync_of};
+ghost use Rattle.model.specs.Parts.{made};
 ghost use Rattle.model.specs.Lent.{state_lent, SameState};
 ghost use Rattle.exceptions.specs.Told.{Told};
 ghost use Rattle.arms.specs.NoMemoryArms.{get_of};
@@ -77,19 +78,20 @@ pub fn put_value(s: &mut StateMut<'_>, x: u8, value: u64) -> Reply
 }
 
 /// SYNC.
-pub fn synchronize(s: &mut StateMut<'_>, i: &Instruction) -> Reply
-    ensures same { SameState s.old s.new }
-    ensures told { Told (sync_of (state_lent s.old) (xyz_of i.now.x i.now.y i.now.z)) result (state_lent s.new) }
+pub fn synchronize(pc: &mut u64, halt: &mut u64, i: &Instruction) -> Reply
+    ensures { (general special : List ℕ) (marks mask : ℕ) → Told
+        (sync_of (made general special pc.old halt.old marks mask) (xyz_of i.now.x i.now.y i.now.z))
+        result (made general special pc.new halt.new marks mask) }
 {
     let xyz = word::xyz_of(i);
     if LAST_SYNC < xyz {
-        *s.halt = 1;
+        *halt = 1;
         return Reply::SyncIllegal;
     }
     if FIRST_KERNEL_SYNC <= xyz {
-        *s.halt = 1;
+        *halt = 1;
         return Reply::SyncPrivileged;
     }
-    *s.pc = target::following(*s.pc);
+    *pc = target::following(*pc);
     Reply::Done
 }

@@ -32,7 +32,7 @@ fn attempt(s: &mut StateMut<'_>, w: &mut WindowsMut<'_>, tetra: u32) -> Reply
     stack::pass::counted(s.general, s.special);
     let i = Instruction::from(tetra);
     if opcode::is_among(i.op, opcode::FIRST_BRANCH, opcode::LAST_BRANCH) {
-        return control::branch(s, &i);
+        return control::branch(s.general, s.pc, &i);
     }
     if claim::is_claimed(s.special, &i) {
         return claim::claimed(s, w, i);

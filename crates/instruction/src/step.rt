@@ -22,7 +22,7 @@ fn by_range(s: &mut StateMut<'_>, w: &mut WindowsMut<'_>, i: &Instruction) -> Re
         result (state_lent s.new) (windows_lent w.new) }
 {
     if opcode::is_among(i.op, opcode::FIRST_LOAD, opcode::LAST_LOAD) {
-        return load_store::load(s, w, i);
+        return load_store::load(s, w.read(), i);
     }
     if opcode::is_among(i.op, opcode::FIRST_STORE, opcode::LAST_STORE) {
         return load_store::store(s, w, i);
@@ -48,15 +48,15 @@ fn by_key(s: &mut StateMut<'_>, w: &mut WindowsMut<'_>, i: &Instruction) -> Repl
         opcode::TRAP => exceptions::trap_arm(s, i),
         opcode::GO => control::go_by(s, i),
         opcode::GOI => control::go_by(s, i),
-        opcode::JMP => control::jump(s, i),
-        opcode::JMPB => control::jump(s, i),
+        opcode::JMP => control::jump(s.pc, i),
+        opcode::JMPB => control::jump(s.pc, i),
         opcode::GETA => registers::get_address(s, i),
         opcode::GETAB => registers::get_address(s, i),
-        opcode::POP => calls::pop_to_judged(s, w, i),
+        opcode::POP => calls::pop_to_judged(s, w.read(), i),
         opcode::SAVE => saves::save_to_judged(s, w, i.x),
-        opcode::UNSAVE => system::unsave_register(s, w, i.z),
-        opcode::SYNC => registers::synchronize(s, i),
-        opcode::SWYM => system::skip(s),
+        opcode::UNSAVE => system::unsave_register(s, w.read(), i.z),
+        opcode::SYNC => registers::synchronize(s.pc, s.halt, i),
+        opcode::SWYM => system::skip(s.pc),
         opcode::GET => registers::get_special(s, i.x, i.z),
         opcode::TRIP => exceptions::trip_arm(s, i),
         _ => by_range(s, w, i),
@@ -72,7 +72,7 @@ pub(crate) fn dispatch(s: &mut StateMut<'_>, w: &mut WindowsMut<'_>, i: &Instruc
         result (state_lent s.new) (windows_lent w.new) }
 {
     if opcode::is_among(i.op, opcode::FIRST_BRANCH, opcode::LAST_BRANCH) {
-        return control::branch(s, i);
+        return control::branch(s.general, s.pc, i);
     }
     // An arm a key here too.
     let target = match i.op {

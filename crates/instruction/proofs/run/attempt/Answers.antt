@@ -13,7 +13,7 @@ returns-then-is_among-clause-numbered c =
     let n : Sized s = record { generals = c.counted.ensures.0; specials = c.counted.ensures.1 } in
     let is : among first_branch last_branch (opcode_in t) ≡ true = rw c.from-i.ensures at (sym c.is_among.ensures ∙ c.if-is_among.true) in
     tetra_branch w s n c.requires.0 c.requires.1 t c.ranges.tetra.fits _ _ _ is
-    (done_numbered w s (opcode_in t) (x_in t) (y_in t) (z_in t) _ _ c.requires.0 c.requires.1 is (rw c.from-i.ensures at c.branch-s.ensures.told))
+    (done_numbered w s (opcode_in t) (x_in t) (y_in t) (z_in t) _ _ c.requires.0 c.requires.1 is (rw c.from-i.ensures at (c.branch-s.ensures s.special s.halt s.marks s.mask)))
 
 pub claimed-requires : goal.claimed-requires
 claimed-requires c =

@@ -1,7 +1,7 @@
 -- `by_key` meets its contract: the key that matched names the arm, and what the arm ensures is the step; no key, then a range's arm or none.
 use Rattle.model.proofs.Prelude.{ℕ, false, List, [], ◌∷◌, refl, ◌≡◌, ne_eqb, among, arm_of, control, direction_of, first_branch, get_address, go, jump}
 use Rattle.model.proofs.Prelude.{last_branch, last_of, none, op_get, op_geta, op_getab, op_go, op_goi, op_jmp, op_jmpb, op_pop, op_pushgo, op_pushgoi, op_pushj, op_pushjb}
-use Rattle.model.proofs.Prelude.{op_put, op_puti, op_save, op_swym, op_sync, op_trap, op_trip, op_unsave, pop, save, stack, swym, sync, system, trip, unsave}
+use Rattle.model.proofs.Prelude.{op_put, op_puti, op_save, op_swym, op_sync, op_trap, op_trip, op_unsave, pop, save, stack, swym, sync, system, trip, unsave, state_lent}
 use Rattle.model.proofs.Prelude.{Missed, missed}
 use Rattle.instruction.proofs.Prelude.{admissible_placed, NoCall, only_step, quiet_step, touching_step}
 use Rattle.contexts.specs.SaveUnsave.{save_in, unsave_in}
@@ -51,12 +51,12 @@ returns-in-159-clause-replied c =
 pub returns-in-240-clause-replied : goal.returns-in-240-clause-replied
 unfolding arm_of
 returns-in-240-clause-replied c =
-    quiet_step _ _ c.requires.0 c.requires.1 _ _ _ _ _ _ (control (jump (direction_of c.args.i.now.op))) (rw c.in-240.is) _ refl refl (c.jump.ensures.told)
+    quiet_step _ _ c.requires.0 c.requires.1 _ _ _ _ _ _ (control (jump (direction_of c.args.i.now.op))) (rw c.in-240.is) _ refl refl (let s = state_lent c.args.s.now in c.jump.ensures s.general s.special s.halt s.marks s.mask)
 
 pub returns-in-241-clause-replied : goal.returns-in-241-clause-replied
 unfolding arm_of
 returns-in-241-clause-replied c =
-    quiet_step _ _ c.requires.0 c.requires.1 _ _ _ _ _ _ (control (jump (direction_of c.args.i.now.op))) (rw c.in-241.is) _ refl refl (c.jump-in-241.ensures.told)
+    quiet_step _ _ c.requires.0 c.requires.1 _ _ _ _ _ _ (control (jump (direction_of c.args.i.now.op))) (rw c.in-241.is) _ refl refl (let s = state_lent c.args.s.now in c.jump-in-241.ensures s.general s.special s.halt s.marks s.mask)
 
 pub returns-in-244-clause-replied : goal.returns-in-244-clause-replied
 unfolding arm_of
@@ -71,7 +71,7 @@ returns-in-245-clause-replied c =
 pub returns-in-248-clause-replied : goal.returns-in-248-clause-replied
 unfolding arm_of
 returns-in-248-clause-replied c =
-    only_step _ _ c.requires.0 c.requires.1 _ _ _ _ _ _ (stack pop) (rw c.in-248.is) _ refl _ _ (admissible_placed _ c.requires.0) _ refl (c.pop_to_judged.ensures.replied)
+    only_step _ _ c.requires.0 c.requires.1 _ _ _ _ _ _ (stack pop) (rw c.in-248.is) _ refl _ _ (admissible_placed _ c.requires.0) _ refl (rw c.read.ensures at c.pop_to_judged.ensures.replied)
 
 pub returns-in-250-clause-replied : goal.returns-in-250-clause-replied
 unfolding arm_of save_in
@@ -81,17 +81,17 @@ returns-in-250-clause-replied c =
 pub returns-in-251-clause-replied : goal.returns-in-251-clause-replied
 unfolding arm_of unsave_in
 returns-in-251-clause-replied c =
-    touching_step _ _ c.requires.0 c.requires.1 _ _ _ _ _ _ (stack unsave) (rw c.in-251.is) _ refl _ (c.unsave_register.ensures.replied)
+    touching_step _ _ c.requires.0 c.requires.1 _ _ _ _ _ _ (stack unsave) (rw c.in-251.is) _ refl _ (rw c.read-in-251.ensures at c.unsave_register.ensures.replied)
 
 pub returns-in-252-clause-replied : goal.returns-in-252-clause-replied
 unfolding arm_of
 returns-in-252-clause-replied c =
-    quiet_step _ _ c.requires.0 c.requires.1 _ _ _ _ _ _ (system sync) (rw c.in-252.is) _ refl refl (c.synchronize.ensures.told)
+    quiet_step _ _ c.requires.0 c.requires.1 _ _ _ _ _ _ (system sync) (rw c.in-252.is) _ refl refl (let s = state_lent c.args.s.now in c.synchronize.ensures s.general s.special s.marks s.mask)
 
 pub returns-in-253-clause-replied : goal.returns-in-253-clause-replied
 unfolding arm_of
 returns-in-253-clause-replied c =
-    quiet_step _ _ c.requires.0 c.requires.1 _ _ _ _ _ _ (system swym) (rw c.in-253.is) _ refl refl (c.skip.ensures.told)
+    quiet_step _ _ c.requires.0 c.requires.1 _ _ _ _ _ _ (system swym) (rw c.in-253.is) _ refl refl (let s = state_lent c.args.s.now in c.skip.ensures s.general s.special s.halt s.marks s.mask)
 
 pub returns-in-254-clause-replied : goal.returns-in-254-clause-replied
 unfolding arm_of

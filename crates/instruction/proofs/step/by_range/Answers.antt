@@ -8,7 +8,7 @@ pub returns-then-is_among-clause-replied : goal.returns-then-is_among-clause-rep
 unfolding ranged_of
 returns-then-is_among-clause-replied c =
     let a = c.args in
-    rw (sym c.is_among.ensures ∙ c.if-is_among.true) (c.load.ensures.replied)
+    rw (sym c.is_among.ensures ∙ c.if-is_among.true) (rw c.read.ensures at c.load.ensures.replied)
 
 pub returns-then-is_among-2-clause-replied : goal.returns-then-is_among-2-clause-replied
 unfolding ranged_of

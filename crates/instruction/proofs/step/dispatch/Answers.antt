@@ -7,7 +7,7 @@ use Rattle.instruction.proofs.step.dispatch.Goals as goal
 pub returns-then-is_among-clause-replied : goal.returns-then-is_among-clause-replied
 unfolding branch_of
 returns-then-is_among-clause-replied c =
-    quiet_step _ _ c.requires.0 c.requires.1 _ _ _ _ _ _ _ (branch_arm _ (sym c.is_among.ensures ∙ c.if-is_among.true)) _ refl refl (c.branch-s.ensures.told)
+    quiet_step _ _ c.requires.0 c.requires.1 _ _ _ _ _ _ _ (branch_arm _ (sym c.is_among.ensures ∙ c.if-is_among.true)) _ refl refl (let s = state_lent c.args.s.now in c.branch-s.ensures s.special s.halt s.marks s.mask)
 
 pub by_key-requires : goal.by_key-requires
 by_key-requires c =
