@@ -61,7 +61,8 @@ fn load_parts(image: &[u8], general: &mut [u64; 256], special: &mut [u64; 32]) -
     few::load_rest(image, special)
 }
 
-// The image becomes that of a state in parts. Where an old one has no room for the mask, none is stored.
+// The image becomes that of a state in parts. Where an old one has no room for the mask, none is stored. In line, so that the rest is not copied for a call.
+#[inline(always)]
 pub(crate) fn store_parts(image: &mut [u8], general: &[u64; 256], special: &[u64; 32], rest: Rest)
     requires { is_image image.old ≡ true }
     ensures { image.new

@@ -71,7 +71,8 @@ fn put_all(general: &mut [u64; 256], special: &mut [u64; 32], pairs: &[u64])
     }
 }
 
-/// A set in place: `pairs` are numbers of special registers, each with its value behind it.
+/// A set in place: `pairs` are numbers of special registers, each with its value behind it. In line, so that the lent state need not stand on the stack.
+#[inline(always)]
 pub fn put_set(state: &mut StateMut<'_>, pairs: &[u64]) -> Result<(), Failed>
     ensures same { SameState state.old state.new }
     ensures put { PutSet (state_lent state.old) (pairs_of pairs.now) (number_in result) (place_in result)
