@@ -2,4 +2,5 @@
 mod Digits
 mod Floors
 mod Shifts
+mod Signs
 mod Sums

@@ -2,7 +2,7 @@
 use Rattle.model.proofs.Prelude.{ℕ, ◌≤◌, Bool, cond, false, true, ◌&&◌, ◌||◌, List, inl, inr, ◌⊎◌, ⊎_elim, ap, refl, sym, ◌∙◌, ◌≡◌, arith, eqb, length, eq-eqb}
 use Rattle.model.proofs.Prelude.{eqb-true, ne_eqb, image_length, old_image_length}
 use Rattle.image.proofs.Prelude.{State}
-use Rattle.image.specs.Image.{image_of, old_image_of, is_old, is_image, has_room, image_as, stored_in, Encoded}
+use Rattle.image.specs.Image.{image_of, old_image_of, state_of, is_old, is_image, has_room, image_as, stored_in, Decoded, Encoded}
 
 -- ---- the lengths
 
@@ -69,6 +69,9 @@ module _ (l : List ℕ) (e : is_image l ≡ false) where
   pub if_other : {A : Type 0} (a b : A) → b ≡ cond (is_image l) a b
   if_other a b = left_over (is_image l) a b e
 
+  pub decoded_else : (s : State) → Decoded l s 1 s
+  decoded_else s = record { reply_is = if_other _ _; state_is = if_other _ _ }
+
 module _ (l : List ℕ) (e : is_image l ≡ true) where
   pub if_image : {A : Type 0} (a b : A) → a ≡ cond (is_image l) a b
   if_image a b = chosen (is_image l) a b e
@@ -76,6 +79,9 @@ module _ (l : List ℕ) (e : is_image l ≡ true) where
   -- what is chosen of an image
   pub of_image : {A : Type 0} (x a b : A) → x ≡ cond (is_image l) a b → x ≡ a
   of_image x a b d = d ∙ sym (if_image a b)
+
+  pub decoded : (s t : State) → t ≡ state_of l → Decoded l s 0 t
+  decoded s t d = record { reply_is = if_image _ _; state_is = d ∙ if_image _ _ }
 
 -- images of one length are alike to a state
 pub as_same : (l m : List ℕ) (s : State) → length m ≡ length l → image_as l s ≡ image_as m s

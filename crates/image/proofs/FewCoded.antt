@@ -4,7 +4,7 @@ use Rattle.model.proofs.Prelude.{length, length-set, set, joined, old_image_leng
 use Rattle.model.proofs.Prelude.{length_written, written_nil, written_again}
 use Rattle.image.proofs.Prelude.{State, flat, loaded_octas, octas, stored_octas, length_flat, length_octas, loaded_fits, stored_fits}
 use Rattle.image.specs.Image.{state_of, is_image, has_room, image_as, stored_in}
-use Rattle.image.specs.Few.{left_of}
+use Rattle.image.specs.Few.{few_of, left_of}
 use Rattle.image.proofs.Codec.{image_stored}
 use Rattle.image.proofs.Coded.{at_least, stored_is, stored_not}
 use Rattle.image.proofs.RoundTrips.{get_d_octas, flat_octas}
@@ -21,6 +21,10 @@ register_loaded l vs us k e h n d =
     let m : old_image_length ≤ length l = at_least l e in
     let z : 8 * k ≡ 0 + 8 * k = omega arith in
     ap (λ (r : List ℕ). get_or r 0 0) (d ∙ loaded_fits l (8 * k) vs (omega arith) ∙ ap (octas l (8 * k)) n) ∙ one_at l (8 * k) ∙ ap (λ (i : ℕ). value_of 0 (part l i 8)) z ∙ sym (get_d_octas l 0 256 k h)
+
+pub four_loaded : (s : State) (zs : List ℕ) (x y z vx vy vz v : ℕ) → vx ≡ reg s x → vy ≡ reg s y → vz ≡ reg s z → v ≡ reg s 255
+    → set (set (set (set zs x vx) y vy) z vz) 255 v ≡ few_of s.general x y z zs
+four_loaded s zs x y z vx vy vz v ex ey ez e = λ i. set (set (set (set zs x (ex i)) y (ey i)) z (ez i)) 255 (e i)
 
 -- ---- in
 

@@ -4,6 +4,7 @@ pub mod RunTest
 pub mod RunRefused
 pub mod Octas
 pub mod BothOctas
+pub mod SlidRanges
 pub mod PutRegisters
 pub mod OctabyteRuns
 pub mod WindowRuns

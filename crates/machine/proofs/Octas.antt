@@ -79,6 +79,10 @@ module _ {M Sh : Type 0} (st : Store M Sh) where
 
 -- ---- one window, as code has it
 
+pub write_octa_law : (w : Window) (a b v : ℕ) → octa a ≡ octa b → one.put w a v ≡ one.put w b v
+unfolding one write_octa offset
+write_octa_law w a b v e = rw e
+
 -- what an octabyte inside is, byte by byte
 pub look_is : (w : Window) (a : ℕ) → look one w a ≡ value_of 0 (part w.bytes (offset w.base a) 8)
 unfolding look one octa_bytes

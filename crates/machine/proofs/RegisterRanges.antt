@@ -3,7 +3,7 @@
 use borrow.Rule.Slice.PartMut.{put_mid}
 use Rattle.std.proofs.lemmas.List.{places}
 use Rattle.model.proofs.Prelude.{min, ℕ, ◌+◌, ◌-◌, ◌<◌, ◌≤◌, List, ⊎_elim, ap, sym, ◌∙◌, ◌≡◌, arith, get_or, length, ext_get_or, over, length_over, lt_or_le}
-use Rattle.model.proofs.Prelude.{over_above, over_below, over_in}
+use Rattle.model.proofs.Prelude.{over_above, over_below, over_in, over_more, set, set_out}
 
 -- two ranges that hold the same elements of the list
 pub over_same : (f : ℕ → ℕ) (a b c : ℕ) (l : List ℕ) → ((k : ℕ) → k < length l → k < b → k < c) → ((k : ℕ) → k < length l → k < c → k < b)
@@ -17,6 +17,14 @@ over_same f a b c l up down =
     ∙ sym (⊎_elim (λ in_c. let z : k < b = down k m in_c in absurd (omega arith)) (λ past. over_above f a c l k past m) (lt_or_le k c)))
     (lt_or_le k b))
     (lt_or_le k a))
+
+-- one element more, wherever it lies
+pub over_next : (f : ℕ → ℕ) (a i : ℕ) (l : List ℕ) (v : ℕ) → a ≤ i → v ≡ f i → set (over f a i l) i v ≡ over f a (i + 1) l
+over_next f a i l v h e =
+    ⊎_elim (λ n. over_more f a i l v h n e)
+    (λ past. set_out (over f a i l) i v (omega (arith, length_over f a i l))
+    ∙ over_same f a i (i + 1) l (λ k n m. omega arith) (λ k n m. omega arith))
+    (lt_or_le i (length l))
 
 -- a range cut to the list
 pub over_cut : (f : ℕ → ℕ) (a b n : ℕ) (l : List ℕ) → length l ≤ n → over f a (min b n) l ≡ over f a b l

@@ -1,11 +1,10 @@
 -- What the exported functions come to, from what their calls leave.
-use Rattle.model.proofs.Prelude.{ℕ, ◌≤◌, false, true, List, ap, sym, ◌∙◌, ◌≡◌, arith, answer_of, Windows, Said, number_of, Outcome, run_of, Stopped}
+use Rattle.model.proofs.Prelude.{ℕ, ◌≤◌, false, true, List, ap, subst, sym, ◌∙◌, ◌≡◌, arith, answer_of, Windows, Said, number_of, Outcome, run_of, Stopped}
 use Rattle.model.proofs.Prelude.{exception_of, step_of, Any, numbered, exception_meets}
-use Rattle.mmix.proofs.Prelude.{State, image_as, is_image, state_of, stored_in, if_image, if_other, keeps_length}
+use Rattle.mmix.proofs.Prelude.{State, Encoded, image_as, is_image, state_of, stored_in, if_image, if_other, keeps_length}
 use Rattle.model.specs.declared.Reply.{Reply}
 use Rattle.model.specs.declared.Reach.{Reach}
 use Rattle.exceptions.specs.Told.{Told}
-use Rattle.instruction.specs.StepAnswer.{Numbered, RunNumbered}
 use Rattle.sets.specs.Sets.{Pair, SetOutcome, put_set_of, PutSet}
 use Rattle.mmix.specs.Entries.{Stepped, SteppedState, RanImage, RanState, Raised, RaisedState, SetImage, FieldTold}
 
@@ -91,6 +90,10 @@ module _ (l : List ℕ) (n : is_image l ≡ true) where
         place_is = g.place_is ∙ ap (λ (o : SetOutcome). o.place) d ∙ if_image l n _ _;
         image_is = again s t e q m k ∙ ap (image_as l) g.state_is ∙ ap (λ (o : SetOutcome). image_as l o.state) d ∙ if_image l n _ _;
       }
+
+-- an equal state's image is the same
+pub encoded_same : (s t : State) → s ≡ t → (l : List ℕ) (r : ℕ) (m : List ℕ) → Encoded s l r m → Encoded t l r m
+encoded_same s t e l r m g = subst (λ (u : State). Encoded u l r m) e g
 
 -- ---- a field
 

@@ -33,6 +33,13 @@ small v k h l =
     let m : 2 ^ (8 * k) ≤ 2 ^ 24 = pow_mono {j = 24} e in
     omega arith
 
+-- two halves
+pub value_halves : (l : List ℕ) (o : ℕ) → value_of 0 (part l o 4) * 4294967296 + value_of 0 (part l (o + 4) 4) ≡ value_of 0 (part l o 8)
+unfolding value_of part
+value_halves l o =
+    let e : o + 4 ≡ suc (suc (suc (suc o))) = omega arith in
+    rw e (omega arith)
+
 -- n bytes are below 256^n
 pub value_below : (l : List ℕ) (o n : ℕ) → ((i : ℕ) → get_or l i 0 < 256) → value_of 0 (part l o n) < 2 ^ (8 * n)
 value_below l o zero b = omega (arith, value_none l o)

@@ -1,6 +1,7 @@
 -- The numbers of the replies, and their tags, by which code tells the cases of a match.
-use Rattle.model.proofs.Logic.{ℕ, ◌≤◌, true, inl, inr, ◌⊎◌, ap, refl, sym, ◌∙◌, ◌≡◌, arith, eqb}
-use Rattle.model.proofs.Logic.{false, not, eqb-true}
+use Rattle.model.proofs.Logic.{ℕ, ◌<◌, ◌≤◌, cond, true, List, [], ◌∷◌, inl, inr, ◌⊎◌, ap, refl, sym, ◌∙◌, ◌≡◌, arith, eqb, leb, get_or_eq_default}
+use Rattle.model.proofs.Logic.{false, not, eqb-false, eqb-true, le-leb, tag_of, has_key, Among}
+use borrow.Enum.Refused.{not_key, opened}
 use denote.Enum.Bare.{differs_false, differs_true, sameb, same_false, same_true}
 use Rattle.std.proofs.Common.{rules}
 use Rattle.std.specs.Prelude.{Option, None, Some}
@@ -8,11 +9,13 @@ use Rattle.std.specs.Option.{is_some}
 use Rattle.model.proofs.Logic.{Bool, true≢false}
 use Rattle.model.specs.declared.Window.{Window}
 use Rattle.model.specs.declared.Window.TheVariants.{A, B}
-use Rattle.model.specs.Numbers.{Halting, number_of, number_of_holder, reply_of, RepliesNumbered}
+use Rattle.model.specs.Numbers.{Halting, number_of, number_of_holder, in_order, reply_of, RepliesNumbered}
 use Rattle.model.specs.declared.Reply.{Reply}
 use Rattle.model.specs.declared.Reply.TheVariants.{Done, NotAdmissible, WindowRule, NoArm, NamedTrap, NoSpecial, Missing, PutUnknown, PutPrivileged, PutIllegal, PutThreshold, PutStatus, Misplaced, SaveLocal, SavedThreshold, SavedStatus, SavedCount, SyncPrivileged, SyncIllegal, NotLoaded, Trapped, OutOfReach, Shared, Across, NotFetched, GrantTooLarge, StoreTooShort, NoPoint, OtherPoint, NoFrame, TooManyPairs, Hidden, Foreign, TasksRule}
 use Rattle.model.specs.contracts.Reply.{the_type}
 use Rattle.model.proofs.Bools.{each, at_each}
+use Rattle.model.proofs.Missed.{Missed, missed}
+use Rattle.model.proofs.Fill.{lt_or_le}
 
 there : (r : Reply) → reply_of (number_of r) ≡ r
 unfolding number_of reply_of
@@ -73,6 +76,40 @@ step_fetched n (inl l) e = omega arith
 step_fetched n (inr (inl f)) e = omega arith
 step_fetched n (inr (inr (inl f))) e = omega arith
 step_fetched n (inr (inr (inr f))) e = omega arith
+
+-- a reply's tag is its number
+tags : each 34 (λ n. eqb (tag_of the_type (reply_of n)) n) ≡ true
+unfolding each reply_of
+tags = refl
+
+pub tag_is : (n : ℕ) (r : Reply) → n ≤ 33 → r ≡ reply_of n → tag_of the_type r ≡ n
+tag_is n r h e = ap (tag_of the_type) e ∙ eqb-true (tag_of the_type (reply_of n)) n (at_each 34 (λ k. eqb (tag_of the_type (reply_of k)) k) tags n (omega arith))
+
+-- the tags that are not Done's
+abbrev pub refusals : List ℕ
+refusals = 1 ∷ 2 ∷ 3 ∷ 4 ∷ 5 ∷ 6 ∷ 7 ∷ 8 ∷ 9 ∷ 10 ∷ 11 ∷ 12 ∷ 13 ∷ 14 ∷ 15 ∷ 16 ∷ 17 ∷ 18 ∷ 19 ∷ 20 ∷ 21 ∷ 22 ∷ 23 ∷ 24 ∷ 25 ∷ 26 ∷ 27 ∷ 28 ∷ 29 ∷ 30 ∷ 31 ∷ 32 ∷ 33 ∷ []
+
+pub not_done : (n : ℕ) → Among refusals n → n ≡ 0 → ⊥
+not_done n h e = not_key refusals 0 tt n (opened h) e
+
+-- a number that is none of them is 0 or above 33
+keyed : each 34 (λ n. cond (leb 1 n) (has_key refusals n) true) ≡ true
+unfolding each
+keyed = refl
+
+pub reply_other : (n : ℕ) → Missed refusals n → Done ≡ reply_of n
+unfolding reply_of
+reply_other n m = go (lt_or_le n 1) (lt_or_le n 34)
+  where
+    here : 1 ≤ n → n < 34 → ⊥
+    here a b =
+        let k : cond (leb 1 n) (has_key refusals n) true ≡ true = at_each 34 (λ k. cond (leb 1 k) (has_key refusals k) true) keyed n b in
+        eqb-false n n (missed refusals n m n (rw (le-leb 1 n a) at k)) refl
+
+    go : (n < 1) ⊎ (1 ≤ n) → (n < 34) ⊎ (34 ≤ n) → Done ≡ reply_of n
+    go (inl a) b = let z : n ≡ 0 = omega arith in rw z
+    go (inr a) (inl b) = absurd (here a b)
+    go (inr a) (inr b) = sym (get_or_eq_default in_order Done b)
 
 -- a reply that is a number's: done where it is 0, and there alone
 pub number_zero : (n : ℕ) (r : Reply) → n ≤ 33 → r ≡ reply_of n → r ≡ Done → n ≡ 0

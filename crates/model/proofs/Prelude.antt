@@ -97,7 +97,7 @@ unfoldable pub use Rattle.model.proofs.ArmAnswers.{Answers}
 pub use Rattle.model.proofs.ArmReplies.{plan_replies, three_replies}
 pub use Rattle.model.proofs.Bools.{and_left, and_right, at_each, denied, eqb_swap, granted, on, on_both, or_left, or_right}
 unfoldable pub use Rattle.model.proofs.Bools.{each}
-pub use Rattle.model.proofs.Bytes.{byte_at, eight, get_d_part, grow, over_written, small, value_below, value_more, value_none}
+pub use Rattle.model.proofs.Bytes.{byte_at, eight, get_d_part, grow, over_written, small, value_below, value_halves, value_more, value_none}
 pub use Rattle.model.proofs.Bytes.{written_append}
 pub use Rattle.model.proofs.Computed.{at_pop_law, below_at, off_run_law, ranged}
 unfoldable pub use Rattle.model.proofs.Computed.{below, off_run, poppable, ranged_state}
@@ -120,7 +120,8 @@ unfoldable pub use Rattle.model.proofs.Lists.{touches_of}
 pub use Rattle.model.proofs.LoadStore.{merged_small, operand_least, operand_small, values_positive}
 pub use Rattle.model.proofs.Memory.{both_lawful, has_octa, holder_octa, inside_octa, Lawful, one_lawful}
 pub use Rattle.model.proofs.Missed.{Missed, missed}
-pub use Rattle.model.proofs.Numbers.{done_zero, is_done, is_refused, number_zero, refused_not_zero, holder_a, holder_b, holder_none, no_holder, numbered, reply_by, some_holder, told_done, told_refused, unhalting, zero_done}
+pub use Rattle.model.proofs.Numbers.{done_zero, holder_a, holder_b, holder_none, is_done, is_refused, no_holder, not_done, number_zero, numbered, refusals, refused_not_zero, reply_by, some_holder, tag_is, told_done}
+pub use Rattle.model.proofs.Numbers.{told_refused, unhalting, zero_done}
 pub use Rattle.model.proofs.Octa.{length_written, part_cong, part_written, value_bytes, written_above, written_below, written_nil}
 pub use Rattle.model.proofs.Plan.{All_both, All_left, All_map, All_of, All_right, All_zip, Always, Always_map, Always_mapped, Always_of, Kept, needs_map}
 pub use Rattle.model.proofs.Plan.{perform_always, perform_map, perform_shape, puts_more, puts_shape, Same, Sound, touches, touches_judged, touches_off}
@@ -137,7 +138,7 @@ pub use Rattle.model.proofs.SaveUnsave.{saved_global, saved_local, saved_packed,
 pub use Rattle.model.proofs.SaveUnsave.{saved_state_address, Saves, shape_same, unsave_found, unsaved_next, Unsaves, with_context, Wraps}
 pub use Rattle.model.proofs.SeenArms.{by_test}
 pub use Rattle.model.proofs.SeenStates.{admissible_same, of_seen, Seen, seen_of}
-pub use Rattle.model.proofs.Slices.{length_part, part_all, part_apart, part_inside, part_lent}
+pub use Rattle.model.proofs.Slices.{in_all, in_none, in_turn, length_part, out_all, out_none, out_turn, part_all, part_apart, part_inside, part_lent}
 pub use Rattle.model.proofs.Slices.{part_padded, part_within, written_again, written_inside, written_lent}
 pub use Rattle.model.proofs.Split.{needs_append, splits}
 pub use Rattle.model.proofs.StepAnswers.{exception_meets, perform_meets, step_meets, worst_six}

@@ -10,6 +10,7 @@ pub mod Splits
 pub mod Marks
 pub mod LineMarks
 pub mod Hex
+pub mod HexValues
 pub mod LinePoint
 pub mod Renewed
 pub mod PointLine

@@ -2,6 +2,7 @@
 use Rattle.model.proofs.Prelude.{suc, zero, ℕ, ◌+◌, ◌-◌, ◌≤◌, List, [], ◌++◌, ◌∷◌, ap, refl, sym, ◌∙◌, ◌≡◌, arith, drop, get_or}
 use Rattle.model.proofs.Prelude.{length, length-append, length-drop, length-replicate, take, drop-drop, get_or-take}
 use Rattle.model.proofs.Prelude.{length-take-le, take-take, written, written_above, written_below, written_inside, written_nil, length_written, lt_or_le, ext_get_or, get_or-drop, ⊎_elim}
+use Rattle.model.proofs.Prelude.{suc, zero, ◌<◌, ◌∷◌, suc-add, drop_of_length-le, set, drop-cons}
 use Rattle.std.specs.List.{CopiedTo, SameBelow, SameFrom}
 use Rattle.text.specs.Writing.{Wrote}
 use Rattle.point_lines.specs.Line.{zeros, padded}
@@ -9,6 +10,36 @@ use Rattle.point_lines.proofs.Held.{take_written}
 use Rattle.point_lines.proofs.Padded.{padded_none}
 
 -- ---- bytes moved up
+
+-- a byte before a text
+set_before : (l : List ℕ) (o v : ℕ) (vs : List ℕ) → set (written l (suc o) vs) o v ≡ written l o (v ∷ vs)
+unfolding written
+set_before [] o v vs = refl
+set_before (x ∷ xs) zero v vs = refl
+set_before (x ∷ xs) (suc o) v vs = ap (λ (r : List ℕ). x ∷ r) (set_before xs o v vs)
+
+pub moved_none : (l : List ℕ) (len n : ℕ) → len ≤ length l → l ≡ written l (len + n) (drop len (take len l))
+moved_none l len n h =
+    let k : length (take len l) ≤ len = omega (arith, length-take-le len l h) in
+    sym (ap (written l (len + n)) (drop_of_length-le (take len l) k) ∙ written_nil l (len + n))
+
+pub moved_more : (l held : List ℕ) (len n i : ℕ) → i < len → len ≤ length l → held ≡ written l (suc i + n) (drop (suc i) (take len l))
+    → set held (i + n) (get_or held i 0) ≡ written l (i + n) (drop i (take len l))
+moved_more l held len n i g h e =
+    let s : length (take len l) ≡ len = length-take-le len l h in
+    let v : get_or held i 0 ≡ get_or (take len l) i 0 = ap (λ (k : List ℕ). get_or k i 0) e ∙ written_below l (suc i + n) _ i (omega arith) ∙ sym (get_or-take len l i 0 g) in
+    ap (set held (i + n)) v
+    ∙ ap (λ (k : List ℕ). set k (i + n) (get_or (take len l) i 0)) (e ∙ ap (λ (k : ℕ). written l k (drop (suc i) (take len l))) (suc-add i n))
+    ∙ set_before l (i + n) (get_or (take len l) i 0) (drop (suc i) (take len l))
+    ∙ ap (written l (i + n)) (sym (drop-cons (take len l) i 0 (omega arith)))
+
+-- the same as a loop counts
+pub moved_next : (l held : List ℕ) (len n i : ℕ) → 0 < i → i ≤ len → len ≤ length l → held ≡ written l (i + n) (drop i (take len l))
+    → set held (i - 1 + n) (get_or held (i - 1) 0) ≡ written l (i - 1 + n) (drop (i - 1) (take len l))
+moved_next l held len n zero g k h e = absurd (omega arith)
+moved_next l held len n (suc i) g k h e =
+    let j : suc i - 1 ≡ i = omega arith in
+    rw j (moved_more l held len n i (omega arith) h e)
 
 -- the bytes from index at to len, copied to n further on
 pub moved : (l m : List ℕ) (len at n : ℕ) → at ≤ len → len + n ≤ length l → length m ≡ length l

@@ -2,11 +2,16 @@
 use Rattle.model.proofs.Prelude.{ℕ, ◌*◌, ◌+◌, ◌<◌, ◌^◌, ◌≤◌, Bool, cond, true, List, [], ◌++◌, ◌∷◌, refl, sym, ◌≡◌, dec_lt, mul_assoc, pow-le-pow_right, pow-succ'}
 use Rattle.model.proofs.Prelude.{arith, digits_lt, eqb, ltb, get_or, length, eqb-true, le-leb, le-ltb, lt-ltb, within, All}
 use Rattle.model.proofs.Prelude.{suc, map, take, take-suc, get_or-take, length-take, length-map, add-one, at_each, each}
+use Rattle.model.proofs.Prelude.{leb, get_or_eq_default, ltb-true, and_right, on}
 use Rattle.std.proofs.Common.{below_more}
 use Rattle.std.proofs.lemmas.List.{map-append}
 use Rattle.std.specs.Prelude.{Option, None, Some, SomeIff, is_some}
 use Rattle.text.specs.Text.{glyph}
 use Rattle.text.specs.Digits.{digit_of, number_of, value_of}
+
+within_is : (a b k : ℕ) → within a b k ≡ true → k < b
+unfolding within
+within_is a b k e = ltb-true k b (and_right (leb a k) _ e)
 
 abbrev pub Digits : List ℕ → Type 0
 Digits ds = All (λ (d : ℕ). d < 16) ds
@@ -16,6 +21,12 @@ Digits ds = All (λ (d : ℕ). d < 16) ds
 pub digit_glyph : (d : ℕ) → d < 16 → digit_of (glyph d) ≡ d
 unfolding each digit_of glyph within
 digit_glyph d l = eqb-true _ _ (at_each 16 (λ (k : ℕ). eqb (digit_of (glyph k)) k) refl d l)
+
+pub digit_most : (b : ℕ) → digit_of b ≤ 16
+unfolding digit_of
+digit_most b =
+    on (λ (d : ℕ). d ≤ 16) (within 48 58 b) (λ e. omega (arith, within_is 48 58 b e))
+    (λ e. on (λ (d : ℕ). d ≤ 16) (within 97 103 b) (λ f. omega (arith, within_is 97 103 b f)) (λ f. omega arith))
 
 -- a byte that is a digit is the glyph of that digit: computed up to 'f'
 abbrev kept : ℕ → Bool
@@ -31,6 +42,14 @@ kept_all b = go (dec_lt b 103)
 
 pub glyph_digit : (b : ℕ) → digit_of b < 16 → glyph (digit_of b) ≡ b
 glyph_digit b l = eqb-true _ _ (rw (lt-ltb (digit_of b) 16 l) at (kept_all b))
+
+digit_zero : digit_of 0 ≡ 16
+unfolding digit_of within
+digit_zero = refl
+
+-- past the end of a list stands 0, which is no digit
+pub digit_past : (l : List ℕ) (at : ℕ) → length l ≤ at → digit_of (get_or l at 0) ≡ 16
+digit_past l at h = rw (get_or_eq_default l 0 h) digit_zero
 
 -- as `digit` answers
 pub digit_some : (b : ℕ) (r : Option ℕ) → SomeIff r (digit_of b < 16) (digit_of b) → is_some r ≡ ltb (digit_of b) 16
