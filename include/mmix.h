@@ -42,10 +42,10 @@
  * Threads: a function touches only what it is handed, so threads may call any of them at the same time, each on objects of
  * its own.
  *
- * Stack, most that was measured, in bytes (docs/SPEED.md): mmix_tasks 7,656; mmix_step_lent 5,192; mmix_run 5,128; mmix_decode 4,696;
- * mmix_put_set 3,000; mmix_step 2,952; mmix_run_parts 2,776; mmix_exceptions 2,584; mmix_go_back 2,576; mmix_take 2,560; mmix_encode 2,392;
- * mmix_initialize and mmix_initialize_at 2,344; mmix_step_parts 488; mmix_context 248; mmix_put_set_parts 160; mmix_exceptions_parts 120;
- * mmix_branch_field, mmix_jump_field and mmix_version none. There is no recursion.
+ * Stack, most that was measured, in bytes (docs/SPEED.md): mmix_tasks 7,736; mmix_step_lent 5,272; mmix_run 5,128; mmix_decode 4,680;
+ * mmix_step 3,064; mmix_put_set 2,992; mmix_run_parts 2,776; mmix_exceptions 2,528; mmix_initialize_at 2,384; mmix_initialize 2,368;
+ * mmix_step_parts 600; mmix_take 480; mmix_context 248; mmix_go_back 153; mmix_put_set_parts 128; mmix_exceptions_parts 120; mmix_encode
+ * 16; mmix_branch_field, mmix_jump_field and mmix_version none. There is no recursion.
  */
 #ifndef MMIX_H
 #define MMIX_H
