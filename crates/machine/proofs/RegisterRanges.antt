@@ -1,5 +1,5 @@
--- Laws of a range of registers, `over`, at lists of any length: two ranges alike, a range cut to the list, and
--- one after another. The first ones are in model, Fill.
+-- Laws of a range of registers, `over`, at lists of any length: two ranges alike, a loop's turn, also past the end, a range cut to
+-- the list, and one after another. Those for loops that go down are in SlidRanges; the first ones in model, Fill.
 use borrow.Rule.Slice.PartMut.{put_mid}
 use Rattle.std.proofs.lemmas.List.{places}
 use Rattle.model.proofs.Prelude.{min, ℕ, ◌+◌, ◌-◌, ◌<◌, ◌≤◌, List, ⊎_elim, ap, sym, ◌∙◌, ◌≡◌, arith, get_or, length, ext_get_or, over, length_over, lt_or_le}

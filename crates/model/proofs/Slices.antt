@@ -101,24 +101,25 @@ written_lent l vs o n e h =
     ∙ sym (append_assoc (take o l) vs (drop (o + length vs) l))
     ∙ sym (written_sets l o vs ∙ sets-eq vs l o (omega arith))
 
--- ---- copied one at a time: in, at o; out, from o
+-- ---- copied one at a time: in, at o; out, from o. First one element, and the next one of a text
 
-written_one : (l : List ℕ) (o v : ℕ) → written l o (v ∷ []) ≡ set l o v
+pub written_one : (l : List ℕ) (o v : ℕ) → written l o (v ∷ []) ≡ set l o v
 unfolding written
 written_one [] o v = refl
 written_one (x ∷ xs) zero v = ap (λ (r : List ℕ). v ∷ r) (written_nil xs 0)
 written_one (x ∷ xs) (suc o) v = ap (λ (r : List ℕ). x ∷ r) (written_one xs o v)
+
+pub written_next : (l t : List ℕ) (o i : ℕ) → i < length t → written (written l o (take i t)) (o + i) (get_or t i 0 ∷ []) ≡ written l o (take (i + 1) t)
+written_next l t o i h =
+    let n : o + i ≡ o + length (take i t) = omega (arith, length-take-le i t (omega arith)) in
+    written_append l o (take i t) (get_or t i 0 ∷ []) (o + i) n ∙ ap (written l o) (sym (ap (λ (k : ℕ). take k t) (add-one i) ∙ take-suc t i 0 h))
 
 pub in_none : (l : List ℕ) (o : ℕ) (vs : List ℕ) → l ≡ written l o (take 0 vs)
 in_none l o vs = sym (written_nil l o)
 
 pub in_turn : (l k vs : List ℕ) (o i : ℕ) → i < length vs → l ≡ written k o (take i vs) → set l (o + i) (get_or vs i 0) ≡ written k o (take (i + 1) vs)
 in_turn l k vs o i h e =
-    let n : length (take i vs) ≡ i = length-take-le i vs (omega arith) in
-    ap (λ (r : List ℕ). set r (o + i) (get_or vs i 0)) e
-    ∙ sym (written_one (written k o (take i vs)) (o + i) (get_or vs i 0))
-    ∙ written_append k o (take i vs) (get_or vs i 0 ∷ []) (o + i) (omega arith)
-    ∙ ap (written k o) (sym (take-suc vs i 0 h) ∙ rw (add-one i))
+    ap (λ (r : List ℕ). set r (o + i) (get_or vs i 0)) e ∙ sym (written_one (written k o (take i vs)) (o + i) (get_or vs i 0)) ∙ written_next k vs o i h
 
 pub in_all : (l k vs : List ℕ) (o i : ℕ) → length vs ≤ i → l ≡ written k o (take i vs) → l ≡ written k o vs
 in_all l k vs o i h e = e ∙ ap (written k o) (take_all i vs h)

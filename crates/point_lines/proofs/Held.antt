@@ -1,16 +1,11 @@
 -- Laws of the line that is held: bytes that join it one by one, and what its front then is.
-use Rattle.model.proofs.Prelude.{min, suc, zero, ℕ, ◌+◌, ◌-◌, ◌<◌, ◌≤◌, List, [], ◌++◌, ◌∷◌, ap, refl, sym, ◌∙◌, ◌≡◌, dec_le, suc-add, zero-add, add-one, arith, get_or}
-use Rattle.model.proofs.Prelude.{length, take, length-take-le, take_all, take-suc, le-leb, lt-leb, written, written_append}
+use Rattle.model.proofs.Prelude.{min, suc, zero, ℕ, ◌+◌, ◌-◌, ◌<◌, ◌≤◌, List, [], ◌++◌, ◌∷◌, ap, refl, sym, ◌∙◌, ◌≡◌, dec_le, suc-add, zero-add, arith}
+use Rattle.model.proofs.Prelude.{length, take, take_all, le-leb, lt-leb, written}
 use Rattle.model.proofs.Prelude.{written_nil}
 use Rattle.point_lines.proofs.Prelude.{bad_text}
 use Rattle.point_lines.specs.Stream.{bad_most, bad_in}
 use Rattle.text.proofs.Writes.{take_written as take_front}
-
--- the next byte of a text put into a list
-pub written_next : (l t : List ℕ) (o i : ℕ) → i < length t → written (written l o (take i t)) (o + i) (get_or t i 0 ∷ []) ≡ written l o (take (i + 1) t)
-written_next l t o i h =
-    let n : o + i ≡ o + length (take i t) = omega (arith, length-take-le i t (omega arith)) in
-    written_append l o (take i t) (get_or t i 0 ∷ []) (o + i) n ∙ ap (written l o) (sym (ap (λ (k : ℕ). take k t) (add-one i) ∙ take-suc t i 0 h))
+pub use Rattle.model.proofs.Slices.{written_next}
 
 -- bytes put in as far as there is room
 written_cut : (l : List ℕ) (o : ℕ) (t : List ℕ) (n : ℕ) → length l ≤ o + n → written l o (take n t) ≡ written l o t

@@ -1,8 +1,8 @@
 -- Laws of digits 0 put into the line that is held: bytes moved up from the last one on, digits put in their place, and what stands there then.
-use Rattle.model.proofs.Prelude.{suc, zero, ℕ, ◌+◌, ◌-◌, ◌≤◌, List, [], ◌++◌, ◌∷◌, ap, refl, sym, ◌∙◌, ◌≡◌, arith, drop, get_or}
+use Rattle.model.proofs.Prelude.{suc, zero, ℕ, ◌+◌, ◌-◌, ◌<◌, ◌≤◌, List, [], ◌++◌, ◌∷◌, ap, refl, sym, ◌∙◌, ◌≡◌, arith, drop, get_or}
 use Rattle.model.proofs.Prelude.{length, length-append, length-drop, length-replicate, take, drop-drop, get_or-take}
 use Rattle.model.proofs.Prelude.{length-take-le, take-take, written, written_above, written_below, written_inside, written_nil, length_written, lt_or_le, ext_get_or, get_or-drop, ⊎_elim}
-use Rattle.model.proofs.Prelude.{suc, zero, ◌<◌, ◌∷◌, suc-add, drop_of_length-le, set, drop-cons}
+use Rattle.model.proofs.Prelude.{suc-add, drop_of_length-le, set, drop-cons}
 use Rattle.std.specs.List.{CopiedTo, SameBelow, SameFrom}
 use Rattle.text.specs.Writing.{Wrote}
 use Rattle.point_lines.specs.Line.{zeros, padded}

@@ -1,3 +1,4 @@
+-- What the contracts of a set cite, and what is claimed of one.
 pub mod Sets
 pub mod SetMeant
 pub mod Judged

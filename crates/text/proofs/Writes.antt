@@ -9,14 +9,7 @@ use Rattle.std.specs.Slice.Iter.{iter_rest, iter_steps}
 use Rattle.std.proofs.Common.{Bor, Iter}
 use Rattle.text.specs.Text.{glyph, numeral, hexadecimal, decimal, hex_mark, decimal_mark, filled, bad_line, bad_text}
 use Rattle.text.specs.Writing.{Wrote, pattern_most, put_at}
-
--- ---- a list written into
-
-pub written_one : (l : List ℕ) (o v : ℕ) → written l o (v ∷ []) ≡ set l o v
-unfolding written
-written_one [] o v = refl
-written_one (x ∷ xs) zero v = ap (λ (r : List ℕ). v ∷ r) (written_nil xs 0)
-written_one (x ∷ xs) (suc o) v = ap (λ (r : List ℕ). x ∷ r) (written_one xs o v)
+pub use Rattle.model.proofs.Slices.{written_one}
 
 -- ---- one text after another
 

@@ -1,3 +1,4 @@
+-- `run` meets its contract: a turn hands over the next text and goes on, or it was the last.
 use Rattle.point_lines_program.proofs.Prelude.{sym, arith, length-take-le}
 use Rattle.point_lines_program.proofs.Reach.{standing_start, reached_start, through, turned, reached_on, finishes_last}
 use Rattle.point_lines_program.proofs.run.Goals as goal

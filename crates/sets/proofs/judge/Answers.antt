@@ -1,3 +1,4 @@
+-- `judge` meets its contract: a pair that fails ends the judging with its place; where none does it is done.
 use Rattle.model.proofs.Prelude.{ap, refl, ◌∙◌, ◌≡◌, arith, done_zero, zero_done, told_done, told_refused}
 use Rattle.model.specs.declared.Reply.TheVariants.{Done}
 use Rattle.sets.specs.Judged.{judge_pairs}

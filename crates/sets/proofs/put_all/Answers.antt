@@ -1,3 +1,4 @@
+-- `put_all` meets its contract: none are put at first, a turn puts a pair more, and all are put in the end.
 use Rattle.model.proofs.Prelude.{ap, refl, sym, ◌∙◌, arith}
 use Rattle.sets.specs.Judged.{put_all}
 use Rattle.sets.proofs.Pairs.{pairs_next, pairs_end, put_next, put_none}

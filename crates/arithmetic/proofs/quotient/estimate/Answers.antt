@@ -1,3 +1,4 @@
+-- `estimate` meets its contract: no product wraps, each turn keeps what the loop has and makes q smaller, and q is right where it is left.
 use Rattle.model.proofs.Prelude.{suc, zero, ℕ, ◌%◌, ◌*◌, ◌+◌, ◌-◌, ◌/◌, ◌<◌, ◌^◌, ◌≤◌, subst, ◌≡◌, div-add-mod', le_of_lt, lt_of_mul-lt-mul_right}
 use Rattle.model.proofs.Prelude.{mod-lt, mul-le-mul_right, sub-one, arith, split}
 use Rattle.arithmetic.proofs.Digits.{digit_product, factor_pos}

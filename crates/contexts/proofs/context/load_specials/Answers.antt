@@ -1,3 +1,4 @@
+-- `load_specials` meets its contract: none are loaded at first, and a turn loads one more.
 use Rattle.model.proofs.Prelude.{ap, refl, ◌∙◌, arith}
 use Rattle.contexts.proofs.Prelude.{read_octa}
 use Rattle.contexts.specs.ContextWork.{loaded}

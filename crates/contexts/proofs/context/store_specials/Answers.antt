@@ -1,3 +1,4 @@
+-- `store_specials` meets its contract: none are stored at first, and a turn stores one more.
 use Rattle.model.proofs.Prelude.{ℕ, ap, refl, ◌∙◌, arith, get_or, both}
 use Rattle.contexts.proofs.Prelude.{run_more, written_lengths}
 use Rattle.machine.proofs.Octas.{run_none}

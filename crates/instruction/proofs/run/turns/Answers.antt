@@ -1,3 +1,4 @@
+-- `turns` meets its contract: a turn that is refused ends the run, and one that is done leaves the rest of it.
 use Rattle.model.proofs.Prelude.{arith, told_done, told_refused, number_of, ◌≡◌}
 use Rattle.instruction.proofs.RunTurned.{next_turn, run_refused, run_spent}
 use Rattle.instruction.proofs.run.turns.Goals as goal

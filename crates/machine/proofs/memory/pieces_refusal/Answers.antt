@@ -1,3 +1,4 @@
+-- `pieces_refusal` meets its contract: a piece that neither window holds is refused; where all are held it is done.
 use Rattle.model.proofs.Prelude.{no_holder, number_of, some_holder, refl, sym, ◌≡◌, arith, worst}
 use Rattle.machine.proofs.RunRefused.{lacks, enough, passes}
 use Rattle.machine.proofs.memory.pieces_refusal.Goals as goal

@@ -1,3 +1,4 @@
+-- `load_all` meets its contract: a turn loads one more.
 use Rattle.model.proofs.Prelude.{arith, length-set}
 use Rattle.machine.proofs.OctabyteRuns.{octas_turn}
 use Rattle.machine.proofs.octabytes.load_all.Goals as goal

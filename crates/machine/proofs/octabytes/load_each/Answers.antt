@@ -1,3 +1,4 @@
+-- `load_each` meets its contract: none are loaded at first, and a turn loads one more.
 use Rattle.model.proofs.Prelude.{refl, arith, length-set}
 use Rattle.machine.proofs.OctabyteRuns.{octas_none, octas_turn}
 use Rattle.machine.proofs.octabytes.load_each.Goals as goal

@@ -1,3 +1,4 @@
+-- `load_fours` meets its contract: none are loaded at first, a turn loads four more, and all are loaded in the end.
 use Rattle.model.proofs.Prelude.{refl, arith, length-set}
 use Rattle.machine.proofs.OctabyteRuns.{octas_none, octas_four}
 use Rattle.machine.proofs.octabytes.load_fours.Goals as goal

@@ -1,3 +1,4 @@
+-- `store` meets its contract: no byte is written at first, a turn writes one more, and all eight stand in the end.
 use Rattle.model.proofs.Prelude.{ℕ, ◌+◌, ◌-◌, List, ap, refl, sym, ◌∙◌, ◌≡◌, arith, get_or, length-set, set, over, bytes_of, eight, over_written}
 use Rattle.model.proofs.Prelude.{over_more, over_none}
 use Rattle.machine.proofs.OctabyteRuns.{bytes_are}

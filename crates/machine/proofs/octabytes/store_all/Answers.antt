@@ -1,3 +1,4 @@
+-- `store_all` meets its contract: a turn stores one more.
 use Rattle.model.proofs.Prelude.{◌∙◌}
 use Rattle.machine.proofs.OctabyteRuns.{flat_turn}
 use Rattle.std.proofs.Common.{rules}

@@ -1,3 +1,4 @@
+-- `store_each` meets its contract: none are stored at first, and a turn stores one more.
 use Rattle.model.proofs.Prelude.{refl, ◌∙◌}
 use Rattle.machine.proofs.OctabyteRuns.{flat_none, flat_turn}
 use Rattle.std.proofs.Common.{rules}

@@ -1,3 +1,4 @@
+-- `store_fours` meets its contract: none are stored at first, a turn stores four more, and all are stored in the end.
 use Rattle.model.proofs.Prelude.{refl, arith}
 use Rattle.machine.proofs.OctabyteRuns.{flat_none, flat_four}
 use Rattle.std.proofs.Common.{rules}

@@ -1,3 +1,4 @@
+-- `load_pieces` meets its contract: none are loaded at first, a turn loads a piece more, and all are loaded in the end.
 use Rattle.model.proofs.Prelude.{ℕ, ◌%◌, ◌*◌, ◌+◌, ◌-◌, ◌^◌, ap, sym, ◌∙◌, ◌≡◌, arith, over, lent, over_end, over_none}
 use Rattle.machine.specs.Octas.{read_octa}
 use Rattle.machine.proofs.BothOctas.{alike_at}

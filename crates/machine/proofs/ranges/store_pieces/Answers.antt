@@ -1,3 +1,4 @@
+-- `store_pieces` meets its contract: none are written at first, a turn writes a piece more, and all are written in the end.
 use Rattle.model.proofs.Prelude.{ℕ, ◌%◌, ◌*◌, ◌+◌, ◌-◌, ◌^◌, ap, refl, ◌∙◌, ◌≡◌, arith, get_or, both, lent}
 use Rattle.machine.specs.Octas.{written_run, written_range_by}
 use Rattle.machine.proofs.Octas.{run_none}

@@ -1,3 +1,4 @@
+-- `past` meets its contract: a byte that is missing or does not fit ends it with none; in the end the rest is what follows the part.
 use Rattle.model.proofs.Prelude.{sym, ◌∙◌}
 use Rattle.point_lines.proofs.Forms.{along_on, along_other, along_missing, along_end}
 use Rattle.point_lines.proofs.line.past.Goals as goal

@@ -1,3 +1,4 @@
+-- `copy_in` meets its contract: none are copied at first, a turn copies one more, and all are copied in the end.
 use Rattle.model.proofs.Prelude.{refl, arith, in_all, in_none, in_turn}
 use Rattle.std.proofs.Common.{rules}
 use Rattle.points.proofs.room.copy_in.Goals as goal

@@ -1,3 +1,4 @@
+-- `copy_out` meets its contract: none are copied at first, a turn copies one more, and all are copied in the end.
 use Rattle.model.proofs.Prelude.{refl, arith, out_all, out_none, out_turn}
 use Rattle.std.proofs.Common.{rules}
 use Rattle.points.proofs.room.copy_out.Goals as goal

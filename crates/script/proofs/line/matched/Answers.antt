@@ -1,3 +1,4 @@
+-- `matched` meets its contract: a number or a byte that is missing ends it with none; in the end the numbers are all, where nothing is left of the line.
 use Rattle.model.proofs.Prelude.{sym, ◌∙◌, eqb-true, eqb-false}
 use Rattle.script.proofs.Turns.{mark_room, along_number, number_none, along_byte, byte_other, byte_missing, end_met, end_missing}
 use Rattle.script.proofs.line.matched.Goals as goal

@@ -1,3 +1,4 @@
+-- `count_asks` meets its contract: the count's octabyte is another's, or is missing, or is above rG; else the whole context tells.
 use Rattle.model.proofs.Prelude.{no_holder, some_holder}
 -- `count_asks` meets its contract: the local count, and then the rest.
 use Rattle.task_run.proofs.AsksUnsave.{count_foreign, count_missing, count_excess, count_rest}

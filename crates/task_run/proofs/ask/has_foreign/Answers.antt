@@ -1,3 +1,4 @@
+-- `has_foreign` meets its contract: an octabyte that is another's tells; where none is, there is none.
 use Rattle.model.proofs.Prelude.{sym, ◌∙◌, arith}
 use Rattle.task_run.proofs.Asks.{scan_none, scan_end, scan_found, scan_next}
 use Rattle.task_run.proofs.ask.has_foreign.Goals as goal

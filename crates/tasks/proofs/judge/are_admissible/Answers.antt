@@ -1,3 +1,4 @@
+-- `are_admissible` meets its contract: an image of no admissible state tells; where there is none, all are of one.
 use Rattle.model.proofs.Prelude.{not}
 use Rattle.model.proofs.Prelude.{ap}
 use Rattle.model.proofs.Prelude.{refl, arith}

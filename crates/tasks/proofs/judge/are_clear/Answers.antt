@@ -1,3 +1,4 @@
+-- `are_clear` meets its contract: a part that overlaps an earlier one tells; where none does, all are clear.
 use Rattle.model.proofs.Prelude.{not}
 use Rattle.model.proofs.Prelude.{ap}
 use Rattle.model.proofs.Prelude.{sym, arith, denied, granted}

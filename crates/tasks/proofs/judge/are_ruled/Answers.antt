@@ -1,3 +1,4 @@
+-- `are_ruled` meets its contract: a part that breaks its rule tells; where none does, all obey it.
 use Rattle.model.proofs.Prelude.{not}
 use Rattle.model.proofs.Prelude.{ap}
 use Rattle.model.proofs.Prelude.{arith}

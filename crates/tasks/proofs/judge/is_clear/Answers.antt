@@ -1,3 +1,4 @@
+-- `is_clear` meets its contract: an earlier part that overlaps it tells; where none does, it is clear.
 use Rattle.model.proofs.Prelude.{arith}
 use Rattle.tasks.proofs.Judged.{below_none, clear_fails, clear_more, clear_all}
 use Rattle.tasks.proofs.judge.is_clear.Goals as goal

@@ -1,3 +1,4 @@
+-- `round` meets its contract: no turn is given at first, one more each time, and all are given in the end.
 use Rattle.model.proofs.Prelude.{refl, arith}
 use Rattle.tasks.proofs.Played.{turns_start, turns_more, turns_all}
 use Rattle.tasks.proofs.Lent.{tasks_on, windows_on}

@@ -1,3 +1,4 @@
+-- `rounds` meets its contract: where nothing is left, or none runs, further rounds change nothing; else one more is given.
 use Rattle.model.proofs.Prelude.{not, ap, refl, arith}
 use Rattle.tasks.proofs.Played.{rounds_start, rounds_more, ends_spent, ends_none, ends_full}
 use Rattle.tasks.proofs.Lent.{tasks_on, windows_on}

@@ -1,3 +1,4 @@
+-- `number` meets its contract: a byte that is no digit ends it with none; else the number is that of one digit more.
 use Rattle.std.proofs.Common.{below_more, take_all}
 use Rattle.std.proofs.lemmas.List.Elements.{All-from_get_or}
 use Rattle.model.proofs.Prelude.{ℕ, ◌<◌, ◌∙◌, ap, refl, arith}

@@ -1,3 +1,4 @@
+-- `fill` meets its contract: a mark puts the next field, any other byte itself, and in the end the whole is put.
 use Rattle.model.proofs.Prelude.{arith}
 use Rattle.text.proofs.Writes.{leads_on, leads_end, filled_hex, filled_decimal, filled_plain, filled_past, field_is, fields_left, length_numeral}
 use Rattle.text.proofs.write.fill.Goals as goal
